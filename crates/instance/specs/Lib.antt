@@ -1,0 +1,6 @@
+pub mod Limits
+pub mod Refusals
+pub mod Node
+pub mod Text
+pub mod SiteFile
+pub mod Outcomes

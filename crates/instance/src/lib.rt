@@ -1,0 +1,12 @@
+// What a site's file says: from text to words, from words to an instance, and every refusal that these papers number.
+mod node;
+mod refusal;
+
+pub use node::Instance;
+pub use node::Level;
+pub use node::Task;
+pub use node::Weights;
+pub use refusal::InstanceRead;
+pub use refusal::Refusal;
+pub use refusal::TextRead;
+pub use refusal::Verdict;

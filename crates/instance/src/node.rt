@@ -1,0 +1,30 @@
+// The node and its tasks, as an instance holds them.
+
+// A clock level: cycles run in a tick, and power drawn in a busy tick.
+pub struct Level {
+    pub speed: u32,
+    pub power: u32,
+}
+
+// A task: its period in ticks, the cycles of a job, and the penalty for each job not run.
+pub struct Task {
+    pub period: u32,
+    pub cycles: u32,
+    pub penalty: u32,
+}
+
+pub struct Weights {
+    pub energy: u32,
+    pub penalty: u32,
+}
+
+// An accepted instance. Only the first `levelcount` levels and `taskcount` tasks are its own; the others are all zero.
+pub struct Instance {
+    pub weights: Weights,
+    pub cores: u32,
+    pub levelcount: usize,
+    pub levels: [Level; 8],
+    pub taskcount: usize,
+    pub tasks: [Task; 12],
+    pub span: u32,
+}

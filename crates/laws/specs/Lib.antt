@@ -1,0 +1,4 @@
+pub mod Lists
+pub mod Search
+pub mod Sums
+pub mod Multiples

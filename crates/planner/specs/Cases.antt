@@ -1,0 +1,150 @@
+-- The paper's section 'K1 to K13, to be proved': one table of cases, and one statement about the definitions.
+use Prim.Native.Nat.{ℕ}
+use mathlib.Core.Path.{_≡_, refl}
+use mathlib.Core.List.{List, [], _∷_, _++_, map}
+use lib.ListN.{replicate}
+use Rattle.instance.specs.Limits.{mayNotBeRefused}
+use Rattle.instance.specs.Node.{Problem, taskCount, span, spanFrom}
+use Rattle.instance.specs.Refusals.{Reading, refused, accepted, numberOf, placeOf, room}
+use Rattle.instance.specs.SiteFile.{problemOf, siteFile, settings, levels, tasks, period, isPenalty, between, word, end}
+use Rattle.instance.specs.Text.{wordsOf, numbers, firstFault, faulty, begins, isDigit, isBlank, valueAfter}
+use Rattle.instance.specs.declared.refusal.Refusal.{Refusal}
+use Rattle.laws.specs.Lists.{listOf, joined, onto}
+use Rattle.laws.specs.Multiples.{lcm}
+use Rattle.laws.specs.Search.{first}
+use Rattle.laws.specs.Sums.{sum}
+use Rattle.schedule.specs.Plans.{isMust, badChoice, choicesPass, fits, coresFit, planPasses}
+use Rattle.schedule.specs.Quantities.{keeps, ticks, jobTicks, ticksOn, jobs, loadOn, coreLoad, coreEnergy, energy, penalty, cost, priceOf}
+use Rattle.schedule.specs.Rows.{dueAt, afterRelease, earliest, chosen, afterRun, step, dispatched, row}
+use Rattle.schedule.specs.Tables.{coreTasks, tableSize, tableOf}
+use Rattle.schedule.specs.declared.price.Price.{Price}
+use Rattle.schedule.specs.declared.price.Priced.{Priced}
+use Rattle.schedule.specs.declared.price.Priced.the-variants as Priced
+use Rattle.planner.specs.Outcomes.{PlanOutcome, planOutcome}
+use Rattle.planner.specs.Planning.{choiceLists, isAllowed, better, firstCheapest, bestPlan}
+
+-- what the paper says of an instance in one case
+pub data Claim : Type 0 where
+  -- the choices and their cost
+  plan : List ℕ → ℕ → Claim
+  -- energy, penalty and cost
+  price : ℕ → ℕ → ℕ → Claim
+  table : List ℕ → Claim
+  spanIs : ℕ → Claim
+  -- a refusal's number and its place
+  refusal : ℕ → ℕ → Claim
+  -- a text, and its words
+  text : List ℕ → List ℕ → Claim
+
+abbrev refusalOf : Refusal → Claim
+refusalOf r = refusal (numberOf r) (placeOf r)
+
+-- the claim of the same form that holds of an outcome
+abbrev ofOutcome : Priced → (Price → Claim) → Claim
+ofOutcome (Priced.Cost amounts) form = form amounts
+ofOutcome (Priced.Refused r) form = refusalOf r
+
+abbrev ofText : List ℕ → Reading (List ℕ) → Claim
+ofText bytes (refused r) = refusalOf r
+ofText bytes (accepted words) = text bytes words
+
+abbrev ofInstance : Reading Problem → (Problem → Claim) → Claim
+ofInstance (refused r) form = refusalOf r
+ofInstance (accepted p) form = form p
+
+-- planned into buffers that are just long enough
+abbrev outcomeOf : List ℕ → Problem → PlanOutcome
+outcomeOf words p = planOutcome words (replicate (taskCount p) 0) (replicate (tableSize p) 0)
+
+-- the claim of the same form that the definitions make of these words
+abbrev pub defined : List ℕ → Claim → Claim
+defined words (plan choices total) =
+    ofInstance (problemOf words) (λ p. let o = outcomeOf words p in ofOutcome (o .answer) (λ a. plan (o .plan) (a .cost)))
+defined words (price e f total) =
+    ofInstance (problemOf words) (λ p. ofOutcome (outcomeOf words p .answer) (λ a. price (a .energy) (a .penalty) (a .cost)))
+defined words (table slots) =
+    ofInstance (problemOf words) (λ p. let o = outcomeOf words p in ofOutcome (o .answer) (λ a. table (o .table)))
+defined words (spanIs n) = ofInstance (problemOf words) (λ p. spanIs (span p))
+defined words (refusal number place) =
+    ofInstance (problemOf words) (λ p. ofOutcome (outcomeOf words p .answer) (λ a. plan [] (a .cost)))
+defined words (text bytes ws) = ofText bytes (wordsOf bytes)
+
+pub record Case : Type 0 where
+  pub words : List ℕ
+  pub claim : Claim
+
+abbrev case : List ℕ → Claim → Case
+case ws c = record { words = ws; claim = c }
+
+-- "Levels as in K2 (the five XScale speeds and powers of document 000), weights 1 and 1, one core, unless said."
+abbrev xscale : List ℕ
+xscale = 5 ∷ 150 ∷ 80 ∷ 400 ∷ 170 ∷ 600 ∷ 400 ∷ 800 ∷ 900 ∷ 1000 ∷ 1600 ∷ []
+
+abbrev site : ℕ → ℕ → ℕ → List ℕ → List ℕ
+site energyWeight penaltyWeight cores taskWords =
+    (3 ∷ energyWeight ∷ penaltyWeight ∷ cores ∷ []) ++ xscale ++ taskWords
+
+abbrev usual : List ℕ → List ℕ
+usual taskWords = site 1 1 1 taskWords
+
+abbrev must : ℕ
+must = mayNotBeRefused
+
+abbrev k1-tasks : List ℕ
+k1-tasks = 2 ∷ 10 ∷ 2400 ∷ 5000 ∷ 20 ∷ 6000 ∷ 3000 ∷ []
+
+abbrev k2 : List ℕ
+k2 = usual (2 ∷ 10 ∷ 2400 ∷ 5000 ∷ 20 ∷ 6000 ∷ must ∷ [])
+
+-- "3 1 1 1", "5 150 80 400 170 600 400 800 900 1000 1600", "2 10 2400 5000 20 6000 4294967295", a line feed after each
+abbrev k2-text : List ℕ
+k2-text =
+    51 ∷ 32 ∷ 49 ∷ 32 ∷ 49 ∷ 32 ∷ 49 ∷ 10 ∷
+    53 ∷ 32 ∷ 49 ∷ 53 ∷ 48 ∷ 32 ∷ 56 ∷ 48 ∷ 32 ∷ 52 ∷ 48 ∷ 48 ∷ 32 ∷ 49 ∷ 55 ∷ 48 ∷ 32 ∷ 54 ∷ 48 ∷ 48 ∷ 32 ∷ 52 ∷ 48 ∷ 48 ∷
+    32 ∷ 56 ∷ 48 ∷ 48 ∷ 32 ∷ 57 ∷ 48 ∷ 48 ∷ 32 ∷ 49 ∷ 48 ∷ 48 ∷ 48 ∷ 32 ∷ 49 ∷ 54 ∷ 48 ∷ 48 ∷ 10 ∷
+    50 ∷ 32 ∷ 49 ∷ 48 ∷ 32 ∷ 50 ∷ 52 ∷ 48 ∷ 48 ∷ 32 ∷ 53 ∷ 48 ∷ 48 ∷ 48 ∷ 32 ∷ 50 ∷ 48 ∷ 32 ∷ 54 ∷ 48 ∷ 48 ∷ 48 ∷ 32 ∷
+    52 ∷ 50 ∷ 57 ∷ 52 ∷ 57 ∷ 54 ∷ 55 ∷ 50 ∷ 57 ∷ 53 ∷ 10 ∷ []
+
+abbrev pub cases : List Case
+cases =
+    -- K1: K2 with 3,000 as task 2's penalty: choices 2, 0; cost 5,040
+    case (usual k1-tasks) (plan (2 ∷ 0 ∷ []) 5040) ∷
+    -- K2: its text, choices 3, 3, the listing's bill and row
+    case k2 (text k2-text k2) ∷
+    case k2 (plan (3 ∷ 3 ∷ []) 7200) ∷
+    case k2 (price 7200 0 7200) ∷
+    case k2 (spanIs 20) ∷
+    case k2 (table (1 ∷ 1 ∷ 1 ∷ 1 ∷ 2 ∷ 2 ∷ 2 ∷ 2 ∷ 2 ∷ 2 ∷ 1 ∷ 1 ∷ 1 ∷ 1 ∷ 2 ∷ 2 ∷ 2 ∷ 2 ∷ 0 ∷ 0 ∷ [])) ∷
+    -- K3: K1 on two cores: choices 2, 7; cost 4,590
+    case (site 1 1 2 k1-tasks) (plan (2 ∷ 7 ∷ []) 4590) ∷
+    -- K4: one task, period 10, cycles 2,400, penalty 1,020: choice 0, cost 1,020
+    case (usual (1 ∷ 10 ∷ 2400 ∷ 1020 ∷ [])) (plan (0 ∷ []) 1020) ∷
+    -- K5: the same, penalty 1,021: choice 2, cost 1,020
+    case (usual (1 ∷ 10 ∷ 2400 ∷ 1021 ∷ [])) (plan (2 ∷ []) 1020) ∷
+    -- K6: no task, two cores: span 1, cost 0, table 0 0
+    case (site 1 1 2 (0 ∷ [])) (spanIs 1) ∷
+    case (site 1 1 2 (0 ∷ [])) (plan [] 0) ∷
+    case (site 1 1 2 (0 ∷ [])) (table (0 ∷ 0 ∷ [])) ∷
+    -- K7: one must task, period 10, cycles 10,000: choice 5, cost 16,000
+    case (usual (1 ∷ 10 ∷ 10000 ∷ must ∷ [])) (plan (5 ∷ []) 16000) ∷
+    -- K8: cycles 10,001: refusal 5, place 0
+    case (usual (1 ∷ 10 ∷ 10001 ∷ must ∷ [])) (refusal 5 0) ∷
+    -- K9: two must tasks, period 2, cycles 1,000: choices 5, 5; cost 3,200; row 1 2
+    case (usual (2 ∷ 2 ∷ 1000 ∷ must ∷ 2 ∷ 1000 ∷ must ∷ [])) (plan (5 ∷ 5 ∷ []) 3200) ∷
+    case (usual (2 ∷ 2 ∷ 1000 ∷ must ∷ 2 ∷ 1000 ∷ must ∷ [])) (table (1 ∷ 2 ∷ [])) ∷
+    -- K10: K9 with 1,001 cycles for the second: refusal 5
+    case (usual (2 ∷ 2 ∷ 1000 ∷ must ∷ 2 ∷ 1001 ∷ must ∷ [])) (refusal 5 0) ∷
+    -- K11: one level (1, 1), periods 4,095 and 2: refusal 4, place 11
+    case (3 ∷ 1 ∷ 1 ∷ 1 ∷ 1 ∷ 1 ∷ 1 ∷ 2 ∷ 4095 ∷ 1 ∷ 1 ∷ 2 ∷ 1 ∷ 1 ∷ []) (refusal 4 11) ∷
+    -- K12: periods 64 and 4,096: span 4,096
+    case (usual (2 ∷ 64 ∷ 1 ∷ 1 ∷ 4096 ∷ 1 ∷ 1 ∷ [])) (spanIs 4096) ∷
+    -- K13: K1 with weights 2 and 8: choices 3, 3; cost 14,400
+    case (site 2 8 1 k1-tasks) (plan (3 ∷ 3 ∷ []) 14400) ∷
+    []
+
+pub K1-to-K13 : map (λ c. defined (c .words) (c .claim)) cases ≡ map (λ c. c .claim) cases
+unfolding wordsOf numbers firstFault faulty begins isDigit isBlank valueAfter problemOf siteFile settings levels tasks period
+    isPenalty between word end span spanFrom lcm first listOf joined onto sum room isMust badChoice choicesPass fits coresFit planPasses
+    keeps ticks jobTicks ticksOn jobs loadOn coreLoad coreEnergy energy penalty cost priceOf dueAt afterRelease earliest chosen afterRun
+    step dispatched row coreTasks tableOf planOutcome choiceLists isAllowed better firstCheapest bestPlan
+K1-to-K13 = refl

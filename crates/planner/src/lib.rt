@@ -1,0 +1,1 @@
+// Planning: of all plans that an instance allows, the one of least cost, with its table.

@@ -1,0 +1,5 @@
+// What a plan costs, the slot table that it gives, and the check of a table.
+mod price;
+
+pub use price::Price;
+pub use price::Priced;
