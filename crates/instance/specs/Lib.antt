@@ -4,3 +4,5 @@ pub mod Node
 pub mod Text
 pub mod SiteFile
 pub mod Outcomes
+pub mod Valid
+pub mod SpanLaws

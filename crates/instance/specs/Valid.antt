@@ -1,0 +1,58 @@
+-- The paper's section 'Site file' as what holds of an instance, and the words that the instance is written in. Nothing
+-- here reads: that what is read is valid, and that whatever is valid is read, are laws.
+use Prim.Native.Nat.{ℕ, suc, _≤_, _<_}
+use mathlib.Core.Path.{_≡_}
+use mathlib.Core.Logic.{_⊎_}
+use mathlib.Core.List.{List, [], _∷_, _++_}
+use Rattle.instance.specs.Limits
+use Rattle.instance.specs.Node.{Problem, levelCount, taskCount, levelAt, taskAt, span}
+use Rattle.instance.specs.declared.node.Level.{Level}
+use Rattle.instance.specs.declared.node.Task.{Task}
+
+pub record InRange (low high w : ℕ) : Type 0 where
+  pub at-least : low ≤ w
+  pub at-most : w ≤ high
+
+-- "speed 1 to 65,535, then power 1 to 65,535"
+pub record ValidLevel (l : Level) : Type 0 where
+  pub speed : InRange 1 Limits.mostSpeed (l .speed)
+  pub power : InRange 1 Limits.mostPower (l .power)
+
+-- "period 1 to 4,096; cycles 1 to 100,000,000; penalty 1 to 1,000,000, or 4,294,967,295 for a task that may not be
+-- refused"
+pub record ValidTask (t : Task) : Type 0 where
+  pub period : InRange 1 Limits.mostPeriod (t .period)
+  pub cycles : InRange 1 Limits.mostCycles (t .cycles)
+  pub penalty : InRange 1 Limits.mostPenalty (t .penalty) ⊎ (t .penalty ≡ Limits.mayNotBeRefused)
+
+pub record Valid (p : Problem) : Type 0 where
+  -- "energy weight 1 to 1,000; penalty weight 1 to 1,000; M 1 to 4"
+  pub energy-weight : InRange 1 Limits.mostWeight (p .weights .energy)
+  pub penalty-weight : InRange 1 Limits.mostWeight (p .weights .penalty)
+  pub cores : InRange 1 Limits.mostCores (p .cores)
+  -- "levels | 1 to 8"
+  pub level-count : InRange 1 Limits.mostLevels (levelCount p)
+  pub level : (l : ℕ) → l < levelCount p → ValidLevel (levelAt p l)
+  -- "both rise strictly from level to level"
+  pub speed-rises : (l : ℕ) → suc l < levelCount p → levelAt p l .speed < levelAt p (suc l) .speed
+  pub power-rises : (l : ℕ) → suc l < levelCount p → levelAt p l .power < levelAt p (suc l) .power
+  -- "tasks | 0 to 12"
+  pub task-count : taskCount p ≤ Limits.mostTasks
+  pub task : (i : ℕ) → i < taskCount p → ValidTask (taskAt p i)
+  -- "Span L: .. at most 4,096"
+  pub span-at-most : span p ≤ Limits.mostSpan
+
+unfoldable pub wordsOfLevels : List Level → List ℕ
+wordsOfLevels [] = []
+wordsOfLevels (l ∷ ls) = l .speed ∷ l .power ∷ wordsOfLevels ls
+
+unfoldable pub wordsOfTasks : List Task → List ℕ
+wordsOfTasks [] = []
+wordsOfTasks (t ∷ ts) = t .period ∷ t .cycles ∷ t .penalty ∷ wordsOfTasks ts
+
+-- "Its sections stand in a fixed order, each after its count."
+unfoldable pub wordsOfProblem : Problem → List ℕ
+wordsOfProblem p =
+    Limits.settingsCount ∷ p .weights .energy ∷ p .weights .penalty ∷ p .cores ∷ []
+    ++ levelCount p ∷ wordsOfLevels (p .levels)
+    ++ taskCount p ∷ wordsOfTasks (p .tasks)
