@@ -6,3 +6,4 @@ pub mod SiteFile
 pub mod Outcomes
 pub mod Valid
 pub mod SpanLaws
+pub mod Held
