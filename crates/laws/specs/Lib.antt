@@ -1,6 +1,9 @@
+pub mod Truth
 pub mod Lists
+pub mod JoinedLaws
 pub mod Search
 pub mod FirstLaws
+pub mod SearchFacts
 pub mod Sums
 pub mod Multiples
 pub mod PaddedLaws

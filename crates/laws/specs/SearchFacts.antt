@@ -1,0 +1,64 @@
+-- What `every`, `first` and `count` tell of each number below n, and the other way.
+use Prim.Native.Nat.{ℕ, zero, suc, _≤_, _<_}
+use mathlib.Core.Bool.{Bool, true, false, cond}
+use mathlib.Core.Logic.{_↔_, ⊎-elim}
+use mathlib.Core.Path.{_≡_, refl, sym, subst}
+use native.Mathlib.Nat.{eq-or-lt-of-le, le-of-suc-le-suc, not-suc-le-zero, le-refl, le-of-eq}
+use native.Mathlib.Omega.{arith}
+use lib.Dec.{ltb}
+use borrow.Author.Tests.{ltb-true, ltb-false, le-ltb}
+use Rattle.laws.specs.Search.{first, every, count}
+use Rattle.laws.specs.Truth.{and-is-true}
+
+-- what holds below n and at n holds below suc n
+up-to-suc : (P : ℕ → Type 0) (n : ℕ) → ((k : ℕ) → k < n → P k) → P n → (k : ℕ) → k < suc n → P k
+up-to-suc P n below here k h =
+    ⊎-elim (λ e. subst P (sym e) here) (λ l. below k l) (eq-or-lt-of-le (le-of-suc-le-suc h))
+
+every-to-below : (f : ℕ → Bool) (n : ℕ) → every f n ≡ true → (k : ℕ) → k < n → f k ≡ true
+unfolding every
+every-to-below f zero e k h = absurd (not-suc-le-zero h)
+every-to-below f (suc n) e k h =
+    let both = and-is-true (every f n) (f n) .0 e in
+    up-to-suc (λ m. f m ≡ true) n (every-to-below f n (both .0)) (both .1) k h
+
+below-to-every : (f : ℕ → Bool) (n : ℕ) → ((k : ℕ) → k < n → f k ≡ true) → every f n ≡ true
+unfolding every
+below-to-every f zero all = refl
+below-to-every f (suc n) all =
+    rw (below-to-every f n (λ k h. all k (omega arith)), all n (le-refl (suc n)))
+
+pub every-iff : (f : ℕ → Bool) (n : ℕ) → (every f n ≡ true) ↔ ((k : ℕ) → k < n → f k ≡ true)
+every-iff f n = (every-to-below f n, below-to-every f n)
+
+-- the search came to the end: none passed
+pub first-at-end : (f : ℕ → Bool) (n : ℕ) → n ≤ first f n → (k : ℕ) → k < n → f k ≡ false
+unfolding first
+first-at-end f zero e k h = absurd (not-suc-le-zero h)
+first-at-end f (suc n) e k h = go (ltb (first f n) n) refl (f n) refl (first-at-end f n) e
+  where
+    go : (earlier : Bool) → ltb (first f n) n ≡ earlier → (here : Bool) → f n ≡ here →
+        (n ≤ first f n → (m : ℕ) → m < n → f m ≡ false) →
+        suc n ≤ cond earlier (first f n) (cond here n (suc n)) → f k ≡ false
+    go true t here q below past = absurd (omega (arith, ltb-true (first f n) n t))
+    go false t true q below past = absurd (omega arith)
+    go false t false q below past = up-to-suc (λ m. f m ≡ false) n (below (ltb-false (first f n) n t)) q k h
+
+pub first-of-none : (f : ℕ → Bool) (n : ℕ) → ((k : ℕ) → k < n → f k ≡ false) → first f n ≡ n
+unfolding first
+first-of-none f zero all = refl
+first-of-none f (suc n) all =
+    let end : first f n ≡ n = first-of-none f n (λ k h. all k (omega arith)) in
+    rw (le-ltb (first f n) n (le-of-eq (sym end)), all n (le-refl (suc n)))
+
+pub count-same : (f g : ℕ → Bool) (n : ℕ) → ((k : ℕ) → k < n → f k ≡ g k) → count f n ≡ count g n
+unfolding count
+count-same f g zero same = refl
+count-same f g (suc n) same =
+    rw (count-same f g n (λ k h. same k (omega arith)), same n (le-refl (suc n)))
+
+pub count-of-none : (f : ℕ → Bool) (n : ℕ) → ((k : ℕ) → k < n → f k ≡ false) → count f n ≡ 0
+unfolding count
+count-of-none f zero none = refl
+count-of-none f (suc n) none =
+    rw (count-of-none f n (λ k h. none k (omega arith)), none n (le-refl (suc n)))
