@@ -4,4 +4,8 @@ pub mod Rows
 pub mod Tables
 pub mod Drawings
 pub mod Checks
+pub mod Periods
+pub mod VerdictLaws
+pub mod ExactSlotLaws
+pub mod CheckLaws
 pub mod Outcomes

@@ -1,0 +1,160 @@
+-- What the check's three tests, for the refusals 7, 9 and 10, say when they accept.
+use Prim.Native.Nat.{ℕ, zero, suc, _+_, _*_, _/_, _%_, _≤_, _<_}
+use mathlib.Core.Bool.{true, false, not}
+use mathlib.Core.List.{List}
+use mathlib.Core.Logic.{_↔_, _⊎_, inl, inr}
+use mathlib.Core.Path.{_≡_, refl, ap}
+use lib.Arith.{digits-lt, digits-div}
+use lib.Dec.{eqb·suc-zero}
+use lib.ListN.{length, getD}
+use borrow.Author.Tests.{ltb-false, le-ltb, eqb-true, eqb-false, eq-eqb, ne-eqb, not-true, not-false}
+use Rattle.laws.specs.SearchFacts.{every-iff}
+use Rattle.laws.specs.Truth.{false-not-true, not-true-is-false, and-is-true, or-is-true, or-is-false}
+use Rattle.instance.specs.Limits.{mayNotBeRefused}
+use Rattle.instance.specs.Node.{Problem, levelCount, taskCount, taskAt, span}
+use Rattle.instance.specs.declared.refusal.Verdict.the-variants.{Accepted}
+use Rattle.schedule.specs.Checks.{check, strayValue, straySlot, slotsPass, jobSlots, isServed, jobsPass}
+use Rattle.schedule.specs.Periods.{Periodic, row-of-index, tick-of-index, slot-of-index}
+use Rattle.schedule.specs.Plans.{isMust, badChoice, choicesPass}
+use Rattle.schedule.specs.Quantities.{choiceAt, coreOf, keeps, jobs, jobTicks}
+use Rattle.schedule.specs.Tables.{slotAt}
+use Rattle.schedule.specs.VerdictLaws.{andThen-accepts, length-accepts, none-refused}
+
+-- 7: "one choice per task, each from 0 to M × H and none 0 for a task that may not be refused"
+pub record AllowedPlan (p : Problem) (plan : List ℕ) : Type 0 where
+  pub one-choice-per-task : length plan ≡ taskCount p
+  pub choices-in-range : (i : ℕ) → i < taskCount p → choiceAt plan i ≤ p .cores * levelCount p
+  pub must-tasks-kept : (i : ℕ) → i < taskCount p → taskAt p i .penalty ≡ mayNotBeRefused → choiceAt plan i ≡ 0 → ⊥
+
+module _ (p : Problem) (plan : List ℕ) where
+  choice-is-good : (i : ℕ) → (badChoice p plan i ≡ false) ↔
+      ((choiceAt plan i ≤ p .cores * levelCount p) × (taskAt p i .penalty ≡ mayNotBeRefused → choiceAt plan i ≡ 0 → ⊥))
+  unfolding badChoice isMust
+  choice-is-good i = (
+    λ e.
+        let both = or-is-false _ _ .0 e in (
+          ltb-false _ _ (both .0),
+          λ must none. false-not-true (both .1) (and-is-true _ _ .1 (eq-eqb _ _ none, eq-eqb _ _ must)),
+        ),
+    λ good.
+        or-is-false _ _ .1 (
+          le-ltb _ _ (good .0),
+          not-true-is-false _ (λ e.
+              let both = and-is-true _ _ .0 e in good .1 (eqb-true _ _ (both .1)) (eqb-true _ _ (both .0))),
+        ),
+  )
+
+  pub choices-pass : (choicesPass p plan ≡ Accepted) ↔ AllowedPlan p plan
+  unfolding choicesPass
+  choices-pass = (
+    λ e.
+        let both = length-accepts _ _ _ _ .0 e in
+        let good = none-refused _ _ _ .0 (both .1) in
+        record {
+          one-choice-per-task = both .0;
+          choices-in-range = λ i h. choice-is-good i .0 (good i h) .0;
+          must-tasks-kept = λ i h. choice-is-good i .0 (good i h) .1;
+        },
+    λ allowed.
+        length-accepts _ _ _ _ .1 (
+          allowed .one-choice-per-task,
+          none-refused _ _ _ .1 (λ i h. choice-is-good i .1 (allowed .choices-in-range i h, allowed .must-tasks-kept i h)),
+        ),
+  )
+
+-- a slot that names a kept task of core k
+pub record KeptSlot (p : Problem) (plan : List ℕ) (k slot : ℕ) : Type 0 where
+  pub task : ℕ
+  pub its-number : slot ≡ suc task
+  pub kept : choiceAt plan task ≡ 0 → ⊥
+  pub on-its-core : coreOf p plan task ≡ k
+
+pub keeps-iff : (p : Problem) (plan : List ℕ) (k i : ℕ) →
+    (keeps p plan k i ≡ true) ↔ ((choiceAt plan i ≡ 0 → ⊥) × (coreOf p plan i ≡ k))
+unfolding keeps
+keeps-iff p plan k i = (
+  λ e. let both = and-is-true _ _ .0 e in (eqb-false _ _ (not-true _ (both .0)), eqb-true _ _ (both .1)),
+  λ both. and-is-true _ _ .1 (ap not (ne-eqb _ _ (both .0)), eq-eqb _ _ (both .1)),
+)
+
+module _ (p : Problem) (plan : List ℕ) (k : ℕ) where
+  slot-not-stray : (slot : ℕ) → strayValue p plan k slot ≡ false → (slot ≡ 0) ⊎ KeptSlot p plan k slot
+  unfolding strayValue
+  slot-not-stray zero e = inl refl
+  slot-not-stray (suc i) e =
+      let kept = keeps-iff p plan k i .0 (not-false _ (rw eqb·suc-zero at e)) in
+      inr (record { task = i; its-number = refl; kept = kept .0; on-its-core = kept .1 })
+
+  not-stray-slot : (slot : ℕ) → (slot ≡ 0) ⊎ KeptSlot p plan k slot → strayValue p plan k slot ≡ false
+  unfolding strayValue
+  not-stray-slot slot (inl idle) = rw idle
+  not-stray-slot slot (inr r) =
+      rw (r .its-number, eqb·suc-zero, keeps-iff p plan k (r .task) .1 (r .kept, r .on-its-core))
+
+-- 9: "a table of M × L slots", each 0 or naming a kept task of its core
+pub record NamedSlots (p : Problem) (plan table : List ℕ) : Type 0 where
+  pub table-size : length table ≡ p .cores * span p
+  pub idle-or-kept : (k t : ℕ) → k < p .cores → t < span p →
+      (slotAt p table k t ≡ 0) ⊎ KeptSlot p plan k (slotAt p table k t)
+
+pub slots-pass : (p : Problem) → Periodic p → (plan table : List ℕ) →
+    (slotsPass p plan table ≡ Accepted) ↔ NamedSlots p plan table
+unfolding slotsPass straySlot slotAt
+slots-pass p periodic plan table = (
+  λ e.
+      let both = length-accepts _ _ _ _ .0 e in
+      record {
+        table-size = both .0;
+        idle-or-kept = λ k t h l.
+            let not-stray = none-refused _ _ _ .0 (both .1) (k * span p + t) (digits-lt h l) in
+            slot-not-stray p plan k (slotAt p table k t) (rw (digits-div k l) at not-stray);
+      },
+  λ named.
+      length-accepts _ _ _ _ .1 (
+        named .table-size,
+        none-refused _ _ _ .1 (λ x h.
+            let here = named .idle-or-kept (x / span p) (x % span p) (row-of-index p periodic x h) (tick-of-index p periodic x) in
+            not-stray-slot p plan (x / span p) (getD table x 0) (rw slot-of-index at here)),
+      ),
+)
+
+-- 10: each job of a kept task has as many slots as ticks
+abbrev pub ServedJobs : Problem → List ℕ → List ℕ → Type 0
+ServedJobs p plan table =
+    (i j : ℕ) → i < taskCount p → (choiceAt plan i ≡ 0 → ⊥) → j < jobs p i →
+    jobSlots p plan table i j ≡ jobTicks p plan i
+
+task-is-served : (p : Problem) (plan table : List ℕ) (i : ℕ) → (isServed p plan table i ≡ true) ↔
+    ((choiceAt plan i ≡ 0 → ⊥) → (j : ℕ) → j < jobs p i → jobSlots p plan table i j ≡ jobTicks p plan i)
+unfolding isServed
+task-is-served p plan table i = (
+  λ e kept j l. eqb-true _ _ (every-iff _ _ .0 (or-is-true _ _ .0 e (ne-eqb _ _ kept)) j l),
+  λ served. or-is-true _ _ .1 (λ kept. every-iff _ _ .1 (λ j l. eq-eqb _ _ (served (eqb-false _ _ kept) j l))),
+)
+
+pub jobs-pass : (p : Problem) (plan table : List ℕ) → (jobsPass p plan table ≡ Accepted) ↔ ServedJobs p plan table
+unfolding jobsPass
+jobs-pass p plan table = (
+  λ e i j h kept l. task-is-served p plan table i .0 (not-false _ (none-refused _ _ _ .0 e i h)) kept j l,
+  λ served. none-refused _ _ _ .1 (λ i h.
+      ap not (task-is-served p plan table i .1 (λ kept j l. served i j h kept l))),
+)
+
+-- "The check tests 7, 9 (length before slots), 10, and not 8."
+pub check-accepts : (p : Problem) → Periodic p → (plan table : List ℕ) →
+    (check p plan table ≡ Accepted) ↔ (AllowedPlan p plan × NamedSlots p plan table × ServedJobs p plan table)
+unfolding check
+check-accepts p periodic plan table = (
+  λ e.
+      let plan-and-table = andThen-accepts _ _ .0 e in
+      let slots-and-jobs = andThen-accepts _ _ .0 (plan-and-table .1) in (
+        choices-pass p plan .0 (plan-and-table .0),
+        slots-pass p periodic plan table .0 (slots-and-jobs .0),
+        jobs-pass p plan table .0 (slots-and-jobs .1),
+      ),
+  λ all.
+      andThen-accepts _ _ .1 (
+        choices-pass p plan .1 (all .0),
+        andThen-accepts _ _ .1 (slots-pass p periodic plan table .1 (all .1), jobs-pass p plan table .1 (all .2)),
+      ),
+)
