@@ -8,4 +8,9 @@ pub mod Periods
 pub mod VerdictLaws
 pub mod ExactSlotLaws
 pub mod CheckLaws
+pub mod DrawingLaws
+pub mod TableLaws
+pub mod ServedRows
+pub mod ServedRowLaws
+pub mod CheckTheorem
 pub mod Outcomes
