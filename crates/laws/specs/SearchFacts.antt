@@ -1,12 +1,11 @@
 -- What `every`, `first` and `count` tell of each number below n, and the other way.
 use Prim.Native.Nat.{ℕ, zero, suc, _≤_, _<_}
-use mathlib.Core.Bool.{Bool, true, false, cond}
+use mathlib.Core.Bool.{Bool, true, false}
 use mathlib.Core.Logic.{_↔_, ⊎-elim}
 use mathlib.Core.Path.{_≡_, refl, sym, subst}
-use native.Mathlib.Nat.{eq-or-lt-of-le, le-of-suc-le-suc, not-suc-le-zero, le-refl, le-of-eq}
+use native.Mathlib.Nat.{eq-or-lt-of-le, le-of-suc-le-suc, not-suc-le-zero, le-refl}
 use native.Mathlib.Omega.{arith}
-use lib.Dec.{ltb}
-use borrow.Author.Tests.{ltb-true, ltb-false, le-ltb}
+use Rattle.laws.specs.FirstLaws.{first-is-first, first-unique}
 use Rattle.laws.specs.Search.{first, every, count}
 use Rattle.laws.specs.Truth.{and-is-true}
 
@@ -33,23 +32,11 @@ every-iff f n = (every-to-below f n, below-to-every f n)
 
 -- the search came to the end: none passed
 pub first-at-end : (f : ℕ → Bool) (n : ℕ) → n ≤ first f n → (k : ℕ) → k < n → f k ≡ false
-unfolding first
-first-at-end f zero e k h = absurd (not-suc-le-zero h)
-first-at-end f (suc n) e k h = go (ltb (first f n) n) refl (f n) refl (first-at-end f n) e
-  where
-    go : (earlier : Bool) → ltb (first f n) n ≡ earlier → (here : Bool) → f n ≡ here →
-        (n ≤ first f n → (m : ℕ) → m < n → f m ≡ false) →
-        suc n ≤ cond earlier (first f n) (cond here n (suc n)) → f k ≡ false
-    go true t here q below past = absurd (omega (arith, ltb-true (first f n) n t))
-    go false t true q below past = absurd (omega arith)
-    go false t false q below past = up-to-suc (λ m. f m ≡ false) n (below (ltb-false (first f n) n t)) q k h
+first-at-end f n past k h = first-is-first f n .none-below k (omega arith)
 
 pub first-of-none : (f : ℕ → Bool) (n : ℕ) → ((k : ℕ) → k < n → f k ≡ false) → first f n ≡ n
-unfolding first
-first-of-none f zero all = refl
-first-of-none f (suc n) all =
-    let end : first f n ≡ n = first-of-none f n (λ k h. all k (omega arith)) in
-    rw (le-ltb (first f n) n (le-of-eq (sym end)), all n (le-refl (suc n)))
+first-of-none f n none =
+    first-unique f (record { at-most = le-refl n; none-below = none; passes-below = λ l. absurd (omega arith) })
 
 pub count-same : (f g : ℕ → Bool) (n : ℕ) → ((k : ℕ) → k < n → f k ≡ g k) → count f n ≡ count g n
 unfolding count

@@ -6,6 +6,8 @@ use native.Mathlib.Nat.{div-add-mod', div-mul-cancel, div-lt-iff-lt-mul, mod-lt,
 use lib.Arith.{digits-lt}
 use lib.ListN.{getD}
 use Rattle.instance.specs.Node.{Problem, taskCount, taskAt, span}
+use Rattle.instance.specs.SpanLaws.{span-above-zero, period-divides-span}
+use Rattle.instance.specs.Valid.{Valid}
 use Rattle.schedule.specs.Quantities.{jobs}
 use Rattle.schedule.specs.Tables.{releaseOf, window, tableSize, slotAt}
 
@@ -13,6 +15,9 @@ use Rattle.schedule.specs.Tables.{releaseOf, window, tableSize, slotAt}
 pub record Periodic (p : Problem) : Type 0 where
   pub span-positive : 0 < span p
   pub period-divides-span : (i : ℕ) → i < taskCount p → taskAt p i .period ∣ span p
+
+pub valid-is-periodic : {p : Problem} → Valid p → Periodic p
+valid-is-periodic v = record { span-positive = span-above-zero v; period-divides-span = period-divides-span v }
 
 module _ (p : Problem) (periodic : Periodic p) where
   pub period-positive : (i : ℕ) → i < taskCount p → 0 < taskAt p i .period
