@@ -7,3 +7,8 @@ pub mod Outcomes
 pub mod Valid
 pub mod SpanLaws
 pub mod Held
+pub mod ReadWords
+pub mod ReadSettings
+pub mod ReadLevels
+pub mod ReadTasks
+pub mod SiteFileLaws

@@ -17,13 +17,14 @@ abbrev pub EachPeriod : (ℕ → Type 0) → List Task → Type 0
 EachPeriod P ts = (i : ℕ) → i < length ts → P (getD ts i noTask .period)
 
 -- L is the least common multiple of s and the tasks' periods
-pub record IsSpan (s : ℕ) (ts : List Task) (L : ℕ) : Type 0 where
-  pub above-zero : 0 < L
-  pub so-far-divides : s ∣ L
-  pub period-divides : EachPeriod (λ p. p ∣ L) ts
-  pub divides-common-multiple : (m : ℕ) → s ∣ m → EachPeriod (λ p. p ∣ m) ts → L ∣ m
+record IsSpan (s : ℕ) (ts : List Task) (L : ℕ) : Type 0 where
+  above-zero : 0 < L
+  so-far-divides : s ∣ L
+  period-divides : EachPeriod (λ p. p ∣ L) ts
+  divides-common-multiple : (m : ℕ) → s ∣ m → EachPeriod (λ p. p ∣ m) ts → L ∣ m
 
-span-step : (s : ℕ) (t : Task) (ts : List Task) (L : ℕ) → 0 < s → 0 < t .period → IsSpan (lcm s (t .period)) ts L → IsSpan s (t ∷ ts) L
+span-step : (s : ℕ) (t : Task) (ts : List Task) (L : ℕ) → 0 < s → 0 < t .period →
+    IsSpan (lcm s (t .period)) ts L → IsSpan s (t ∷ ts) L
 span-step s t ts L s-above t-above h =
     record {
       above-zero = h .above-zero;
@@ -40,7 +41,7 @@ span-step s t ts L s-above t-above h =
     each zero l = dvd-trans (t .period) (right-divides-lcm s (t .period)) (h .so-far-divides)
     each (suc i) l = h .period-divides i (le-of-suc-le-suc l)
 
-pub spanFrom-is-span : (s : ℕ) (ts : List Task) → 0 < s → EachPeriod (λ p. 0 < p) ts → IsSpan s ts (spanFrom s ts)
+spanFrom-is-span : (s : ℕ) (ts : List Task) → 0 < s → EachPeriod (λ p. 0 < p) ts → IsSpan s ts (spanFrom s ts)
 unfolding spanFrom
 spanFrom-is-span s [] s-above periods =
     record {
@@ -57,14 +58,19 @@ spanFrom-is-span s (t ∷ ts) s-above periods =
     (spanFrom (lcm s (t .period)) ts)
     s-above
     (periods 0 (omega arith))
-    (spanFrom-is-span (lcm s (t .period)) ts (lcm-above-zero s (t .period) (periods 0 (omega arith))) (λ i l. periods (suc i) (omega arith)))
+    (spanFrom-is-span
+    (lcm s (t .period))
+    ts
+    (lcm-above-zero s (t .period) (periods 0 (omega arith)))
+    (λ i l. periods (suc i) (omega arith)))
 
 -- the running span only grows
 pub so-far-at-most-spanFrom : (s : ℕ) (ts : List Task) → 0 < s → EachPeriod (λ p. 0 < p) ts → s ≤ spanFrom s ts
 so-far-at-most-spanFrom s ts s-above periods =
     let h = spanFrom-is-span s ts s-above periods in le-of-dvd (h .above-zero) (h .so-far-divides)
 
-pub prefix-spanFrom-at-most : (k s : ℕ) (ts : List Task) → 0 < s → EachPeriod (λ p. 0 < p) ts → spanFrom s (take k ts) ≤ spanFrom s ts
+prefix-spanFrom-at-most : (k s : ℕ) (ts : List Task) → 0 < s → EachPeriod (λ p. 0 < p) ts →
+    spanFrom s (take k ts) ≤ spanFrom s ts
 unfolding spanFrom
 prefix-spanFrom-at-most zero s ts s-above periods = so-far-at-most-spanFrom s ts s-above periods
 prefix-spanFrom-at-most (suc k) s [] s-above periods = omega arith
