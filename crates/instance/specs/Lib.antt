@@ -12,3 +12,4 @@ pub mod ReadSettings
 pub mod ReadLevels
 pub mod ReadTasks
 pub mod SiteFileLaws
+pub mod SiteFileRefusals
