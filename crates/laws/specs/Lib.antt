@@ -8,3 +8,6 @@ pub mod Sums
 pub mod Multiples
 pub mod PaddedLaws
 pub mod MultiplesLaws
+pub mod SumLaws
+pub mod CountLaws
+pub mod ListOfLaws
