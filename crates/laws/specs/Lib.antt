@@ -8,6 +8,8 @@ pub mod Sums
 pub mod Multiples
 pub mod PaddedLaws
 pub mod MultiplesLaws
+pub mod Below
 pub mod SumLaws
 pub mod CountLaws
 pub mod ListOfLaws
+pub mod DivisionLaws

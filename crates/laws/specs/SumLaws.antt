@@ -1,15 +1,10 @@
 -- Laws of finite sums.
 use Prim.Native.Nat.{ℕ, zero, suc, _+_, _*_, _≤_, _<_}
 use mathlib.Core.Path.{_≡_, refl}
-use mathlib.Core.Logic.{_⊎_, inl, inr, ⊎-elim}
-use native.Mathlib.Nat.{le-step, le-refl, le-of-suc-le-suc, eq-or-lt-of-le}
+use native.Mathlib.Nat.{le-step, le-refl}
 use native.Mathlib.Omega.{arith}
+use Rattle.laws.specs.Below.{below-suc}
 use Rattle.laws.specs.Sums.{sum}
-
-pub sum-cong : (f g : ℕ → ℕ) (n : ℕ) → ((i : ℕ) → i < n → f i ≡ g i) → sum f n ≡ sum g n
-unfolding sum
-sum-cong f g zero same = refl
-sum-cong f g (suc n) same = cc (sum-cong f g n (λ i l. same i (le-step l)), same n (le-refl (suc n)))
 
 pub sum-zero : (f : ℕ → ℕ) (n : ℕ) → ((i : ℕ) → i < n → f i ≡ 0) → sum f n ≡ 0
 unfolding sum
@@ -26,20 +21,22 @@ pub sum-falls : (f g : ℕ → ℕ) (n k : ℕ) → ((i : ℕ) → i < n → f i
 unfolding sum
 sum-falls f g zero k below l falls = absurd (omega arith)
 sum-falls f g (suc n) k below l falls =
-    go (λ m. sum-falls f g n k (λ i l. below i (le-step l)) m falls) (eq-or-lt-of-le (le-of-suc-le-suc l))
-  where
-    go : (k < n → sum f n < sum g n) → (k ≡ n) ⊎ (k < n) → sum f n + f n < sum g n + g n
-    go earlier (inl e) = let last = rw e at falls in omega (arith, sum-mono f g n (λ i l. below i (le-step l)), last)
-    go earlier (inr m) = omega (arith, earlier m, below n (le-refl (suc n)))
+    let smaller : ℕ → Type 0 = λ i. f i < g i → sum f (suc n) < sum g (suc n) in
+    let none-larger : (i : ℕ) → i < n → f i ≤ g i = λ i m. below i (le-step m) in
+    below-suc
+    smaller
+    n
+    (λ i m h. omega (arith, sum-falls f g n i none-larger m h, below n (le-refl (suc n))))
+    (λ h. omega (arith, sum-mono f g n none-larger))
+    k
+    l
+    falls
 
 pub term-le-sum : (f : ℕ → ℕ) (n k : ℕ) → k < n → f k ≤ sum f n
 unfolding sum
 term-le-sum f zero k l = absurd (omega arith)
-term-le-sum f (suc n) k l = go (term-le-sum f n k) (eq-or-lt-of-le (le-of-suc-le-suc l))
-  where
-    go : (k < n → f k ≤ sum f n) → (k ≡ n) ⊎ (k < n) → f k ≤ sum f n + f n
-    go earlier (inl e) = rw e (omega arith)
-    go earlier (inr m) = omega (arith, earlier m)
+term-le-sum f (suc n) k l =
+    below-suc (λ i. f i ≤ sum f (suc n)) n (λ i m. omega (arith, term-le-sum f n i m)) (omega arith) k l
 
 pub sum-add : (f g : ℕ → ℕ) (n : ℕ) → sum (λ i. f i + g i) n ≡ sum f n + sum g n
 unfolding sum
