@@ -14,3 +14,6 @@ pub mod ServedRows
 pub mod ServedRowLaws
 pub mod CheckTheorem
 pub mod Outcomes
+pub mod Demand
+pub mod Earliest
+pub mod DispatchLaws

@@ -1,0 +1,65 @@
+-- What the scheduling theorems speak of: the demand of a core's tasks, and rows that serve their jobs. A row is a function
+-- from ticks to slots, and job j of task i stands in the window of ticks j·p up to, but without, j·p + d.
+use Prim.Native.Nat.{ℕ, suc, _+_, _-_, _*_, _/_, _%_, _≤_, _<_, _∣_}
+use mathlib.Core.Path.{_≡_}
+use lib.Dec.{eqb}
+use Rattle.laws.specs.Search.{count}
+use Rattle.laws.specs.Sums.{sum}
+use Rattle.schedule.specs.Rows.{CoreTasks}
+
+-- windows that are not empty and end by the next release
+pub record WellFormed (core : CoreTasks) : Type 0 where
+  pub window-above-0 : (i : ℕ) → i < core .size → 1 ≤ core .window i
+  pub window-within-period : (i : ℕ) → i < core .size → core .window i ≤ core .period i
+
+-- a span that every period divides, so that all releases begin anew after it
+pub record WholePeriods (core : CoreTasks) (span : ℕ) : Type 0 where
+  pub span-above-0 : 0 < span
+  pub period-divides : (i : ℕ) → i < core .size → core .period i ∣ span
+
+-- how many jobs of task i are due by tick x: the jobs j with j·p + d ≤ x
+unfoldable pub jobsDue : CoreTasks → ℕ → ℕ → ℕ
+jobsDue core i x = (x + (core .period i - core .window i)) / core .period i
+
+-- the ticks of those jobs
+abbrev pub ticksDue : CoreTasks → ℕ → ℕ → ℕ
+ticksDue core x i = core .ticks i * jobsDue core i x
+
+-- by no tick x are more than x ticks due
+pub record Demand (core : CoreTasks) : Type 0 where
+  pub met-by : (x : ℕ) → sum (ticksDue core x) (core .size) ≤ x
+
+-- "jobs × ticks": what task i asks for over a span
+abbrev pub loadOf : CoreTasks → ℕ → ℕ → ℕ
+loadOf core span i = span / core .period i * core .ticks i
+
+-- a slot that holds the number of a task with ticks: of one that is kept on this core
+pub record NamesTask (core : CoreTasks) (slot : ℕ) : Type 0 where
+  pub task : ℕ
+  pub is-task : task < core .size
+  pub its-number : slot ≡ suc task
+  pub has-ticks : 0 < core .ticks task
+
+-- the slots with the number of task i in the window of its job j
+abbrev pub slotsOfJob : (ℕ → ℕ) → CoreTasks → ℕ → ℕ → ℕ
+slotsOfJob slots core i j = count (λ x. eqb (slots (j * core .period i + x)) (suc i)) (core .window i)
+
+-- each job released within the span has exactly its ticks in its window
+pub record Serves (slots : ℕ → ℕ) (span : ℕ) (core : CoreTasks) : Type 0 where
+  pub each-job : (i j : ℕ) → i < core .size → j < span / core .period i → slotsOfJob slots core i j ≡ core .ticks i
+
+-- no slot of task i between the due tick of its job j and the next release
+abbrev pub QuietAfterDue : (ℕ → ℕ) → CoreTasks → ℕ → ℕ → Type 0
+QuietAfterDue slots core i j =
+    (x : ℕ) → core .window i ≤ x → x < core .period i → slots (j * core .period i + x) ≡ suc i → ⊥
+
+-- "Repeated, a row shows at tick t, however large, its slot t modulo L"
+abbrev pub repeated : ℕ → (ℕ → ℕ) → ℕ → ℕ
+repeated span slots t = slots (t % span)
+
+-- the same kept tasks on two cores: the ticks of all tasks are equal, and of those that have ticks period and window
+pub record SameKeptTasks (core core₂ : CoreTasks) : Type 0 where
+  pub same-size : core .size ≡ core₂ .size
+  pub same-ticks : (i : ℕ) → i < core .size → core .ticks i ≡ core₂ .ticks i
+  pub same-period : (i : ℕ) → i < core .size → 0 < core .ticks i → core .period i ≡ core₂ .period i
+  pub same-window : (i : ℕ) → i < core .size → 0 < core .ticks i → core .window i ≡ core₂ .window i

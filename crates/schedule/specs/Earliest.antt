@@ -1,0 +1,84 @@
+-- What `earliest` chooses, as a relation: the earliest due of the tasks that have ticks left, of equal ones the lowest.
+use Prim.Native.Nat.{ℕ, zero, suc, pred, _≤_, _<_}
+use mathlib.Core.Bool.{Bool, true, false, cond}
+use mathlib.Core.Path.{_≡_, refl}
+use native.Mathlib.Nat.{le-step, le-refl, le-of-lt, pos-of-ne-zero}
+use native.Mathlib.Omega.{arith}
+use lib.Dec.{eqb, ltb}
+use borrow.Author.Tests.{eqb-true, eqb-false, ltb-true, ltb-false, ne-eqb}
+use Rattle.laws.specs.Below.{below-suc}
+use Rattle.schedule.specs.Rows.{earliest}
+
+-- the number chosen among the tasks below n: 0 where none has ticks left; else that of one with ticks left, such that
+-- none of them is due earlier, and none of a lower number is due at the same tick
+pub data Choice (due left : ℕ → ℕ) (n : ℕ) : ℕ → Type 0 where
+  idle : ((i : ℕ) → i < n → left i ≡ 0) → Choice due left n 0
+  runs : (k : ℕ) → k < n → 0 < left k → ((i : ℕ) → i < n → 0 < left i → due k ≤ due i) →
+      ((i : ℕ) → i < k → 0 < left i → due k < due i) → Choice due left n (suc k)
+
+module _ (due left : ℕ → ℕ) where
+  -- one more task, that has nothing left
+  passed-over : (n best : ℕ) → left n ≡ 0 → Choice due left n best → Choice due left (suc n) best
+  passed-over n best none (Choice.idle all) = Choice.idle (below-suc (λ i. left i ≡ 0) n all none)
+  passed-over n best none (Choice.runs k l has first lower) =
+      Choice.runs k (le-step l) has (below-suc (λ i. 0 < left i → due k ≤ due i) n first (λ h. absurd (omega arith))) lower
+
+  -- one more task, that has ticks left
+  entered : (n best : ℕ) → 0 < left n → Choice due left n best →
+      Choice due left (suc n) (cond (eqb best 0) (suc n) (cond (ltb (due n) (due (pred best))) (suc n) best))
+  entered n best has (Choice.idle all) =
+      Choice.runs
+      n
+      (le-refl (suc n))
+      has
+      (below-suc (λ i. 0 < left i → due n ≤ due i) n (λ i l h. absurd (omega (arith, all i l))) (λ h. le-refl (due n)))
+      (λ i l h. absurd (omega (arith, all i l)))
+  entered n best has (Choice.runs k l more first lower) =
+      rw (ne-eqb (suc k) 0 (λ e. omega arith)) (go (ltb (due n) (due k)) refl)
+    where
+      go : (b : Bool) → ltb (due n) (due k) ≡ b → Choice due left (suc n) (cond (ltb (due n) (due k)) (suc n) (suc k))
+      go true e =
+          let earlier : due n < due k = ltb-true (due n) (due k) e in
+          let before : (i : ℕ) → i < n → 0 < left i → due n < due i = λ i m h. omega (arith, first i m h) in
+          rw
+          e
+          (Choice.runs
+          n
+          (le-refl (suc n))
+          has
+          (below-suc (λ i. 0 < left i → due n ≤ due i) n (λ i m h. le-of-lt (before i m h)) (λ h. le-refl (due n)))
+          before)
+      go false e =
+          let later : due k ≤ due n = ltb-false (due n) (due k) e in
+          rw e (Choice.runs k (le-step l) more (below-suc (λ i. 0 < left i → due k ≤ due i) n first (λ h. later)) lower)
+
+  pub earliest-is-choice : (n : ℕ) → Choice due left n (earliest due left n)
+  unfolding earliest
+  earliest-is-choice zero = Choice.idle (λ i l. absurd (omega arith))
+  earliest-is-choice (suc n) = go (eqb (left n) 0) refl (earliest-is-choice n)
+    where
+      go : (b : Bool) → eqb (left n) 0 ≡ b → Choice due left n (earliest due left n) → Choice due left (suc n) (earliest due left (suc n))
+      go true e c = rw e (passed-over n (earliest due left n) (eqb-true (left n) 0 e) c)
+      go false e c = rw e (entered n (earliest due left n) (pos-of-ne-zero (eqb-false (left n) 0 e)) c)
+
+pub chosen-has-left : {due left : ℕ → ℕ} {n number : ℕ} (k : ℕ) → Choice due left n number → number ≡ suc k → 0 < left k
+chosen-has-left k (Choice.idle all) e = absurd (omega arith)
+chosen-has-left k (Choice.runs m l has first lower) e = let same : m ≡ k = omega arith in rw same at has
+
+-- the choice depends on what is left, and on the due ticks of the tasks that have ticks left
+pub earliest-cong : (due left due₂ left₂ : ℕ → ℕ) (n : ℕ) → ((i : ℕ) → i < n → left i ≡ left₂ i) →
+    ((i : ℕ) → i < n → 0 < left i → due i ≡ due₂ i) → earliest due left n ≡ earliest due₂ left₂ n
+unfolding earliest
+earliest-cong due left due₂ left₂ zero same-left same-due = refl
+earliest-cong due left due₂ left₂ (suc n) same-left same-due =
+    let same-before : earliest due left n ≡ earliest due₂ left₂ n =
+    earliest-cong due left due₂ left₂ n (λ i l. same-left i (le-step l)) (λ i l. same-due i (le-step l)) in
+    rw (← same-before, ← (same-left n (le-refl (suc n)))) (go (eqb (left n) 0) refl (earliest due left n) (earliest-is-choice due left n))
+  where
+    go : (b : Bool) → eqb (left n) 0 ≡ b → (best : ℕ) → Choice due left n best →
+        cond (eqb (left n) 0) best (cond (eqb best 0) (suc n) (cond (ltb (due n) (due (pred best))) (suc n) best))
+        ≡ cond (eqb (left n) 0) best (cond (eqb best 0) (suc n) (cond (ltb (due₂ n) (due₂ (pred best))) (suc n) best))
+    go true e best c = rw e
+    go false e best (Choice.idle all) = refl
+    go false e best (Choice.runs k l has first lower) =
+        rw (same-due k (le-step l) has, same-due n (le-refl (suc n)) (pos-of-ne-zero (eqb-false (left n) 0 e)))
