@@ -17,3 +17,7 @@ pub mod Outcomes
 pub mod Demand
 pub mod Earliest
 pub mod DispatchLaws
+pub mod JobsDueLaws
+pub mod OnTime
+pub mod OnTimeSteps
+pub mod EdfLaws
