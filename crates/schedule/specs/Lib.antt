@@ -21,3 +21,5 @@ pub mod JobsDueLaws
 pub mod OnTime
 pub mod OnTimeSteps
 pub mod EdfLaws
+pub mod LoadLaws
+pub mod ServedLaws
