@@ -23,3 +23,5 @@ pub mod OnTimeSteps
 pub mod EdfLaws
 pub mod LoadLaws
 pub mod ServedLaws
+pub mod RepeatedRowLaws
+pub mod KeptTaskLaws
