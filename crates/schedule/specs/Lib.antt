@@ -25,3 +25,4 @@ pub mod LoadLaws
 pub mod ServedLaws
 pub mod RepeatedRowLaws
 pub mod KeptTaskLaws
+pub mod SchedulingTheorems

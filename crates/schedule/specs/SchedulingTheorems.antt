@@ -1,0 +1,61 @@
+-- The scheduling theorems, for any number of tasks on a core and any windows 1 ≤ d ≤ p. Their words are defined in `Demand`
+-- and `Rows`; the proofs stand in the files of laws.
+use Prim.Native.Nat.{ℕ, _/_, _≤_, _<_}
+use mathlib.Core.Path.{_≡_, sym, _∙_}
+use mathlib.Core.Logic.{_⊎_}
+use Rattle.laws.specs.Sums.{sum}
+use Rattle.schedule.specs.Demand.{WellFormed, WholePeriods, Demand, Serves, QuietAfterDue, NamesTask, SameKeptTasks}
+use Rattle.schedule.specs.Demand.{slotsOfJob, loadOf, repeated}
+use Rattle.schedule.specs.EdfLaws.{slot-names-task, job-served, quiet-after-due}
+use Rattle.schedule.specs.KeptTaskLaws.{same-slots}
+use Rattle.schedule.specs.LoadLaws.{load-within-span-is-demand}
+use Rattle.schedule.specs.RepeatedRowLaws.{job-of-span, repeated-slot, repeated-slots-of-job}
+use Rattle.schedule.specs.Rows.{CoreTasks, slotOf}
+use Rattle.schedule.specs.ServedLaws.{served-load-fits, served-demand}
+
+-- Where the demand condition holds, earliest deadline first gives every job, however late it is released, exactly its
+-- ticks in its window ..
+pub edf-serves-every-job : (core : CoreTasks) → WellFormed core → Demand core → (i j : ℕ) → i < core .size →
+    slotsOfJob (slotOf core) core i j ≡ core .ticks i
+edf-serves-every-job core wf demand i j l = job-served core wf demand i j l
+
+-- .. and no slot between its due tick and the next release.
+pub edf-is-quiet-after-due : (core : CoreTasks) → WellFormed core → Demand core → (i j : ℕ) → i < core .size →
+    QuietAfterDue (slotOf core) core i j
+edf-is-quiet-after-due core wf demand i j l = quiet-after-due core wf demand i j l
+
+-- Every slot is idle or names a task that has ticks on this core.
+pub edf-slots-name-tasks-with-ticks : (core : CoreTasks) (t : ℕ) → (slotOf core t ≡ 0) ⊎ NamesTask core (slotOf core t)
+edf-slots-name-tasks-with-ticks core t = slot-names-task core t
+
+-- "A row depends on the span and that core's kept tasks only"
+pub row-depends-on-kept-tasks : (core core₂ : CoreTasks) → SameKeptTasks core core₂ → (t : ℕ) → slotOf core t ≡ slotOf core₂ t
+row-depends-on-kept-tasks core core₂ same t = same-slots core core₂ same t
+
+-- Where each job is due at the next release, a load of at most the span is the demand condition.
+pub load-is-demand : (core : CoreTasks) (span : ℕ) → WholePeriods core span →
+    ((i : ℕ) → i < core .size → core .window i ≡ core .period i) → sum (loadOf core span) (core .size) ≤ span → Demand core
+load-is-demand core span whole at-period-end fits = load-within-span-is-demand core span whole at-period-end fits
+
+-- Whatever row serves each job of a span, by whatever rule it was drawn, its tasks meet the demand condition ..
+pub served-meets-demand : (core : CoreTasks) (span : ℕ) (slots : ℕ → ℕ) → WellFormed core → WholePeriods core span →
+    Serves slots span core → Demand core
+served-meets-demand core span slots wf whole serves = served-demand core wf span whole slots serves
+
+-- .. and their load is at most the span.
+pub served-load-is-within-span : (core : CoreTasks) (span : ℕ) (slots : ℕ → ℕ) → WellFormed core → WholePeriods core span →
+    Serves slots span core → sum (loadOf core span) (core .size) ≤ span
+served-load-is-within-span core span slots wf whole serves = served-load-fits core wf span whole slots serves
+
+-- A row that serves each job of a span, repeated, serves every job for ever ..
+pub repeated-row-serves-for-ever : (core : CoreTasks) (span : ℕ) (slots : ℕ → ℕ) → WellFormed core → WholePeriods core span →
+    Serves slots span core → (i j : ℕ) → i < core .size → slotsOfJob (repeated span slots) core i j ≡ core .ticks i
+repeated-row-serves-for-ever core span slots wf whole serves i j l =
+    repeated-slots-of-job core wf span whole i j l slots ∙ serves .each-job i _ l (job-of-span core wf span whole i j l)
+
+-- .. and one that is quiet after the due ticks of a span stays so for ever.
+pub repeated-row-is-quiet-for-ever : (core : CoreTasks) (span : ℕ) (slots : ℕ → ℕ) → WellFormed core → WholePeriods core span →
+    ((i j : ℕ) → i < core .size → j < span / core .period i → QuietAfterDue slots core i j) →
+    (i j : ℕ) → i < core .size → QuietAfterDue (repeated span slots) core i j
+repeated-row-is-quiet-for-ever core span slots wf whole quiet i j l x due before named =
+    quiet i _ l (job-of-span core wf span whole i j l) x due before (sym (repeated-slot core wf span whole i j l slots x before) ∙ named)
