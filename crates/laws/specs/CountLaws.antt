@@ -10,11 +10,6 @@ use Rattle.laws.specs.Search.{count}
 use Rattle.laws.specs.Sums.{sum}
 use Rattle.laws.specs.SumLaws.{sum-add, sum-zero}
 
-pub count-cong : (p q : ℕ → Bool) (n : ℕ) → ((k : ℕ) → k < n → p k ≡ q k) → count p n ≡ count q n
-unfolding count
-count-cong p q zero same = refl
-count-cong p q (suc n) same = cc (count-cong p q n (λ k l. same k (le-step l)), same n (le-refl (suc n)))
-
 -- the first a, then the next b
 pub count-split : (p : ℕ → Bool) (a b : ℕ) → count p (a + b) ≡ count p a + count (λ x. p (a + x)) b
 unfolding count

@@ -11,5 +11,4 @@ pub mod MultiplesLaws
 pub mod Below
 pub mod SumLaws
 pub mod CountLaws
-pub mod ListOfLaws
 pub mod DivisionLaws

@@ -6,7 +6,7 @@ use native.Mathlib.Nat.{le-refl, le-trans, pred-le}
 use lib.Dec.{eqb}
 use lib.ListN.{getD, getD-replicate}
 use borrow.Author.Tests.{eq-eqb, ne-eqb}
-use Rattle.laws.specs.ListOfLaws.{getD-listOf}
+use Rattle.laws.specs.JoinedLaws.{getD-listOf}
 use Rattle.schedule.specs.Earliest.{Choice, earliest-is-choice}
 use Rattle.schedule.specs.Rows.{CoreTasks, dueAt, afterRelease, afterRun, earliest, chosen, step, dispatched, slotOf}
 

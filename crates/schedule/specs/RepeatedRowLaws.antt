@@ -5,7 +5,7 @@ use native.Mathlib.Nat.{div-mul-cancel, div-add-mod', mod-lt, pos-of-ne-zero, lt
 use native.Mathlib.Omega.{arith}
 use lib.Arith.{digits-lt, digits-mod}
 use lib.Dec.{eqb}
-use Rattle.laws.specs.CountLaws.{count-cong}
+use Rattle.laws.specs.SearchFacts.{count-same}
 use Rattle.schedule.specs.Demand.{WellFormed, WholePeriods, slotsOfJob, repeated}
 use Rattle.schedule.specs.Rows.{CoreTasks}
 
@@ -33,7 +33,7 @@ module _ (core : CoreTasks) (wf : WellFormed core) (span : ℕ) (whole : WholePe
       slotsOfJob (repeated span slots) core i j ≡ slotsOfJob slots core i (j % (span / core .period i))
   repeated-slots-of-job slots =
       let first = j % (span / core .period i) * core .period i in
-      count-cong
+      count-same
       (λ x. eqb (repeated span slots (j * core .period i + x)) (suc i))
       (λ x. eqb (slots (first + x)) (suc i))
       (core .window i)
