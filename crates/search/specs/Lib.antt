@@ -1,1 +1,6 @@
 pub mod Assignment
+pub mod Values
+pub mod ValueLaws
+pub mod Rows
+pub mod Partition
+pub mod Choice

@@ -1,0 +1,135 @@
+-- Values are ordered, sums keep the order, and the least of a set is one value.
+use Prim.Native.Nat.{ℕ, zero, suc, _+_, _<_, _≤_}
+use mathlib.Core.Path.{_≡_, refl, _∙_}
+use mathlib.Core.Logic.{_⊎_, inl, inr, _≢_}
+use mathlib.Core.Bool.{Bool, true, false, cond, _&&_, _||_, true≢false, false≢true}
+use native.Mathlib.Nat.{le-refl, eq-or-lt-of-le}
+use native.Mathlib.Omega.{arith}
+use borrow.Author.Tests.{ltb-true, ltb-false, leb-true, leb-false, eqb-true, eqb-false}
+use lib.Dec.{eqb, leb, ltb}
+use Rattle.search.specs.Values.{Value, none, pair, add, isAtMost, lesser, leastBelow, AtMost, to-none, cheaper, tied, Least}
+
+pub atMost-refl : (u : Value) → AtMost u u
+atMost-refl none = to-none
+atMost-refl (pair a x) = tied refl (le-refl x)
+
+by-cost : {a x b y : ℕ} → a < b → AtMost (pair a x) (pair b y)
+by-cost h = cheaper h
+
+by-key : {a x b y : ℕ} → a ≡ b → x ≤ y → AtMost (pair a x) (pair b y)
+by-key e h = tied e h
+
+pub atMost-trans : {u v w : Value} → AtMost u v → AtMost v w → AtMost u w
+atMost-trans p to-none = to-none
+atMost-trans (cheaper h) (cheaper k) = by-cost (omega arith)
+atMost-trans (tied e h) (cheaper k) = by-cost (omega arith)
+atMost-trans (cheaper h) (tied e k) = by-cost (omega arith)
+atMost-trans (tied d h) (tied e k) = by-key (omega arith) (omega arith)
+
+pub atMost-antisym : {u v : Value} → AtMost u v → AtMost v u → u ≡ v
+atMost-antisym to-none to-none = refl
+atMost-antisym (cheaper h) (cheaper k) = absurd (omega arith)
+atMost-antisym (cheaper h) (tied e k) = absurd (omega arith)
+atMost-antisym (tied e h) (cheaper k) = absurd (omega arith)
+atMost-antisym (tied {a} {x} {b} {y} e h) (tied d k) = let f : x ≡ y = omega arith in cc
+
+pub add-mono : {u v s t : Value} → AtMost u v → AtMost s t → AtMost (add u s) (add v t)
+unfolding add
+add-mono to-none q = to-none
+add-mono (cheaper h) to-none = to-none
+add-mono (tied e h) to-none = to-none
+add-mono (cheaper h) (cheaper k) = by-cost (omega arith)
+add-mono (cheaper h) (tied e k) = by-cost (omega arith)
+add-mono (tied e h) (cheaper k) = by-cost (omega arith)
+add-mono (tied e h) (tied d k) = by-key (omega arith) (omega arith)
+
+test-atMost : (u v : Value) → isAtMost u v ≡ true → AtMost u v
+unfolding isAtMost
+test-atMost u none e = to-none
+test-atMost none (pair b y) e = absurd (false≢true e)
+test-atMost (pair a x) (pair b y) e = go (ltb a b) (eqb a b) (leb x y) refl refl refl e
+  where
+    go : (p q r : Bool) → ltb a b ≡ p → eqb a b ≡ q → leb x y ≡ r → (p || (q && r)) ≡ true → AtMost (pair a x) (pair b y)
+    go true q r ep eq er e = cheaper (ltb-true a b ep)
+    go false true true ep eq er e = tied (eqb-true a b eq) (leb-true x y er)
+    go false true false ep eq er e = absurd (false≢true e)
+    go false false r ep eq er e = absurd (false≢true e)
+
+test-above : (u v : Value) → isAtMost u v ≡ false → AtMost v u
+unfolding isAtMost
+test-above u none e = absurd (true≢false e)
+test-above none (pair b y) e = to-none
+test-above (pair a x) (pair b y) e = go (ltb a b) (eqb a b) (leb x y) refl refl refl e
+  where
+    go : (p q r : Bool) → ltb a b ≡ p → eqb a b ≡ q → leb x y ≡ r → (p || (q && r)) ≡ false → AtMost (pair b y) (pair a x)
+    go true q r ep eq er e = absurd (true≢false e)
+    go false true true ep eq er e = absurd (true≢false e)
+    go false true false ep eq er e = let d : a ≡ b = eqb-true a b eq in by-key (omega arith) (omega (arith, leb-false x y er))
+    go false false r ep eq er e =
+        let d : a ≢ b = eqb-false a b eq in by-cost (omega (arith, ltb-false a b ep))
+
+-- the lesser is one of the two, and no later than the other
+data Picked (u v : Value) : Value → Type 0 where
+  first : AtMost u v → Picked u v u
+  second : AtMost v u → Picked u v v
+
+picked : (u v : Value) → Picked u v (lesser u v)
+unfolding lesser
+picked u v = go (isAtMost u v) refl
+  where
+    go : (t : Bool) → isAtMost u v ≡ t → Picked u v (cond t u v)
+    go true e = first (test-atMost u v e)
+    go false e = second (test-above u v e)
+
+lesser-first : (u v : Value) → AtMost (lesser u v) u
+lesser-first u v = go (lesser u v) (picked u v)
+  where
+    go : (w : Value) → Picked u v w → AtMost w u
+    go w (first h) = atMost-refl u
+    go w (second h) = h
+
+lesser-second : (u v : Value) → AtMost (lesser u v) v
+lesser-second u v = go (lesser u v) (picked u v)
+  where
+    go : (w : Value) → Picked u v w → AtMost w v
+    go w (first h) = h
+    go w (second h) = atMost-refl v
+
+lesser-either : (u v : Value) → (lesser u v ≡ u) ⊎ (lesser u v ≡ v)
+lesser-either u v = go (lesser u v) (picked u v)
+  where
+    go : (w : Value) → Picked u v w → (w ≡ u) ⊎ (w ≡ v)
+    go w (first h) = inl refl
+    go w (second h) = inr refl
+
+pub leastBelow-below : (n : ℕ) (f : ℕ → Value) {l : ℕ} → l < n → AtMost (leastBelow n f) (f l)
+unfolding leastBelow
+leastBelow-below zero f h = absurd (omega arith)
+leastBelow-below (suc n) f {l} h = go (eq-or-lt-of-le h) (λ k. leastBelow-below n f {l = l} k)
+  where
+    go : (suc l ≡ suc n) ⊎ (suc l < suc n) → (l < n → AtMost (leastBelow n f) (f l)) →
+        AtMost (lesser (leastBelow n f) (f n)) (f l)
+    go (inl e) ih = let d : l ≡ n = omega arith in rw d (lesser-second _ _)
+    go (inr k) ih = atMost-trans (lesser-first _ _) (ih (omega arith))
+
+pub leastBelow-attained : (n : ℕ) (f : ℕ → Value) →
+    (leastBelow n f ≡ none) ⊎ ((l : ℕ) × (l < n) × (leastBelow n f ≡ f l))
+unfolding leastBelow
+leastBelow-attained zero f = inl refl
+leastBelow-attained (suc n) f = go (lesser-either _ _) (leastBelow-attained n f)
+  where
+    go : (lesser (leastBelow n f) (f n) ≡ leastBelow n f) ⊎ (lesser (leastBelow n f) (f n) ≡ f n) →
+        (leastBelow n f ≡ none) ⊎ ((l : ℕ) × (l < n) × (leastBelow n f ≡ f l)) →
+        (lesser (leastBelow n f) (f n) ≡ none) ⊎ ((l : ℕ) × (l < suc n) × (lesser (leastBelow n f) (f n) ≡ f l))
+    go (inl e) (inl d) = inl (e ∙ d)
+    go (inl e) (inr (l, h, d)) = inr (l, omega arith, e ∙ d)
+    go (inr e) d = inr (n, omega arith, e)
+
+-- leasts of one set are equal
+pub least-unique : {A : Type 0} {Has : A → Type 0} {worth : A → Value} {u v : Value} →
+    Least Has worth u → Least Has worth v → u ≡ v
+least-unique {A} {Has} {worth} p q = atMost-antisym (ordered p (q .attained)) (ordered q (p .attained))
+  where
+    ordered : {s t : Value} → Least Has worth s → (t ≡ none) ⊎ ((a : A) × Has a × (t ≡ worth a)) → AtMost s t
+    ordered r (inl e) = rw e to-none
+    ordered r (inr (a, h, e)) = rw e (r .below a h)
