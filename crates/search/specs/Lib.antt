@@ -4,3 +4,5 @@ pub mod ValueLaws
 pub mod Rows
 pub mod Partition
 pub mod Choice
+pub mod Keeping
+pub mod RowLaws

@@ -7,7 +7,7 @@ use native.Mathlib.Nat.{le-refl, eq-or-lt-of-le}
 use native.Mathlib.Omega.{arith}
 use borrow.Author.Tests.{ltb-true, ltb-false, leb-true, leb-false, eqb-true, eqb-false}
 use lib.Dec.{eqb, leb, ltb}
-use Rattle.search.specs.Values.{Value, none, pair, add, isAtMost, lesser, leastBelow, AtMost, to-none, cheaper, tied, Least}
+use Rattle.search.specs.Values.{Value, none, pair, add, isAtMost, lesser, leastBelow, AtMost, to-none, cheaper, tied, Attained, Least}
 
 pub atMost-refl : (u : Value) → AtMost u u
 atMost-refl none = to-none
@@ -112,15 +112,16 @@ leastBelow-below (suc n) f {l} h = go (eq-or-lt-of-le h) (λ k. leastBelow-below
     go (inl e) ih = let d : l ≡ n = omega arith in rw d (lesser-second _ _)
     go (inr k) ih = atMost-trans (lesser-first _ _) (ih (omega arith))
 
-pub leastBelow-attained : (n : ℕ) (f : ℕ → Value) →
-    (leastBelow n f ≡ none) ⊎ ((l : ℕ) × (l < n) × (leastBelow n f ≡ f l))
+pub leastBelow-attained : (n : ℕ) (f : ℕ → Value) → Attained (λ (l : ℕ). l < n) f (leastBelow n f)
 unfolding leastBelow
 leastBelow-attained zero f = inl refl
 leastBelow-attained (suc n) f = go (lesser-either _ _) (leastBelow-attained n f)
   where
-    go : (lesser (leastBelow n f) (f n) ≡ leastBelow n f) ⊎ (lesser (leastBelow n f) (f n) ≡ f n) →
-        (leastBelow n f ≡ none) ⊎ ((l : ℕ) × (l < n) × (leastBelow n f ≡ f l)) →
-        (lesser (leastBelow n f) (f n) ≡ none) ⊎ ((l : ℕ) × (l < suc n) × (lesser (leastBelow n f) (f n) ≡ f l))
+    least : Value
+    least = lesser (leastBelow n f) (f n)
+
+    go : (least ≡ leastBelow n f) ⊎ (least ≡ f n) → Attained (λ (l : ℕ). l < n) f (leastBelow n f) →
+        Attained (λ (l : ℕ). l < suc n) f least
     go (inl e) (inl d) = inl (e ∙ d)
     go (inl e) (inr (l, h, d)) = inr (l, omega arith, e ∙ d)
     go (inr e) d = inr (n, omega arith, e)
@@ -130,6 +131,6 @@ pub least-unique : {A : Type 0} {Has : A → Type 0} {worth : A → Value} {u v 
     Least Has worth u → Least Has worth v → u ≡ v
 least-unique {A} {Has} {worth} p q = atMost-antisym (ordered p (q .attained)) (ordered q (p .attained))
   where
-    ordered : {s t : Value} → Least Has worth s → (t ≡ none) ⊎ ((a : A) × Has a × (t ≡ worth a)) → AtMost s t
+    ordered : {s t : Value} → Least Has worth s → Attained Has worth t → AtMost s t
     ordered r (inl e) = rw e to-none
     ordered r (inr (a, h, e)) = rw e (r .below a h)

@@ -43,10 +43,14 @@ pub data AtMost : Value → Value → Type 0 where
   cheaper : {a x b y : ℕ} → a < b → AtMost (pair a x) (pair b y)
   tied : {a x b y : ℕ} → a ≡ b → x ≤ y → AtMost (pair a x) (pair b y)
 
+-- v is what something with the property is worth, or none
+abbrev pub Attained : {A : Type 0} → (A → Type 0) → (A → Value) → Value → Type 0
+Attained {A} Has worth v = (v ≡ none) ⊎ ((a : A) × Has a × (v ≡ worth a))
+
 -- v is the least worth of all that has the property, and none where nothing has it
 pub record Least {A : Type 0} (Has : A → Type 0) (worth : A → Value) (v : Value) : Type 0 where
   pub below : (a : A) → Has a → AtMost v (worth a)
-  pub attained : (v ≡ none) ⊎ ((a : A) × Has a × (v ≡ worth a))
+  pub attained : Attained Has worth v
 
 -- a value of cost at most `most` with a key below `keys`, or none
 pub data Within (most keys : ℕ) : Value → Type 0 where
