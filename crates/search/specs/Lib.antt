@@ -6,3 +6,5 @@ pub mod Partition
 pub mod Choice
 pub mod Keeping
 pub mod RowLaws
+pub mod Peeling
+pub mod PartitionLaws

@@ -1,12 +1,13 @@
 -- A row's value is the least worth of the plans that keep exactly its set on core 0.
 use Prim.Native.Nat.{ℕ, zero, suc, pred, _+_, _*_, _-_, _/_, _%_, _^_, _≤_, _<_}
 use mathlib.Core.Path.{_≡_, refl, sym, ap, _∙_}
-use mathlib.Core.Logic.{_⊎_, inl, inr}
+use mathlib.Core.Logic.{_⊎_, inl, inr, _≢_}
 use mathlib.Core.Bool.{Bool, true, false, cond, not, _&&_}
 use mathlib.Core.List.{List, [], _∷_}
-use native.Mathlib.Nat.{one-mul, mod-eq-of-lt, div-eq-of-lt, zero-add, zero-mul}
+use native.Mathlib.Nat.{one-mul, mod-eq-of-lt, zero-add, zero-mul}
 use native.Mathlib.Omega.{arith}
-use borrow.Author.Tests.{le-leb, leb-true}
+use borrow.Author.Tests.{le-leb, leb-true, eq-eqb, ne-eqb}
+use lib.Arith.{digits-div, digits-mod}
 use lib.Dec.{eqb, leb, eqb·suc-zero}
 use lib.ListN.{length}
 use Rattle.search.specs.Assignment.{Item, choiceLoad, coreLoad}
@@ -29,10 +30,15 @@ pub refused-worth : (levels : ℕ) (item : Item) (items : List Item) (plan : Lis
 unfolding keptWorth keptCost planKey keptChoiceCost
 refused-worth levels item items plan = simp (zero-mul, zero-add)
 
--- on core 0 the level is the choice less one
+-- level l of core k is choice 1 + k × levels + l, and loads that core alone
 
-level-load : (levels : ℕ) (item : Item) {l : ℕ} → l < levels → choiceLoad levels 0 item (suc l) ≡ item .load l
-level-load levels item {l} h = kept-load levels 0 item l ∙ rw (div-eq-of-lt h, mod-eq-of-lt h)
+pub level-load : (levels k : ℕ) (item : Item) (d : ℕ) {l : ℕ} → l < levels → d ≡ k * levels + l →
+    choiceLoad levels k item (suc d) ≡ item .load l
+level-load levels k item d h e =
+    kept-load levels k item d ∙ rw (e, digits-div k h, digits-mod k h, eq-eqb k k refl)
+
+pub other-load : (levels k : ℕ) (item : Item) (d : ℕ) → d / levels ≢ k → choiceLoad levels k item (suc d) ≡ 0
+other-load levels k item d h = kept-load levels k item d ∙ rw (ne-eqb (d / levels) k h)
 
 level-worth : {levels : ℕ} (item : Item) (items : List Item) (plan : List ℕ) (l : ℕ) → l < levels →
     keptWorth levels (item ∷ items) (suc l ∷ plan)
@@ -54,7 +60,7 @@ row-below w done fits = atMost-refl (pair 0 0)
 row-below {levels} w (refused {item} {items} {plan = plan} k) fits =
     rw refused-worth (row-below w k (omega (arith, refused-load levels 0 item)))
 row-below {levels} w (kept {item} {items} {S = T} {plan} l h k) fits =
-    let load = level-load levels item h in
+    let load = level-load levels 0 item l h (omega arith) in
     let rest = row-below (w - item .load l) k (omega arith) in
     let room : item .load l ≤ w = omega arith in
     atMost-trans (leastBelow-below levels (atLevel item (length items) (row levels items T) w) h)
@@ -93,7 +99,7 @@ level-attained {levels} {item} {items} {T} {w} {l} rest h tail = go (leb (item .
     go false e a = inl refl
     go true e (inl d) = inl (rw d)
     go true e (inr (plan, on, d)) =
-        let load = level-load levels item h in
+        let load = level-load levels 0 item l h (omega arith) in
         let room = leb-true (item .load l) w e in
         inr (
           suc l ∷ plan,

@@ -81,21 +81,21 @@ picked u v = go (isAtMost u v) refl
     go true e = first (test-atMost u v e)
     go false e = second (test-above u v e)
 
-lesser-first : (u v : Value) → AtMost (lesser u v) u
+pub lesser-first : (u v : Value) → AtMost (lesser u v) u
 lesser-first u v = go (lesser u v) (picked u v)
   where
     go : (w : Value) → Picked u v w → AtMost w u
     go w (first h) = atMost-refl u
     go w (second h) = h
 
-lesser-second : (u v : Value) → AtMost (lesser u v) v
+pub lesser-second : (u v : Value) → AtMost (lesser u v) v
 lesser-second u v = go (lesser u v) (picked u v)
   where
     go : (w : Value) → Picked u v w → AtMost w v
     go w (first h) = h
     go w (second h) = atMost-refl v
 
-lesser-either : (u v : Value) → (lesser u v ≡ u) ⊎ (lesser u v ≡ v)
+pub lesser-either : (u v : Value) → (lesser u v ≡ u) ⊎ (lesser u v ≡ v)
 lesser-either u v = go (lesser u v) (picked u v)
   where
     go : (w : Value) → Picked u v w → (w ≡ u) ⊎ (w ≡ v)
