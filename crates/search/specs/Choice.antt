@@ -1,12 +1,12 @@
 -- The value of the best plan, over every set that may be kept, and the plan that its key stands for.
-use Prim.Native.Nat.{ℕ, zero, suc, pred, _+_, _/_, _%_, _^_}
+use Prim.Native.Nat.{ℕ, zero, suc, _+_, _/_, _%_, _^_}
 use mathlib.Core.Bool.{Bool, true, false, cond}
 use mathlib.Core.List.{List, [], _∷_}
 use lib.ListN.{length}
 use Rattle.search.specs.Assignment.{Item, Options}
 use Rattle.search.specs.Values.{Value, none, pair, add, lesser}
 use Rattle.search.specs.Rows.{keyBase}
-use Rattle.search.specs.Partition.{best}
+use Rattle.search.specs.Partition.{bestOf}
 
 -- the least f kept over all sets that hold every item that must be kept
 unfoldable pub leastHolding : List Item → (List Bool → Value) → Value
@@ -21,7 +21,7 @@ refusals (item ∷ items) [] = 0
 refusals (item ∷ items) (b ∷ S) = cond b 0 (item .refusal) + refusals items S
 
 unfoldable pub chosen : Options → Value
-chosen o = leastHolding (o .items) (λ S. add (pair (refusals (o .items) S) 0) (best o (pred (o .cores)) S))
+chosen o = leastHolding (o .items) (λ S. add (pair (refusals (o .items) S) 0) (bestOf o S))
 
 -- the last n digits of a key
 unfoldable pub digits : ℕ → ℕ → List ℕ

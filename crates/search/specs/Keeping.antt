@@ -3,7 +3,7 @@ use Prim.Native.Nat.{ℕ, zero, suc, _+_, _*_, _%_, _^_, _≤_, _<_}
 use mathlib.Core.Bool.{Bool, true, false}
 use mathlib.Core.List.{List, [], _∷_}
 use lib.ListN.{length}
-use Rattle.search.specs.Assignment.{Item, coreLoad}
+use Rattle.search.specs.Assignment.{Item, Options, coreLoad, totalCost}
 use Rattle.search.specs.Values.{Value, pair}
 use Rattle.search.specs.Rows.{keyBase}
 
@@ -37,3 +37,6 @@ planKey (item ∷ items) (c ∷ plan) = c * keyBase ^ length items + planKey ite
 
 unfoldable pub keptWorth : ℕ → List Item → List ℕ → Value
 keptWorth levels items plan = pair (keptCost levels items plan) (planKey items plan)
+
+unfoldable pub planWorth : Options → List ℕ → Value
+planWorth o plan = pair (totalCost (o .levels) (o .items) plan) (planKey (o .items) plan)

@@ -8,3 +8,4 @@ pub mod Keeping
 pub mod RowLaws
 pub mod Peeling
 pub mod PartitionLaws
+pub mod ChoiceLaws

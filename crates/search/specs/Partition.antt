@@ -1,6 +1,6 @@
 -- The least value of running exactly the items of a set on several cores: one core takes a part of it, the cores below
 -- it the rest.
-use Prim.Native.Nat.{ℕ, zero, suc, _+_, _*_, _^_}
+use Prim.Native.Nat.{ℕ, zero, suc, pred, _+_, _*_, _^_}
 use mathlib.Core.Bool.{Bool, true, false, cond}
 use mathlib.Core.List.{List, [], _∷_}
 use lib.ListN.{length}
@@ -30,3 +30,7 @@ movedRow o c T =
 unfoldable pub best : Options → ℕ → List Bool → Value
 best o zero S = row (o .levels) (o .items) S (o .capacity)
 best o (suc c) S = leastSplit S (λ T R. add (movedRow o (suc c) T) (best o c R))
+
+-- on all cores, of which there is one at least
+unfoldable pub bestOf : Options → List Bool → Value
+bestOf o = best o (pred (o .cores))

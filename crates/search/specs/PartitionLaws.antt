@@ -1,5 +1,5 @@
 -- A partition's value is the least worth of the plans that keep exactly its set on its cores.
-use Prim.Native.Nat.{ℕ, zero, suc, _+_, _*_, _≤_, _<_}
+use Prim.Native.Nat.{ℕ, zero, suc, pred, _+_, _*_, _≤_, _<_}
 use mathlib.Core.Path.{_≡_, refl, sym, ap, ap₂, _∙_}
 use mathlib.Core.Logic.{_⊎_, inl, inr}
 use mathlib.Core.Bool.{Bool, true, false}
@@ -11,7 +11,7 @@ use Rattle.search.specs.Values.{Value, none, pair, add, lesser, AtMost, 
 use Rattle.search.specs.ValueLaws.{atMost-refl, atMost-trans, add-mono, lesser-first, lesser-second, lesser-either}
 use Rattle.search.specs.Rows.{row}
 use Rattle.search.specs.RowLaws.{row-least}
-use Rattle.search.specs.Partition.{leastSplit, weight, movedRow, best}
+use Rattle.search.specs.Partition.{leastSplit, weight, movedRow, best, bestOf}
 use Rattle.search.specs.Keeping.{Keeps, Runs, keptCost, planKey, keptWorth}
 use Rattle.search.specs.Peeling.{Parts, nothing, neither, first, second, Peels, Peeled, peels-parts, peels-top, peels-rest, peels-plan, peeled, merged, peels-cost, peels-key, peels-top-load, peels-rest-load}
 
@@ -125,3 +125,9 @@ best-least o (suc c) S =
     go : {v : Value} → SplitAt S (λ T R. add (movedRow o (suc c) T) (best o c R)) v →
         ((R : List Bool) → Least (On o c R) (worthFor o) (best o c R)) → Attained (On o (suc c) S) (worthFor o) v
     go s rest-least = rw (s .value) (parts-attained o c (rest-least (s .others) .attained) (s .parts))
+
+pub bestOf-least : (o : Options) → 0 < o .cores → (S : List Bool) →
+    Least (Runs (o .levels) (o .capacity) (o .cores) (o .items) S) (keptWorth (o .levels) (o .items)) (bestOf o S)
+unfolding bestOf
+bestOf-least o some-core S =
+    let last : suc (pred (o .cores)) ≡ o .cores = omega arith in rw last at (best-least o (pred (o .cores)) S)
