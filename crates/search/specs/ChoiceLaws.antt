@@ -13,10 +13,10 @@ use Rattle.search.specs.ValueLaws.{atMost-refl, atMost-trans, add-mono, 
 use Rattle.search.specs.Partition.{bestOf}
 use Rattle.search.specs.PartitionLaws.{bestOf-least}
 use Rattle.search.specs.Choice.{leastHolding, refusals, chosen}
-use Rattle.search.specs.Keeping.{Keeps, done, refused, kept, Runs, keptChoiceCost, keptCost, planKey, keptWorth, planWorth}
+use Rattle.search.specs.Keeping.{Keeps, done, refused, kept, RunsSet, keptChoiceCost, keptCost, planKey, keptWorth, planWorth}
 
 -- the set holds every item that must be kept
-data Holds : List Item → List Bool → Type 0 where
+pub data Holds : List Item → List Bool → Type 0 where
   nothing : Holds [] []
   without : {item : Item} {items : List Item} {S : List Bool} → item .must ≡ false → Holds items S → Holds (item ∷ items) (false ∷ S)
   with-it : {item : Item} {items : List Item} {S : List Bool} → Holds items S → Holds (item ∷ items) (true ∷ S)
@@ -43,12 +43,12 @@ leastHolding-attained (item ∷ items) f =
 
 -- an allowed plan keeps exactly one set, which holds every item that must be kept
 
-record KeptSet (most : ℕ) (items : List Item) (plan : List ℕ) : Type 0 where
-  set : List Bool
-  keeps : Keeps most items set plan
-  holds : Holds items set
+pub record KeptSet (most : ℕ) (items : List Item) (plan : List ℕ) : Type 0 where
+  pub set : List Bool
+  pub keeps : Keeps most items set plan
+  pub holds : Holds items set
 
-kept-set : {most : ℕ} {items : List Item} {plan : List ℕ} → ChoicesAllowed most items plan → KeptSet most items plan
+pub kept-set : {most : ℕ} {items : List Item} {plan : List ℕ} → ChoicesAllowed most items plan → KeptSet most items plan
 kept-set ChoicesAllowed.none = record { set = []; keeps = done; holds = nothing }
 kept-set {most} (more {item} {items} {c = zero} {plan} allowed choices) = go (item .must) refl (kept-set choices)
   where
@@ -80,7 +80,7 @@ unfolding planWorth keptWorth add
 plan-worth o k = ap₂ pair (total-cost (o .levels) k) (omega arith)
 
 set-attained : (o : Options) {S : List Bool} → Holds (o .items) S → {v : Value} →
-    Attained (Runs (o .levels) (o .capacity) (o .cores) (o .items) S) (keptWorth (o .levels) (o .items)) v →
+    Attained (RunsSet o S) (keptWorth (o .levels) (o .items)) v →
     Attained (Allowed o) (planWorth o) (add (pair (refusals (o .items) S) 0) v)
 unfolding add
 set-attained o holds (inl e) = inl (rw e)
@@ -101,8 +101,7 @@ chosen-least o some-core = record { below = lower; attained = go (leastHolding-a
     lower : (plan : List ℕ) → Allowed o plan → AtMost (chosen o) (planWorth o plan)
     lower plan allowed =
         let s = kept-set (allowed .choices) in
-        let runs : Runs (o .levels) (o .capacity) (o .cores) (o .items) (s .set) plan
-        = record { keeps = s .keeps; cores-fit = allowed .cores-fit } in
+        let runs : RunsSet o (s .set) plan = record { keeps = s .keeps; cores-fit = allowed .cores-fit } in
         atMost-trans (leastHolding-below withRefusals (s .holds))
         (rw (plan-worth o (s .keeps)) (add-mono (atMost-refl _) (bestOf-least o some-core (s .set) .below plan runs)))
 

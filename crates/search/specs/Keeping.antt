@@ -20,6 +20,10 @@ pub record Runs (levels capacity cores : ℕ) (items : List Item) (S : List Bool
   pub keeps : Keeps (cores * levels) items S plan
   pub cores-fit : (k : ℕ) → k < cores → coreLoad levels k items plan ≤ capacity
 
+-- on all cores
+abbrev pub RunsSet : Options → List Bool → List ℕ → Type 0
+RunsSet o S = Runs (o .levels) (o .capacity) (o .cores) (o .items) S
+
 unfoldable pub keptChoiceCost : ℕ → Item → ℕ → ℕ
 keptChoiceCost levels item zero = 0
 keptChoiceCost levels item (suc d) = item .cost (d % levels)

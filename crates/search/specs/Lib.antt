@@ -9,3 +9,6 @@ pub mod RowLaws
 pub mod Peeling
 pub mod PartitionLaws
 pub mod ChoiceLaws
+pub mod KeyLaws
+pub mod Cheapest
+pub mod SearchTheorem

@@ -12,7 +12,7 @@ use Rattle.search.specs.ValueLaws.{atMost-refl, atMost-trans, add-mono, 
 use Rattle.search.specs.Rows.{row}
 use Rattle.search.specs.RowLaws.{row-least}
 use Rattle.search.specs.Partition.{leastSplit, weight, movedRow, best, bestOf}
-use Rattle.search.specs.Keeping.{Keeps, Runs, keptCost, planKey, keptWorth}
+use Rattle.search.specs.Keeping.{Keeps, Runs, RunsSet, keptCost, planKey, keptWorth}
 use Rattle.search.specs.Peeling.{Parts, nothing, neither, first, second, Peels, Peeled, peels-parts, peels-top, peels-rest, peels-plan, peeled, merged, peels-cost, peels-key, peels-top-load, peels-rest-load}
 
 leastSplit-below : {S T R : List Bool} (f : List Bool → List Bool → Value) → Parts S T R → AtMost (leastSplit S f) (f T R)
@@ -127,7 +127,7 @@ best-least o (suc c) S =
     go s rest-least = rw (s .value) (parts-attained o c (rest-least (s .others) .attained) (s .parts))
 
 pub bestOf-least : (o : Options) → 0 < o .cores → (S : List Bool) →
-    Least (Runs (o .levels) (o .capacity) (o .cores) (o .items) S) (keptWorth (o .levels) (o .items)) (bestOf o S)
+    Least (RunsSet o S) (keptWorth (o .levels) (o .items)) (bestOf o S)
 unfolding bestOf
 bestOf-least o some-core S =
     let last : suc (pred (o .cores)) ≡ o .cores = omega arith in rw last at (best-least o (pred (o .cores)) S)

@@ -126,6 +126,9 @@ leastBelow-attained (suc n) f = go (lesser-either _ _) (leastBelow-attained n f)
     go (inl e) (inr (l, h, d)) = inr (l, omega arith, e ∙ d)
     go (inr e) d = inr (n, omega arith, e)
 
+pub none-above : {a x : ℕ} → ¬ (AtMost none (pair a x))
+none-above h = elim h [ ]
+
 -- leasts of one set are equal
 pub least-unique : {A : Type 0} {Has : A → Type 0} {worth : A → Value} {u v : Value} →
     Least Has worth u → Least Has worth v → u ≡ v
