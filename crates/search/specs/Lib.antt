@@ -12,3 +12,4 @@ pub mod ChoiceLaws
 pub mod KeyLaws
 pub mod Cheapest
 pub mod SearchTheorem
+pub mod Bounds

@@ -128,9 +128,9 @@ peels-key (neither p) = let tail = peels-key p in omega arith
 peels-key (on-core d l h e p) = let tail = peels-key p in rw e (omega arith)
 peels-key (below d h p) = let tail = peels-key p in omega arith
 
-core-below : (levels : ℕ) {c d : ℕ} → d < c * levels → d / levels < c
-core-below zero h = absurd (omega arith)
-core-below (suc levels) h = div-lt-iff-lt-mul (zero-lt-suc levels) .1 h
+pub some-level : (cores levels : ℕ) {d : ℕ} → d < cores * levels → zero < levels
+some-level cores zero h = absurd (omega arith)
+some-level cores (suc levels) h = zero-lt-suc levels
 
 pub peels-top-load : {levels c : ℕ} {items : List Item} {S T R : List Bool} {plan top rest : List ℕ} →
     Peels levels c items S T R plan top rest → coreLoad levels c items plan ≡ coreLoad levels 0 items top
@@ -143,7 +143,7 @@ peels-top-load {levels} {c} (on-core {item} d l h e p) =
     omega (arith, level-load levels c item d h e, level-load levels 0 item l h (omega arith))
 peels-top-load {levels} {c} (below {item} d h p) =
     let tail = peels-top-load p in
-    let lower = core-below levels h in
+    let lower = div-lt-iff-lt-mul (some-level c levels h) .1 h in
     omega (arith, other-load levels c item d (omega arith), refused-load levels 0 item)
 
 pub peels-rest-load : {levels c k : ℕ} {items : List Item} {S T R : List Bool} {plan top rest : List ℕ} → k < c →
