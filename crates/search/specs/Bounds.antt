@@ -1,7 +1,7 @@
 -- How large values grow: what 64-bit numbers have to hold.
-use Prim.Native.Nat.{ℕ, zero, suc, _+_, _*_, _/_, _%_, _^_, _≤_, _<_}
-use mathlib.Core.Path.{_≡_, refl, sym}
-use mathlib.Core.Logic.{_⊎_, inl, inr}
+use Prim.Native.Nat.{ℕ, suc, _*_, _/_, _%_, _^_, _≤_, _<_}
+use mathlib.Core.Path.{sym}
+use mathlib.Core.Logic.{inl, inr}
 use mathlib.Core.Bool.{Bool, true, false}
 use mathlib.Core.List.{List, [], _∷_}
 use native.Mathlib.Nat.{pow-zero, pow-succ', pow-le-pow-right, mod-lt, div-add-mod', div-lt-iff-lt-mul, one-mul, le-refl, one-le-pow}
@@ -9,13 +9,13 @@ use native.Mathlib.Omega.{arith}
 use lib.Arith.{digits-lt}
 use lib.ListN.{length}
 use Rattle.search.specs.Assignment.{Item, Options, coreLoad}
-use Rattle.search.specs.Values.{Value, none, pair, Attained, Within, absent, present}
+use Rattle.search.specs.Values.{Value, Attained, Within, absent, present}
 use Rattle.search.specs.Rows.{keyBase, row}
-use Rattle.search.specs.RowLaws.{level-load, row-least}
-use Rattle.search.specs.Peeling.{some-level}
+use Rattle.search.specs.RowLaws.{row-least}
+use Rattle.search.specs.KeepingLaws.{level-load, some-level}
 use Rattle.search.specs.Partition.{weight, best}
 use Rattle.search.specs.PartitionLaws.{best-least}
-use Rattle.search.specs.Keeping.{Keeps, done, refused, kept, Runs, keptChoiceCost, keptCost, planKey, keptWorth}
+use Rattle.search.specs.Keeping.{Keeps, done, refused, kept, Runs, keptChoiceCost, keptCost, keptWorth}
 use Rattle.search.specs.KeyLaws.{keeps-in-base, key-below}
 
 -- no level that fits a core costs more than `most`
@@ -48,12 +48,14 @@ runs-within : {levels capacity most cores w : ℕ} {items : List Item} {S : List
 unfolding keptWorth
 runs-within small costs le (inl e) = rw e absent
 runs-within small costs le (inr (plan, runs, e)) =
-    rw e (present (runs-cost costs (runs .keeps) (λ k h. omega (arith, runs .cores-fit k h))) (key-below (keeps-in-base small (runs .keeps))))
+    let cost = runs-cost costs (runs .keeps) (λ k h. omega (arith, runs .cores-fit k h)) in
+    rw e (present cost (key-below (keeps-in-base small (runs .keeps))))
 
 pub row-within : {levels capacity most : ℕ} {items : List Item} (T : List Bool) {w : ℕ} → levels < keyBase →
     CostsAtMost levels capacity most items → w ≤ capacity →
     Within (length items * most) (keyBase ^ length items) (row levels items T w)
-row-within {levels} {items = items} T {w} small costs le = runs-within (rw one-mul small) costs le (row-least levels items T w .attained)
+row-within {levels} {items = items} T {w} small costs le =
+    runs-within (rw one-mul small) costs le (row-least levels items T w .attained)
 
 pub best-within : (o : Options) (c : ℕ) (S : List Bool) {most : ℕ} → suc c * o .levels < keyBase →
     CostsAtMost (o .levels) (o .capacity) most (o .items) →

@@ -12,11 +12,15 @@ use Rattle.search.specs.Choice.{digits}
 use Rattle.search.specs.Keeping.{planKey}
 use Rattle.search.specs.KeyLaws.{InBase, digits-key, key-order}
 
+-- cheaper, or as cheap and not after
+abbrev pub NoWorseBy : (List ℕ → ℕ) → List ℕ → List ℕ → Type 0
+NoWorseBy cost plan other =
+    (cost plan < cost other) ⊎ ((cost plan ≡ cost other) × ((plan ≡ other) ⊎ Before plan other))
+
 -- of the plans with a property, the first of least cost
 pub record FirstCheapest (Has : List ℕ → Type 0) (cost : List ℕ → ℕ) (plan : List ℕ) : Type 0 where
   pub has : Has plan
-  pub no-worse : (other : List ℕ) → Has other →
-      (cost plan < cost other) ⊎ ((cost plan ≡ cost other) × ((plan ≡ other) ⊎ Before plan other))
+  pub no-worse : (other : List ℕ) → Has other → NoWorseBy cost plan other
 
 -- what a value says of them: that there is none, or the least cost and, by its key, the plan
 abbrev pub Answers : List Item → (List ℕ → Type 0) → (List ℕ → ℕ) → Value → Type 0
@@ -32,8 +36,7 @@ least-answers items Has cost in-base v least = go v (least .below) (least .attai
     worth : List ℕ → Value
     worth plan = pair (cost plan) (planKey items plan)
 
-    no-worse : {plan other : List ℕ} → Has plan → Has other → AtMost (worth plan) (worth other) →
-        (cost plan < cost other) ⊎ ((cost plan ≡ cost other) × ((plan ≡ other) ⊎ Before plan other))
+    no-worse : {plan other : List ℕ} → Has plan → Has other → AtMost (worth plan) (worth other) → NoWorseBy cost plan other
     no-worse a b (cheaper h) = inl h
     no-worse a b (tied e h) = inr (e, key-order (in-base _ a) (in-base _ b) h)
 

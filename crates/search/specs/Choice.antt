@@ -2,7 +2,6 @@
 use Prim.Native.Nat.{ℕ, zero, suc, _+_, _/_, _%_, _^_}
 use mathlib.Core.Bool.{Bool, true, false, cond}
 use mathlib.Core.List.{List, [], _∷_}
-use lib.ListN.{length}
 use Rattle.search.specs.Assignment.{Item, Options}
 use Rattle.search.specs.Values.{Value, none, pair, add, lesser}
 use Rattle.search.specs.Rows.{keyBase}

@@ -1,27 +1,29 @@
 -- The chosen value is the least total cost and key of the allowed plans.
-use Prim.Native.Nat.{ℕ, zero, suc, pred, _+_, _*_, _%_, _≤_, _<_, zero-le}
+use Prim.Native.Nat.{ℕ, zero, suc, _+_, _<_, zero-le}
 use mathlib.Core.Path.{_≡_, refl, sym, ap, ap₂, _∙_}
 use mathlib.Core.Logic.{_⊎_, inl, inr}
 use mathlib.Core.Bool.{Bool, true, false, cond, true≢false}
 use mathlib.Core.List.{List, [], _∷_}
 use native.Mathlib.Nat.{suc-ne-zero}
 use native.Mathlib.Omega.{arith}
-use lib.Dec.{eqb, eqb·suc-zero}
-use Rattle.search.specs.Assignment.{Item, Options, choiceCost, totalCost, coreLoad, ChoiceAllowed, ChoicesAllowed, more, Allowed}
-use Rattle.search.specs.Values.{Value, none, pair, add, lesser, AtMost, to-none, Attained, Least}
+use lib.Dec.{eqb·suc-zero}
+use Rattle.search.specs.Assignment.{Item, Options, choiceCost, totalCost, ChoicesAllowed, more, Allowed}
+use Rattle.search.specs.Values.{Value, none, pair, add, AtMost, Attained, Least}
 use Rattle.search.specs.ValueLaws.{atMost-refl, atMost-trans, add-mono, lesser-first, lesser-second, lesser-either}
 use Rattle.search.specs.Partition.{bestOf}
 use Rattle.search.specs.PartitionLaws.{bestOf-least}
 use Rattle.search.specs.Choice.{leastHolding, refusals, chosen}
-use Rattle.search.specs.Keeping.{Keeps, done, refused, kept, RunsSet, keptChoiceCost, keptCost, planKey, keptWorth, planWorth}
+use Rattle.search.specs.Keeping.{Keeps, done, refused, kept, RunsSet, keptChoiceCost, keptCost, keptWorth, planWorth}
 
 -- the set holds every item that must be kept
 pub data Holds : List Item → List Bool → Type 0 where
   nothing : Holds [] []
-  without : {item : Item} {items : List Item} {S : List Bool} → item .must ≡ false → Holds items S → Holds (item ∷ items) (false ∷ S)
+  without : {item : Item} {items : List Item} {S : List Bool} → item .must ≡ false → Holds items S →
+      Holds (item ∷ items) (false ∷ S)
   with-it : {item : Item} {items : List Item} {S : List Bool} → Holds items S → Holds (item ∷ items) (true ∷ S)
 
-leastHolding-below : {items : List Item} {S : List Bool} (f : List Bool → Value) → Holds items S → AtMost (leastHolding items f) (f S)
+leastHolding-below : {items : List Item} {S : List Bool} (f : List Bool → Value) → Holds items S →
+    AtMost (leastHolding items f) (f S)
 unfolding leastHolding
 leastHolding-below f nothing = atMost-refl (f [])
 leastHolding-below f (without e h) = atMost-trans (lesser-first _ _) (rw e (leastHolding-below (λ S. f (false ∷ S)) h))
@@ -31,15 +33,21 @@ leastHolding-attained : (items : List Item) (f : List Bool → Value) → Attain
 unfolding leastHolding
 leastHolding-attained [] f = inr ([], nothing, refl)
 leastHolding-attained (item ∷ items) f =
-    go (item .must) refl (lesser-either _ _) (leastHolding-attained items (λ S. f (false ∷ S))) (leastHolding-attained items (λ S. f (true ∷ S)))
+    go (item .must) refl (lesser-either _ _) (leastHolding-attained items out) (leastHolding-attained items in-it)
   where
+    out : List Bool → Value
+    out S = f (false ∷ S)
+
+    in-it : List Bool → Value
+    in-it S = f (true ∷ S)
+
     go : {u v w : Value} (must : Bool) → item .must ≡ must → (w ≡ cond must none u) ⊎ (w ≡ v) →
-        Attained (Holds items) (λ S. f (false ∷ S)) u → Attained (Holds items) (λ S. f (true ∷ S)) v → Attained (Holds (item ∷ items)) f w
-    go true e (inl d) out in-it = inl d
-    go false e (inl d) (inl a) in-it = inl (d ∙ a)
-    go false e (inl d) (inr (S, h, a)) in-it = inr (false ∷ S, without e h, d ∙ a)
-    go must e (inr d) out (inl a) = inl (d ∙ a)
-    go must e (inr d) out (inr (S, h, a)) = inr (true ∷ S, with-it h, d ∙ a)
+        Attained (Holds items) out u → Attained (Holds items) in-it v → Attained (Holds (item ∷ items)) f w
+    go true e (inl d) a b = inl d
+    go false e (inl d) (inl a) b = inl (d ∙ a)
+    go false e (inl d) (inr (S, h, a)) b = inr (false ∷ S, without e h, d ∙ a)
+    go must e (inr d) a (inl b) = inl (d ∙ b)
+    go must e (inr d) a (inr (S, h, b)) = inr (true ∷ S, with-it h, d ∙ b)
 
 -- an allowed plan keeps exactly one set, which holds every item that must be kept
 
@@ -59,8 +67,8 @@ kept-set (more {c = suc d} allowed choices) =
     let s = kept-set choices in
     record { set = true ∷ s .set; keeps = kept d (allowed .in-range) (s .keeps); holds = with-it (s .holds) }
 
-choices-allowed : {most : ℕ} {items : List Item} {S : List Bool} {plan : List ℕ} → Keeps most items S plan → Holds items S →
-    ChoicesAllowed most items plan
+choices-allowed : {most : ℕ} {items : List Item} {S : List Bool} {plan : List ℕ} → Keeps most items S plan →
+    Holds items S → ChoicesAllowed most items plan
 choices-allowed done nothing = ChoicesAllowed.none
 choices-allowed (refused k) (without e h) =
     more (record { in-range = zero-le; kept = λ must z. true≢false (sym must ∙ e) }) (choices-allowed k h)

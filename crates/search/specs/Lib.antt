@@ -1,10 +1,12 @@
 pub mod Assignment
 pub mod Values
 pub mod ValueLaws
+pub mod Words
 pub mod Rows
 pub mod Partition
 pub mod Choice
 pub mod Keeping
+pub mod KeepingLaws
 pub mod RowLaws
 pub mod Peeling
 pub mod PartitionLaws

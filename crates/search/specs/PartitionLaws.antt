@@ -1,19 +1,20 @@
 -- A partition's value is the least worth of the plans that keep exactly its set on its cores.
-use Prim.Native.Nat.{ℕ, zero, suc, pred, _+_, _*_, _≤_, _<_}
+use Prim.Native.Nat.{ℕ, zero, suc, pred, _*_, _≤_, _<_}
 use mathlib.Core.Path.{_≡_, refl, sym, ap, ap₂, _∙_}
 use mathlib.Core.Logic.{_⊎_, inl, inr}
 use mathlib.Core.Bool.{Bool, true, false}
 use mathlib.Core.List.{List, [], _∷_}
-use native.Mathlib.Nat.{one-mul, eq-or-lt-of-le}
+use native.Mathlib.Nat.{eq-or-lt-of-le}
 use native.Mathlib.Omega.{arith}
 use Rattle.search.specs.Assignment.{Item, Options, coreLoad}
-use Rattle.search.specs.Values.{Value, none, pair, add, lesser, AtMost, Attained, Least}
+use Rattle.search.specs.Values.{Value, pair, add, AtMost, Attained, Least}
 use Rattle.search.specs.ValueLaws.{atMost-refl, atMost-trans, add-mono, lesser-first, lesser-second, lesser-either}
 use Rattle.search.specs.Rows.{row}
 use Rattle.search.specs.RowLaws.{row-least}
 use Rattle.search.specs.Partition.{leastSplit, weight, movedRow, best, bestOf}
-use Rattle.search.specs.Keeping.{Keeps, Runs, RunsSet, keptCost, planKey, keptWorth}
-use Rattle.search.specs.Peeling.{Parts, nothing, neither, first, second, Peels, Peeled, peels-parts, peels-top, peels-rest, peels-plan, peeled, merged, peels-cost, peels-key, peels-top-load, peels-rest-load}
+use Rattle.search.specs.Keeping.{Runs, RunsSet, keptWorth}
+use Rattle.search.specs.KeepingLaws.{one-core, one-core-keeps}
+use Rattle.search.specs.Peeling.{Parts, nothing, neither, first, second, Peels, peels-parts, peels-top, peels-rest, peels-plan, peeled, merged, peels-cost, peels-key, peels-top-load, peels-rest-load}
 
 leastSplit-below : {S T R : List Bool} (f : List Bool → List Bool → Value) → Parts S T R → AtMost (leastSplit S f) (f T R)
 unfolding leastSplit
@@ -35,10 +36,15 @@ leastSplit-attained (false ∷ S) f =
     let s = leastSplit-attained S (λ T R. f (false ∷ T) (false ∷ R)) in
     record { part = false ∷ s .part; others = false ∷ s .others; parts = neither (s .parts); value = s .value }
 leastSplit-attained (true ∷ S) f =
-    go (lesser-either _ _) (leastSplit-attained S (λ T R. f (true ∷ T) (false ∷ R))) (leastSplit-attained S (λ T R. f (false ∷ T) (true ∷ R)))
+    go (lesser-either _ _) (leastSplit-attained S in-first) (leastSplit-attained S in-second)
   where
-    go : {u v w : Value} → (w ≡ u) ⊎ (w ≡ v) → SplitAt S (λ T R. f (true ∷ T) (false ∷ R)) u → SplitAt S (λ T R. f (false ∷ T) (true ∷ R)) v →
-        SplitAt (true ∷ S) f w
+    in-first : List Bool → List Bool → Value
+    in-first T R = f (true ∷ T) (false ∷ R)
+
+    in-second : List Bool → List Bool → Value
+    in-second T R = f (false ∷ T) (true ∷ R)
+
+    go : {u v w : Value} → (w ≡ u) ⊎ (w ≡ v) → SplitAt S in-first u → SplitAt S in-second v → SplitAt (true ∷ S) f w
     go (inl e) s t =
         record { part = true ∷ s .part; others = false ∷ s .others; parts = first (s .parts); value = e ∙ s .value }
     go (inr e) s t =
@@ -55,15 +61,14 @@ peels-worth p = ap₂ pair (omega (arith, peels-cost p)) (peels-key p)
 -- a plan fits its cores when its parts fit theirs
 
 peels-runs-top : {levels capacity c : ℕ} {items : List Item} {S T R : List Bool} {plan top rest : List ℕ} →
-    Peels levels c items S T R plan top rest → Runs levels capacity (suc c) items S plan → Runs levels capacity 1 items T top
-peels-runs-top {levels} {capacity} {c} {items} {top = top} p runs =
-    record { keeps = rw one-mul (peels-top p); cores-fit = λ k h. let first-core : k ≡ 0 = omega arith in rw first-core fits }
-  where
-    fits : coreLoad levels 0 items top ≤ capacity
-    fits = omega (arith, peels-top-load p, runs .cores-fit c (omega arith))
+    Peels levels c items S T R plan top rest → Runs levels capacity (suc c) items S plan →
+    Runs levels capacity 1 items T top
+peels-runs-top {c = c} p runs =
+    one-core (peels-top p) (omega (arith, peels-top-load p, runs .cores-fit c (omega arith)))
 
 peels-runs-rest : {levels capacity c : ℕ} {items : List Item} {S T R : List Bool} {plan top rest : List ℕ} →
-    Peels levels c items S T R plan top rest → Runs levels capacity (suc c) items S plan → Runs levels capacity c items R rest
+    Peels levels c items S T R plan top rest → Runs levels capacity (suc c) items S plan →
+    Runs levels capacity c items R rest
 peels-runs-rest p runs =
     record { keeps = peels-rest p; cores-fit = λ k h. omega (arith, peels-rest-load h p, runs .cores-fit k (omega arith)) }
 
@@ -112,7 +117,7 @@ parts-attained o c {S} {T} {R} rest-attained parts = go (top-least o T .attained
     go {v = v} (inl d) rest = inl (ap (λ (u : Value). sum u v) d)
     go (inr (top, on-top, d)) (inl e) = inl (ap₂ sum d e)
     go (inr (top, on-top, d)) (inr (rest, on-rest, e)) =
-        let (plan, p) = merged {c = suc c} parts (rw one-mul at (on-top .keeps)) (on-rest .keeps) in
+        let (plan, p) = merged {c = suc c} parts (one-core-keeps on-top) (on-rest .keeps) in
         inr (plan, peels-runs p on-top on-rest, ap₂ sum d e ∙ sym (peels-worth p))
 
 pub best-least : (o : Options) (c : ℕ) (S : List Bool) →

@@ -1,21 +1,16 @@
 -- A plan on cores 0 to c is a plan on core 0, moved to core c, beside a plan on the cores below c.
-use Prim.Native.Nat.{ℕ, zero, suc, _+_, _*_, _-_, _/_, _%_, _^_, _≤_, _<_}
-use mathlib.Core.Path.{_≡_, refl, sym, ap, _∙_}
-use mathlib.Core.Logic.{_≢_}
-use mathlib.Core.Bool.{Bool, true, false, cond}
+use Prim.Native.Nat.{ℕ, suc, _+_, _*_, _-_, _/_, _%_, _<_}
+use mathlib.Core.Path.{_≡_, refl}
+use mathlib.Core.Bool.{Bool, true, false}
 use mathlib.Core.List.{List, [], _∷_}
-use native.Mathlib.Nat.{mul-add-mod-self-right, suc-mul, zero-lt-suc, div-lt-iff-lt-mul}
+use native.Mathlib.Nat.{mul-add-mod-self-right, suc-mul, div-lt-iff-lt-mul}
 use native.Mathlib.Decide.{decLt}
 use native.Mathlib.Omega.{arith}
-use borrow.Author.Tests.{eq-eqb, ne-eqb}
-use lib.Arith.{digits-div, digits-mod}
-use lib.Dec.{eqb}
-use lib.ListN.{length}
-use Rattle.search.specs.Assignment.{Item, choiceLoad, coreLoad}
-use Rattle.search.specs.Rows.{keyBase}
+use lib.Arith.{digits-div}
+use Rattle.search.specs.Assignment.{Item, coreLoad}
 use Rattle.search.specs.Partition.{weight}
-use Rattle.search.specs.RowLaws.{refused-load, level-load, other-load}
-use Rattle.search.specs.Keeping.{Keeps, done, refused, kept, Runs, keptChoiceCost, keptCost, planKey, keptWorth}
+use Rattle.search.specs.KeepingLaws.{refused-load, level-load, other-load, some-level}
+use Rattle.search.specs.Keeping.{Keeps, done, refused, kept, keptChoiceCost, keptCost, planKey}
 
 -- every item of a set is in one of two parts
 pub data Parts : List Bool → List Bool → List Bool → Type 0 where
@@ -81,12 +76,24 @@ pub peeled : {levels c : ℕ} {items : List Item} {S : List Bool} {plan : List �
 peeled done = record { part = []; others = []; top = []; rest = []; peels = nothing }
 peeled (refused k) =
     let q = peeled k in
-    record { part = false ∷ q .part; others = false ∷ q .others; top = 0 ∷ q .top; rest = 0 ∷ q .rest; peels = neither (q .peels) }
+    record {
+      part = false ∷ q .part;
+      others = false ∷ q .others;
+      top = 0 ∷ q .top;
+      rest = 0 ∷ q .rest;
+      peels = neither (q .peels);
+    }
 peeled {levels} {c} (kept {item} {items} {S} {plan} d h k) = go (decLt d (c * levels)) (peeled k)
   where
     go : Dec (d < c * levels) → Peeled levels c items S plan → Peeled levels c (item ∷ items) (true ∷ S) (suc d ∷ plan)
     go (yes under) q =
-        record { part = false ∷ q .part; others = true ∷ q .others; top = 0 ∷ q .top; rest = suc d ∷ q .rest; peels = below d under (q .peels) }
+        record {
+          part = false ∷ q .part;
+          others = true ∷ q .others;
+          top = 0 ∷ q .top;
+          rest = suc d ∷ q .rest;
+          peels = below d under (q .peels);
+        }
     go (no over) q =
         let l = d - c * levels in
         record {
@@ -127,10 +134,6 @@ peels-key nothing = omega arith
 peels-key (neither p) = let tail = peels-key p in omega arith
 peels-key (on-core d l h e p) = let tail = peels-key p in rw e (omega arith)
 peels-key (below d h p) = let tail = peels-key p in omega arith
-
-pub some-level : (cores levels : ℕ) {d : ℕ} → d < cores * levels → zero < levels
-some-level cores zero h = absurd (omega arith)
-some-level cores (suc levels) h = zero-lt-suc levels
 
 pub peels-top-load : {levels c : ℕ} {items : List Item} {S T R : List Bool} {plan top rest : List ℕ} →
     Peels levels c items S T R plan top rest → coreLoad levels c items plan ≡ coreLoad levels 0 items top

@@ -1,52 +1,19 @@
 -- A row's value is the least worth of the plans that keep exactly its set on core 0.
-use Prim.Native.Nat.{ℕ, zero, suc, pred, _+_, _*_, _-_, _/_, _%_, _^_, _≤_, _<_}
+use Prim.Native.Nat.{ℕ, suc, _*_, _-_, _^_, _≤_, _<_}
 use mathlib.Core.Path.{_≡_, refl, sym, ap, _∙_}
-use mathlib.Core.Logic.{_⊎_, inl, inr, _≢_}
-use mathlib.Core.Bool.{Bool, true, false, cond, not, _&&_}
+use mathlib.Core.Logic.{inl, inr}
+use mathlib.Core.Bool.{Bool, true, false, cond}
 use mathlib.Core.List.{List, [], _∷_}
-use native.Mathlib.Nat.{one-mul, mod-eq-of-lt, zero-add, zero-mul}
 use native.Mathlib.Omega.{arith}
-use borrow.Author.Tests.{le-leb, leb-true, eq-eqb, ne-eqb}
-use lib.Arith.{digits-div, digits-mod}
-use lib.Dec.{eqb, leb, eqb·suc-zero}
+use borrow.Author.Tests.{le-leb, leb-true}
+use lib.Dec.{leb}
 use lib.ListN.{length}
-use Rattle.search.specs.Assignment.{Item, choiceLoad, coreLoad}
+use Rattle.search.specs.Assignment.{Item, coreLoad}
 use Rattle.search.specs.Values.{Value, none, pair, add, leastBelow, AtMost, Attained, Least}
 use Rattle.search.specs.ValueLaws.{atMost-refl, atMost-trans, add-mono, leastBelow-below, leastBelow-attained}
 use Rattle.search.specs.Rows.{keyBase, atLevel, row}
-use Rattle.search.specs.Keeping.{Keeps, done, refused, kept, Runs, keptChoiceCost, keptCost, planKey, keptWorth}
-
-pub refused-load : (levels k : ℕ) (item : Item) → choiceLoad levels k item 0 ≡ 0
-unfolding choiceLoad
-refused-load levels k item = refl
-
-pub kept-load : (levels k : ℕ) (item : Item) (d : ℕ) →
-    choiceLoad levels k item (suc d) ≡ cond (eqb (d / levels) k) (item .load (d % levels)) 0
-unfolding choiceLoad
-kept-load levels k item d = rw eqb·suc-zero
-
-pub refused-worth : (levels : ℕ) (item : Item) (items : List Item) (plan : List ℕ) →
-    keptWorth levels (item ∷ items) (0 ∷ plan) ≡ keptWorth levels items plan
-unfolding keptWorth keptCost planKey keptChoiceCost
-refused-worth levels item items plan = simp (zero-mul, zero-add)
-
--- level l of core k is choice 1 + k × levels + l, and loads that core alone
-
-pub level-load : (levels k : ℕ) (item : Item) (d : ℕ) {l : ℕ} → l < levels → d ≡ k * levels + l →
-    choiceLoad levels k item (suc d) ≡ item .load l
-level-load levels k item d h e =
-    kept-load levels k item d ∙ rw (e, digits-div k h, digits-mod k h, eq-eqb k k refl)
-
-pub other-load : (levels k : ℕ) (item : Item) (d : ℕ) → d / levels ≢ k → choiceLoad levels k item (suc d) ≡ 0
-other-load levels k item d h = kept-load levels k item d ∙ rw (ne-eqb (d / levels) k h)
-
-level-worth : {levels : ℕ} (item : Item) (items : List Item) (plan : List ℕ) (l : ℕ) → l < levels →
-    keptWorth levels (item ∷ items) (suc l ∷ plan)
-    ≡ add (pair (item .cost l) (suc l * keyBase ^ length items)) (keptWorth levels items plan)
-unfolding keptWorth keptCost planKey keptChoiceCost add
-level-worth {levels} item items plan l h =
-    let tail = keptCost levels items plan in
-    ap (λ (m : ℕ). pair (item .cost m + tail) (suc l * keyBase ^ length items + planKey items plan)) (mod-eq-of-lt h)
+use Rattle.search.specs.KeepingLaws.{refused-load, level-load, refused-worth, level-worth, one-core, one-core-keeps}
+use Rattle.search.specs.Keeping.{Keeps, done, refused, kept, Runs, keptCost, planKey, keptWorth}
 
 atLevel-fits : (item : Item) (places : ℕ) (rest : ℕ → Value) {w l : ℕ} → item .load l ≤ w →
     atLevel item places rest w l ≡ add (pair (item .cost l) (suc l * keyBase ^ places)) (rest (w - item .load l))
@@ -64,23 +31,21 @@ row-below {levels} w (kept {item} {items} {S = T} {plan} l h k) fits =
     let rest = row-below (w - item .load l) k (omega arith) in
     let room : item .load l ≤ w = omega arith in
     atMost-trans (leastBelow-below levels (atLevel item (length items) (row levels items T) w) h)
-    (rw (atLevel-fits item (length items) (row levels items T) room, level-worth item items plan l h) (add-mono (atMost-refl _) rest))
+    (rw (atLevel-fits item (length items) (row levels items T) room, level-worth item items plan l h)
+    (add-mono (atMost-refl _) rest))
 
--- the plan keeps exactly the set on core 0, with load at most w
-record OnRow (levels w : ℕ) (items : List Item) (T : List Bool) (plan : List ℕ) : Type 0 where
-  keeps : Keeps levels items T plan
-  fits : coreLoad levels 0 items plan ≤ w
-
+-- v is what some plan that keeps exactly the set on core 0, with load at most w, is worth, or none
 abbrev RowAttains : ℕ → List Item → List Bool → ℕ → Value → Type 0
-RowAttains levels items T w v = Attained (OnRow levels w items T) (keptWorth levels items) v
+RowAttains levels items T w = Attained (Runs levels w 1 items T) (keptWorth levels items)
 
 refused-attained : {levels : ℕ} {item : Item} {items : List Item} {T : List Bool} {w : ℕ} {v : Value} →
     RowAttains levels items T w v → RowAttains levels (item ∷ items) (false ∷ T) w v
 unfolding coreLoad
 refused-attained (inl e) = inl e
-refused-attained {levels} {item} (inr (plan, on, e)) =
-    let load = refused-load levels 0 item in
-    inr (0 ∷ plan, record { keeps = refused (on .keeps); fits = omega arith }, rw refused-worth e)
+refused-attained {levels} {item} (inr (plan, runs, e)) =
+    let none-there = refused-load levels 0 item in
+    let fits = runs .cores-fit 0 (omega arith) in
+    inr (0 ∷ plan, one-core (refused (one-core-keeps runs)) (omega arith), rw refused-worth e)
 
 level-attained : {levels : ℕ} {item : Item} {items : List Item} {T : List Bool} {w l : ℕ} (rest : ℕ → Value) → l < levels →
     ((u : ℕ) → RowAttains levels items T u (rest u)) →
@@ -98,18 +63,19 @@ level-attained {levels} {item} {items} {T} {w} {l} rest h tail = go (leb (item .
         RowAttains levels (item ∷ items) (true ∷ T) w (cond t (add head (rest left)) none)
     go false e a = inl refl
     go true e (inl d) = inl (rw d)
-    go true e (inr (plan, on, d)) =
+    go true e (inr (plan, runs, d)) =
         let load = level-load levels 0 item l h (omega arith) in
         let room = leb-true (item .load l) w e in
+        let fits = runs .cores-fit 0 (omega arith) in
         inr (
           suc l ∷ plan,
-          record { keeps = kept l h (on .keeps); fits = omega arith },
+          one-core (kept l h (one-core-keeps runs)) (omega arith),
           ap (add head) d ∙ sym (level-worth item items plan l h),
         )
 
 row-attained : (levels : ℕ) (items : List Item) (T : List Bool) (w : ℕ) → RowAttains levels items T w (row levels items T w)
 unfolding row keptWorth keptCost planKey coreLoad
-row-attained levels [] [] w = inr ([], record { keeps = done; fits = omega arith }, refl)
+row-attained levels [] [] w = inr ([], one-core done (omega arith), refl)
 row-attained levels [] (b ∷ T) w = inl refl
 row-attained levels (item ∷ items) [] w = inl refl
 row-attained levels (item ∷ items) (false ∷ T) w = refused-attained (row-attained levels items T w)
@@ -129,17 +95,6 @@ pub row-least : (levels : ℕ) (items : List Item) (T : List Bool) (w : ℕ) →
     Least (Runs levels w 1 items T) (keptWorth levels items) (row levels items T w)
 row-least levels items T w =
     record {
-      below = λ plan runs. row-below w (rw one-mul at (runs .keeps)) (runs .cores-fit 0 (omega arith));
-      attained = go (row-attained levels items T w);
+      below = λ plan runs. row-below w (one-core-keeps runs) (runs .cores-fit 0 (omega arith));
+      attained = row-attained levels items T w;
     }
-  where
-    runs : {plan : List ℕ} → OnRow levels w items T plan → Runs levels w 1 items T plan
-    runs {plan} on = record {
-      keeps = rw one-mul (on .keeps);
-      cores-fit = λ k h. let d : k ≡ 0 = omega arith in rw d (on .fits);
-    }
-
-    go : RowAttains levels items T w (row levels items T w) →
-        Attained (Runs levels w 1 items T) (keptWorth levels items) (row levels items T w)
-    go (inl e) = inl e
-    go (inr (plan, on, e)) = inr (plan, runs on, e)

@@ -28,7 +28,8 @@ BestAnswers o (pair cost key) =
 pub search-finds-best : (o : Options) → 0 < o .cores → o .cores * o .levels < keyBase → BestAnswers o (chosen o)
 unfolding planWorth
 search-finds-best o some-core small =
-    go (chosen o) (least-answers (o .items) (Allowed o) (totalCost (o .levels) (o .items)) in-base (chosen o) (chosen-least o some-core))
+    go (chosen o)
+    (least-answers (o .items) (Allowed o) (totalCost (o .levels) (o .items)) in-base (chosen o) (chosen-least o some-core))
   where
     in-base : (plan : List ℕ) → Allowed o plan → InBase (o .items) plan
     in-base plan allowed = keeps-in-base small (kept-set (allowed .choices) .keeps)

@@ -1,8 +1,8 @@
 -- Values are ordered, sums keep the order, and the least of a set is one value.
-use Prim.Native.Nat.{ℕ, zero, suc, _+_, _<_, _≤_}
+use Prim.Native.Nat.{ℕ, zero, suc, _<_, _≤_}
 use mathlib.Core.Path.{_≡_, refl, _∙_}
 use mathlib.Core.Logic.{_⊎_, inl, inr, _≢_}
-use mathlib.Core.Bool.{Bool, true, false, cond, _&&_, _||_, true≢false, false≢true}
+use mathlib.Core.Bool.{Bool, true, false, cond, _&&_, _||_}
 use native.Mathlib.Nat.{le-refl, eq-or-lt-of-le}
 use native.Mathlib.Omega.{arith}
 use borrow.Author.Tests.{ltb-true, ltb-false, leb-true, leb-false, eqb-true, eqb-false}
@@ -12,6 +12,8 @@ use Rattle.search.specs.Values.{Value, none, pair, add, isAtMost, lesser
 pub atMost-refl : (u : Value) → AtMost u u
 atMost-refl none = to-none
 atMost-refl (pair a x) = tied refl (le-refl x)
+
+-- the two ways to come no later, as functions: `omega` finds their numbers in the goal
 
 by-cost : {a x b y : ℕ} → a < b → AtMost (pair a x) (pair b y)
 by-cost h = cheaper h
@@ -43,30 +45,24 @@ add-mono (cheaper h) (tied e k) = by-cost (omega arith)
 add-mono (tied e h) (cheaper k) = by-cost (omega arith)
 add-mono (tied e h) (tied d k) = by-key (omega arith) (omega arith)
 
-test-atMost : (u v : Value) → isAtMost u v ≡ true → AtMost u v
-unfolding isAtMost
-test-atMost u none e = to-none
-test-atMost none (pair b y) e = absurd (false≢true e)
-test-atMost (pair a x) (pair b y) e = go (ltb a b) (eqb a b) (leb x y) refl refl refl e
-  where
-    go : (p q r : Bool) → ltb a b ≡ p → eqb a b ≡ q → leb x y ≡ r → (p || (q && r)) ≡ true → AtMost (pair a x) (pair b y)
-    go true q r ep eq er e = cheaper (ltb-true a b ep)
-    go false true true ep eq er e = tied (eqb-true a b eq) (leb-true x y er)
-    go false true false ep eq er e = absurd (false≢true e)
-    go false false r ep eq er e = absurd (false≢true e)
+-- what the test tells
+data Compared (u v : Value) : Bool → Type 0 where
+  at-most : AtMost u v → Compared u v true
+  above : AtMost v u → Compared u v false
 
-test-above : (u v : Value) → isAtMost u v ≡ false → AtMost v u
+compared : (u v : Value) → Compared u v (isAtMost u v)
 unfolding isAtMost
-test-above u none e = absurd (true≢false e)
-test-above none (pair b y) e = to-none
-test-above (pair a x) (pair b y) e = go (ltb a b) (eqb a b) (leb x y) refl refl refl e
+compared u none = at-most to-none
+compared none (pair b y) = above to-none
+compared (pair a x) (pair b y) = go (ltb a b) (eqb a b) (leb x y) refl refl refl
   where
-    go : (p q r : Bool) → ltb a b ≡ p → eqb a b ≡ q → leb x y ≡ r → (p || (q && r)) ≡ false → AtMost (pair b y) (pair a x)
-    go true q r ep eq er e = absurd (true≢false e)
-    go false true true ep eq er e = absurd (true≢false e)
-    go false true false ep eq er e = let d : a ≡ b = eqb-true a b eq in by-key (omega arith) (omega (arith, leb-false x y er))
-    go false false r ep eq er e =
-        let d : a ≢ b = eqb-false a b eq in by-cost (omega (arith, ltb-false a b ep))
+    go : (p q r : Bool) → ltb a b ≡ p → eqb a b ≡ q → leb x y ≡ r → Compared (pair a x) (pair b y) (p || (q && r))
+    go true q r ep eq er = at-most (cheaper (ltb-true a b ep))
+    go false true true ep eq er = at-most (tied (eqb-true a b eq) (leb-true x y er))
+    go false true false ep eq er =
+        let same = eqb-true a b eq in above (by-key (omega arith) (omega (arith, leb-false x y er)))
+    go false false r ep eq er =
+        let other : a ≢ b = eqb-false a b eq in above (by-cost (omega (arith, ltb-false a b ep)))
 
 -- the lesser is one of the two, and no later than the other
 data Picked (u v : Value) : Value → Type 0 where
@@ -75,11 +71,11 @@ data Picked (u v : Value) : Value → Type 0 where
 
 picked : (u v : Value) → Picked u v (lesser u v)
 unfolding lesser
-picked u v = go (isAtMost u v) refl
+picked u v = go (isAtMost u v) (compared u v)
   where
-    go : (t : Bool) → isAtMost u v ≡ t → Picked u v (cond t u v)
-    go true e = first (test-atMost u v e)
-    go false e = second (test-above u v e)
+    go : (t : Bool) → Compared u v t → Picked u v (cond t u v)
+    go true (at-most h) = first h
+    go false (above h) = second h
 
 pub lesser-first : (u v : Value) → AtMost (lesser u v) u
 lesser-first u v = go (lesser u v) (picked u v)
@@ -101,6 +97,20 @@ lesser-either u v = go (lesser u v) (picked u v)
     go : (w : Value) → Picked u v w → (w ≡ u) ⊎ (w ≡ v)
     go w (first h) = inl refl
     go w (second h) = inr refl
+
+pub lesser-is-first : {u v : Value} → AtMost u v → lesser u v ≡ u
+lesser-is-first {u} {v} h = go (lesser u v) (picked u v)
+  where
+    go : (w : Value) → Picked u v w → w ≡ u
+    go w (first k) = refl
+    go w (second k) = atMost-antisym k h
+
+pub lesser-is-second : {u v : Value} → AtMost v u → lesser u v ≡ v
+lesser-is-second {u} {v} h = go (lesser u v) (picked u v)
+  where
+    go : (w : Value) → Picked u v w → w ≡ v
+    go w (first k) = atMost-antisym k h
+    go w (second k) = refl
 
 pub leastBelow-below : (n : ℕ) (f : ℕ → Value) {l : ℕ} → l < n → AtMost (leastBelow n f) (f l)
 unfolding leastBelow

@@ -29,14 +29,6 @@ unfoldable pub leastBelow : ℕ → (ℕ → Value) → Value
 leastBelow zero f = none
 leastBelow (suc n) f = lesser (leastBelow n f) (f n)
 
--- the cost that stands for none where a value is two 64-bit numbers
-abbrev pub noCost : ℕ
-noCost = 18446744073709551615
-
--- the value that two 64-bit numbers stand for
-unfoldable pub valueOf : ℕ → ℕ → Value
-valueOf cost key = cond (eqb cost noCost) none (pair cost key)
-
 -- u comes no later than v
 pub data AtMost : Value → Value → Type 0 where
   to-none : {u : Value} → AtMost u none
