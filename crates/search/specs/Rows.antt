@@ -11,12 +11,12 @@ use Rattle.search.specs.Values.{Value, none, pair, add, leastBelow}
 unfoldable pub keyBase : ℕ
 keyBase = 33
 
--- an item at level l before `places` others, whose row is `rest`: none where it leaves them less than no load
+-- an item at level l before `places` others, whose row is `rest`, in load at most w: none where its own load is above w
 unfoldable pub atLevel : Item → ℕ → (ℕ → Value) → ℕ → ℕ → Value
 atLevel item places rest w l =
     cond (leb (item .load l) w) (add (pair (item .cost l) (suc l * keyBase ^ places)) (rest (w - item .load l))) none
 
--- at load at most w; none where the set does not stand beside the items
+-- in load at most w; none where the set does not stand beside the items
 unfoldable pub row : ℕ → List Item → List Bool → ℕ → Value
 row levels [] [] w = pair 0 0
 row levels [] (b ∷ T) w = none

@@ -24,7 +24,7 @@ BestAnswers o (pair cost key) =
     Best o (digits (length (o .items)) key)
     × (totalCost (o .levels) (o .items) (digits (length (o .items)) key) ≡ cost)
 
--- There is a core, and keys have a digit for every choice.
+-- Where there is a core, and a digit for every choice, the chosen value tells the best plan.
 pub search-finds-best : (o : Options) → 0 < o .cores → o .cores * o .levels < keyBase → BestAnswers o (chosen o)
 unfolding planWorth
 search-finds-best o some-core small =
@@ -38,7 +38,7 @@ search-finds-best o some-core small =
     go none answer = answer
     go (pair cost key) (first, costs) = (record { allowed = first .has; no-worse = first .no-worse }, costs)
 
--- The same of the plans that keep exactly the items of a set: their costs are without refusals.
+-- The same of the plans that keep exactly the items of a set and fit all cores: their costs are without refusals.
 pub search-finds-set : (o : Options) → 0 < o .cores → o .cores * o .levels < keyBase → (S : List Bool) →
     Answers (o .items) (RunsSet o S) (keptCost (o .levels) (o .items)) (bestOf o S)
 unfolding keptWorth
@@ -52,6 +52,7 @@ before-asym (differs h) (agrees k) = omega arith
 before-asym (agrees h) (differs k) = omega arith
 before-asym (agrees h) (agrees k) = before-asym h k
 
+-- there is at most one best plan
 pub best-unique : (o : Options) {plan other : List ℕ} → Best o plan → Best o other → plan ≡ other
 best-unique o {plan} {other} b d = go (b .no-worse other (d .allowed)) (d .no-worse plan (b .allowed))
   where
