@@ -22,7 +22,7 @@ refusals (item ∷ items) (b ∷ S) = cond b 0 (item .refusal) + refusals items 
 unfoldable pub chosen : Options → Value
 chosen o = leastHolding (o .items) (λ S. add (pair (refusals (o .items) S) 0) (bestOf o S))
 
--- the last n digits of a key
+-- the n digits of a key below keyBase ^ n, the most significant first
 unfoldable pub digits : ℕ → ℕ → List ℕ
 digits zero key = []
 digits (suc n) key = (key / keyBase ^ n) ∷ digits n (key % keyBase ^ n)
