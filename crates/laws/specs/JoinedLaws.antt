@@ -1,14 +1,14 @@
 -- How long `listOf` and `joined` are, and what stands where in them.
-use Prim.Native.Nat.{ℕ, zero, suc, _+_, _*_, _<_}
+use Prim.Native.Nat.{ℕ, zero, suc, _+_, _*_, _≤_, _<_}
 use mathlib.Core.List.{List, [], _∷_}
 use mathlib.Core.Logic.{⊎-elim}
 use mathlib.Core.Path.{_≡_, refl, sym, ap, _∙_}
-use native.Mathlib.Nat.{zero-mul, suc-mul, eq-or-lt-of-le, le-of-suc-le-suc, not-suc-le-zero, le-refl}
+use native.Mathlib.Nat.{zero-mul, suc-mul, eq-or-lt-of-le, le-of-suc-le-suc, not-suc-le-zero, le-refl, le-step, le-of-lt}
 use native.Mathlib.Numerals.{add-one}
 use native.Mathlib.Omega.{arith}
 use lib.Arith.{digits-lt}
-use lib.ListN.{length, getD, length-append, List·getD-append}
-use lib.Seq.{getD-at, getD-append-add}
+use lib.ListN.{length, getD, take, length-append, List·getD-append}
+use lib.Seq.{take-suc, getD-at, getD-append-add}
 use Rattle.laws.specs.Lists.{listOf, joined}
 
 pub length-listOf {ℓ} : {A : Type ℓ} (f : ℕ → A) (n : ℕ) → length (listOf f n) ≡ n
@@ -26,6 +26,16 @@ getD-listOf f (suc n) k d h =
     let short : k < length (listOf f n) = rw length-listOf l in
     List·getD-append (listOf f n) (f n ∷ []) d k short ∙ getD-listOf f n k d l)
     (eq-or-lt-of-le (le-of-suc-le-suc h))
+
+pub listOf-same {ℓ} : {A : Type ℓ} (f g : ℕ → A) (n : ℕ) → ((i : ℕ) → i < n → f i ≡ g i) → listOf f n ≡ listOf g n
+unfolding listOf
+listOf-same f g zero same = refl
+listOf-same f g (suc n) same = cc (listOf-same f g n (λ i l. same i (le-step l)), same n (le-refl (suc n)))
+
+pub take-is-listOf {ℓ} : {A : Type ℓ} (l : List A) (d : A) (n : ℕ) → n ≤ length l → take n l ≡ listOf (λ i. getD l i d) n
+unfolding listOf
+take-is-listOf l d zero h = refl
+take-is-listOf l d (suc n) h = take-suc l n d h ∙ rw (take-is-listOf l d n (le-of-lt h))
 
 module _ {ℓ} {A : Type ℓ} (f : ℕ → List A) (width : ℕ) where
   -- parts of one width

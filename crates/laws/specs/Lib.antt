@@ -1,6 +1,7 @@
 pub mod Truth
 pub mod Lists
 pub mod JoinedLaws
+pub mod OntoLaws
 pub mod Search
 pub mod FirstLaws
 pub mod SearchFacts
