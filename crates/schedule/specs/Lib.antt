@@ -26,3 +26,6 @@ pub mod ServedLaws
 pub mod RepeatedRowLaws
 pub mod KeptTaskLaws
 pub mod SchedulingTheorems
+pub mod Dispatching
+pub mod StepLaws
+pub mod DispatchingLaws

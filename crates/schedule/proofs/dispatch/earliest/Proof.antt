@@ -1,0 +1,93 @@
+-- `earliest` picks as the definition does, one task a turn.
+use Prim.Native.Nat.{_≤_, _-_}
+use mathlib.Core.Logic.{inl, inr, ⊎-elim}
+use mathlib.Core.Path.{_≡_, refl, _∙_}
+use native.Mathlib.Omega.{arith}
+use borrow.Author.Needs.{needs}
+use borrow.Author.Tests.{ltb-true, ltb-false}
+use lib.ListN.{getD}
+use Rattle.schedule.specs.Dispatching.{tasksOf}
+use Rattle.schedule.specs.StepLaws.{Picked, pick-passes-idle, pick-keeps, pick-takes}
+use Rattle.schedule.specs.Rows.{dueAt, earliest}
+use Rattle.schedule.proofs.dispatch.earliest.Statement.{statement}
+use Rattle.schedule.proofs.dispatch.earliest.Tie as tie
+
+abbrev Inv-loop : tie.InvT-loop
+Inv-loop core tick left best₀ best-due₀ i₀ best best-due i =
+    (i ≤ core .size) × Picked (dueAt (tasksOf core) tick) (λ k. getD left k 0) i best best-due
+
+abbrev μ-loop : tie.MeasureT-loop
+μ-loop core tick left best₀ best-due₀ i₀ best best-due i = core .size - i
+
+loop-holds : tie.Need-loop-holds Inv-loop μ-loop
+unfolding earliest
+loop-holds c = (search needs, record { number = refl; is-due = λ some. absurd (some refl) })
+
+mul-if2 : tie.Need-mul-if2 Inv-loop μ-loop
+mul-if2 c = search needs
+
+array-read-if2 : tie.Need-array-read-if2 Inv-loop μ-loop
+array-read-if2 c = search needs
+
+due-at-requires : tie.Need-due-at-requires Inv-loop μ-loop
+due-at-requires c κs = search needs
+
+cast-best : tie.Need-cast-best Inv-loop μ-loop
+cast-best c = search needs
+
+add-best : tie.Need-add-best Inv-loop μ-loop
+add-best c = search needs
+
+add-i : tie.Need-add-i Inv-loop μ-loop
+add-i c = search needs
+
+loop-less : tie.Need-loop-less Inv-loop μ-loop
+loop-less c = search needs
+
+loop-again : tie.Need-loop-again Inv-loop μ-loop
+loop-again c =
+    let at = c .before .before .before .loop in
+    let picked = at .inv .1 in (
+      search needs,
+      ⊎-elim
+          (λ taken.
+          let due = taken .1 .ensures in
+          rw (taken .3, taken .4 ∙ due)
+          (pick-takes _ _ (at .i) (at .best) (at .best-due) picked (taken .0 .taken)
+          (⊎-elim
+          (λ first. inl (first .taken))
+          (λ earlier. inr (omega (arith, due, ltb-true)))
+          (taken .2 .came))))
+          (⊎-elim
+          (λ kept.
+          let due = kept .1 .ensures in
+          rw (kept .4, kept .5)
+          (pick-keeps _ _ (at .i) (at .best) (at .best-due) picked (kept .0 .taken) (kept .2 .left)
+          (omega (arith, due, ltb-false))))
+          (λ idle. rw (idle .1, idle .2) (pick-passes-idle _ _ (at .i) (at .best) (at .best-due) picked (idle .0 .left))))
+          (c .if2 .came),
+    )
+
+returns : tie.Need-returns Inv-loop μ-loop
+returns c =
+    let at = c .before .before .loop in
+    let a = c .before .before .before .args in
+    let all : at .i ≡ a .core .size = omega arith in
+    rw all at (at .inv .1 .number)
+
+pub earliest-spec : {M : Type 1} → statement M
+earliest-spec =
+    tie.close
+    (tie.spec
+    Inv-loop
+    μ-loop
+    loop-holds
+    mul-if2
+    array-read-if2
+    due-at-requires
+    cast-best
+    add-best
+    add-i
+    loop-less
+    loop-again
+    returns)

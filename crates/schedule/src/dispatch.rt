@@ -1,0 +1,123 @@
+// Earliest deadline first on one core, one tick at a time.
+ghost use mathlib.Core.Path.{_≡_};
+ghost use Prim.Native.Nat.{_+_, _≤_, _<_};
+ghost use lib.ListN.{length, getD};
+ghost use Rattle.instance.specs.Limits.{mostPeriod, mostSpan, mostWord};
+ghost use Rattle.laws.specs.Lists.{listOf, onto};
+ghost use Rattle.schedule.specs.Dispatching.{CoreOk, StateOk, Stepped, readyOf, tasksOf};
+ghost use Rattle.schedule.specs.Rows as rows;
+
+// What one core knows of the tasks: a task that is not kept there has no ticks.
+pub(crate) struct Core {
+    pub(crate) size: usize,
+    pub(crate) period: [u32; 12],
+    pub(crate) window: [u32; 12],
+    pub(crate) ticks: [u32; 12],
+}
+
+// Where a core's dispatching stands: the next tick, what each task still has to run, and the number of the task that ran
+// in the tick before, 0 for none.
+pub(crate) struct State {
+    pub(crate) tick: u32,
+    pub(crate) left: [u32; 12],
+    pub(crate) last: u32,
+}
+
+// The ticks left of task i once the jobs of this tick are released, from those left before.
+fn after_release(core: Core, tick: u32, i: usize, left: u32) -> u32
+    requires { ⌜ CoreOk core ⌝ }
+    requires { ⌜ i < core .size ⌝ }
+    ensures { λ r. ⌜ r ≡ rows.afterRelease (tasksOf core) tick i left ⌝ }
+{
+    if tick % core.period[i] == 0 {
+        core.ticks[i]
+    } else {
+        left
+    }
+}
+
+// The ticks left once the jobs of the state's tick are released.
+fn release(core: Core, s: State) -> [u32; 12]
+    requires { ⌜ CoreOk core ⌝ }
+    requires { ⌜ StateOk s ⌝ }
+    ensures { λ r. ⌜ r ≡ onto (listOf (readyOf core s) (core .size)) (s .left) ⌝ }
+{
+    let mut left = s.left;
+    let mut i = 0;
+    while i < core.size {
+        left[i] = after_release(core, s.tick, i, left[i]);
+        i += 1;
+    }
+    left
+}
+
+// The due tick of the job of task i that was released last by this tick.
+fn due_at(core: Core, tick: u32, i: usize) -> u32
+    requires { ⌜ CoreOk core ⌝ }
+    requires { ⌜ i < core .size ⌝ }
+    requires { ⌜ tick + mostPeriod ≤ mostWord ⌝ }
+    ensures { λ r. ⌜ r ≡ rows.dueAt (tasksOf core) tick i ⌝ }
+{
+    let p = core.period[i];
+    tick / p * p + core.window[i]
+}
+
+// Of the tasks with ticks left, the number of the one that is due first, of equal ones the lowest; 0 where none has.
+fn earliest(core: Core, tick: u32, left: [u32; 12]) -> u32
+    requires { ⌜ CoreOk core ⌝ }
+    requires { ⌜ tick + mostPeriod ≤ mostWord ⌝ }
+    ensures { λ r. ⌜ r ≡ rows.earliest (rows.dueAt (tasksOf core) tick) (λ i. getD left i 0) (core .size) ⌝ }
+{
+    let mut best = 0;
+    let mut best_due = 0;
+    let mut i = 0;
+    while i < core.size {
+        if left[i] != 0 {
+            let due = due_at(core, tick, i);
+            if best == 0 || due < best_due {
+                best = i as u32 + 1;
+                best_due = due;
+            }
+        }
+        i += 1;
+    }
+    best
+}
+
+// One tick.
+pub(crate) fn step(core: Core, s: State) -> State
+    requires { ⌜ CoreOk core ⌝ }
+    requires { ⌜ StateOk s ⌝ }
+    ensures { λ r. ⌜ Stepped core s r ⌝ }
+{
+    let mut left = release(core, s);
+    let number = earliest(core, s.tick, left);
+    if number != 0 {
+        let i = number as usize - 1;
+        left[i] = left[i] - 1;
+    }
+    State {
+        tick: s.tick + 1,
+        left,
+        last: number,
+    }
+}
+
+// The core's first slots, as many as there is room for.
+pub(crate) fn fill_row(core: Core, slots: &mut [u8])
+    requires { ⌜ CoreOk core ⌝ }
+    requires { ⌜ length (now slots) ≤ mostSpan ⌝ }
+    ensures { λ _. ⌜ now (slots .exit) ≡ rows.row (tasksOf core) (length (now (slots .entry))) ⌝ }
+{
+    let mut s = State {
+        tick: 0,
+        left: [0; 12],
+        last: 0,
+    };
+    let mut t = 0;
+    while t < slots.len() {
+        s = step(core, s);
+        slots[t] = s.last as u8;
+        t += 1;
+    }
+}
