@@ -13,3 +13,4 @@ pub mod Below
 pub mod SumLaws
 pub mod CountLaws
 pub mod DivisionLaws
+pub mod SumBounds

@@ -29,3 +29,5 @@ pub mod SchedulingTheorems
 pub mod Dispatching
 pub mod StepLaws
 pub mod DispatchingLaws
+pub mod HeldQuantities
+pub mod QuantityBounds

@@ -1,3 +1,4 @@
+// What a plan comes to.
 use instance::Refusal;
 
 // What a plan comes to over one span.

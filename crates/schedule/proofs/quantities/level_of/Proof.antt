@@ -1,0 +1,24 @@
+use native.Mathlib.Nat.{zero-mod, mod-lt}
+use native.Mathlib.Numerals.{sub-one}
+use mathlib.Core.Path.{sym, refl}
+use borrow.Author.Needs.{needs}
+use Rattle.schedule.proofs.quantities.level_of.Statement.{statement}
+use Rattle.schedule.proofs.quantities.level_of.Tie as tie
+
+returns : tie.Need-returns
+returns c = (rw (c .if1 .taken) (sym (zero-mod _)), search needs)
+
+sub-result : tie.Need-sub-result
+sub-result c = search needs
+
+cast-result : tie.Need-cast-result
+cast-result c = search needs
+
+rem-result : tie.Need-rem-result
+rem-result c = search needs
+
+returns-2 : tie.Need-returns-2
+returns-2 c = (rw sub-one refl, mod-lt _ (search needs))
+
+pub level-of-spec : {M : Type 1} → statement M
+level-of-spec = tie.close (tie.spec returns sub-result cast-result rem-result returns-2)

@@ -1,0 +1,114 @@
+// Ticks, jobs and load of the tasks of a plan.
+use instance::Instance;
+ghost use mathlib.Core.Path.{_≡_};
+ghost use Prim.Native.Nat.{pred, _/_, _%_, _<_, _≤_};
+ghost use lib.ListN.{length};
+ghost use Rattle.instance.specs.Held.{Sound, problemIn};
+ghost use Rattle.instance.specs.Node.{taskCount};
+ghost use Rattle.schedule.specs.Quantities.{ticks, jobs, keeps, jobTicks, ticksOn, loadOn, coreLoad};
+
+// The ticks of a job: cycles divided by speed, rounded up; 0 at no speed.
+pub fn ticks_of(cycles: u32, speed: u32) -> u32
+    ensures { λ r. ⌜ r ≡ ticks cycles speed ⌝ }
+{
+    if speed == 0 {
+        return 0;
+    }
+    let raised = cycles as u64 + (speed as u64 - 1);
+    (raised / speed as u64) as u32
+}
+
+// The jobs that a span holds; none for a period of 0.
+pub fn jobs_in(span: u32, period: u32) -> u32
+    ensures { λ r. ⌜ r ≡ span / period ⌝ }
+{
+    if period == 0 {
+        return 0;
+    }
+    span / period
+}
+
+// The level that a choice names, counted from 0.
+pub(crate) fn level_of(choice: u32, levels: usize) -> usize
+    requires { ⌜ 0 < levels ⌝ }
+    ensures { λ r. ⌜ r ≡ pred choice % levels ⌝ }
+    ensures { λ r. ⌜ r < levels ⌝ }
+{
+    if choice == 0 {
+        return 0;
+    }
+    (choice - 1) as usize % levels
+}
+
+// The core that a choice names, counted from 0.
+pub(crate) fn core_of(choice: u32, levels: usize) -> usize
+    requires { ⌜ 0 < levels ⌝ }
+    ensures { λ r. ⌜ r ≡ pred choice / levels ⌝ }
+{
+    if choice == 0 {
+        return 0;
+    }
+    (choice - 1) as usize / levels
+}
+
+// The ticks of a job of task i at the level that its choice names.
+pub(crate) fn job_ticks(inst: Instance, plan: &[u32], i: usize) -> u32
+    requires { ⌜ Sound inst ⌝ }
+    requires { ⌜ i < taskCount (problemIn inst) ⌝ }
+    requires { ⌜ i < length (now plan) ⌝ }
+    ensures { λ r. ⌜ r ≡ jobTicks (problemIn inst) (now (plan .entry)) i ⌝ }
+{
+    let l = level_of(plan[i], inst.levelcount);
+    ticks_of(inst.tasks[i].cycles, inst.levels[l].speed)
+}
+
+// Whether the plan keeps task i on core k, counted from 0.
+pub(crate) fn is_kept_on(inst: Instance, plan: &[u32], k: usize, i: usize) -> bool
+    requires { ⌜ Sound inst ⌝ }
+    requires { ⌜ i < length (now plan) ⌝ }
+    ensures { λ r. ⌜ r ≡ keeps (problemIn inst) (now (plan .entry)) k i ⌝ }
+{
+    let choice = plan[i];
+    if choice == 0 {
+        return false;
+    }
+    core_of(choice, inst.levelcount) == k
+}
+
+// The ticks of a job of task i on core k: none where it is not kept there.
+pub(crate) fn ticks_on(inst: Instance, plan: &[u32], k: usize, i: usize) -> u32
+    requires { ⌜ Sound inst ⌝ }
+    requires { ⌜ i < taskCount (problemIn inst) ⌝ }
+    requires { ⌜ i < length (now plan) ⌝ }
+    ensures { λ r. ⌜ r ≡ ticksOn (problemIn inst) (now (plan .entry)) k i ⌝ }
+{
+    if is_kept_on(inst, plan, k, i) {
+        return job_ticks(inst, plan, i);
+    }
+    0
+}
+
+// What task i asks of core k over a span.
+pub(crate) fn load_on(inst: Instance, plan: &[u32], k: usize, i: usize) -> u64
+    requires { ⌜ Sound inst ⌝ }
+    requires { ⌜ i < taskCount (problemIn inst) ⌝ }
+    requires { ⌜ i < length (now plan) ⌝ }
+    ensures { λ r. ⌜ r ≡ loadOn (problemIn inst) (now (plan .entry)) k i ⌝ }
+{
+    let jobs = jobs_in(inst.span, inst.tasks[i].period);
+    jobs as u64 * ticks_on(inst, plan, k, i) as u64
+}
+
+pub(crate) fn core_load(inst: Instance, plan: &[u32], k: usize) -> u64
+    requires { ⌜ Sound inst ⌝ }
+    requires { ⌜ length (now plan) ≡ taskCount (problemIn inst) ⌝ }
+    ensures { λ r. ⌜ r ≡ coreLoad (problemIn inst) (now (plan .entry)) k ⌝ }
+{
+    let mut load = 0;
+    let mut i = 0;
+    while i < inst.taskcount {
+        load += load_on(inst, plan, k, i);
+        i += 1;
+    }
+    load
+}
