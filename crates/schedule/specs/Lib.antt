@@ -31,3 +31,4 @@ pub mod StepLaws
 pub mod DispatchingLaws
 pub mod HeldQuantities
 pub mod QuantityBounds
+pub mod HeldPlans

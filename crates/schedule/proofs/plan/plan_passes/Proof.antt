@@ -1,0 +1,32 @@
+use mathlib.Core.Path.{refl, sym, _∙_}
+use Rattle.schedule.specs.CheckLaws.{choices-pass}
+use Rattle.schedule.specs.Plans.{planPasses}
+use borrow.Author.Needs.{needs}
+use Rattle.schedule.proofs.plan.plan_passes.Statement.{statement}
+use Rattle.schedule.proofs.plan.plan_passes.Tie as tie
+
+choices-pass-requires : tie.Need-choices-pass-requires
+choices-pass-requires c κs = search needs
+
+enum-told : tie.Need-enum-told
+enum-told c = search needs
+
+cores-fit-requires : tie.Need-cores-fit-requires
+cores-fit-requires c κs = let accepted = sym (c .before .before .choices-pass .ensures) ∙ c .enum-told .given .1 in
+    (c .before .before .before .before .pre, choices-pass _ _ .0 accepted .one-choice-per-task)
+
+enum-known-r : tie.Need-enum-known-r
+enum-known-r c = search needs
+
+returns : tie.Need-returns
+unfolding planPasses
+returns c = rw (← c .before .before .before .choices-pass .ensures, c .before .enum-told .given .1) (c .cores-fit .ensures)
+
+returns-2 : tie.Need-returns-2
+unfolding planPasses
+returns-2 c = rw (← c .before .before .before .choices-pass .ensures, c .before .r .given .1) refl
+
+pub plan-passes-spec : {M : Type 1} → statement M
+plan-passes-spec =
+    tie.close
+    (tie.spec choices-pass-requires enum-told cores-fit-requires enum-known-r returns returns-2)

@@ -1,0 +1,115 @@
+// Which plans may be given: the refusals 7 and 8.
+use crate::quantities::core_load;
+use instance::Instance;
+use instance::Refusal;
+use instance::Verdict;
+ghost use mathlib.Core.Path.{_≡_};
+ghost use mathlib.Core.Bool.{not};
+ghost use Prim.Native.Nat.{_<_};
+ghost use lib.ListN.{length};
+ghost use Rattle.instance.specs.Held.{Sound, problemIn};
+ghost use Rattle.instance.specs.Node.{taskCount};
+ghost use Rattle.schedule.specs.Plans.{badChoice, choicesPass, fits, coresFit, planPasses};
+ghost use Rattle.laws.specs.Search.{first};
+
+const MAY_NOT_BE_REFUSED: u32 = 4294967295;
+
+fn is_bad_choice(inst: Instance, plan: &[u32], i: usize) -> bool
+    requires { ⌜ Sound inst ⌝ }
+    requires { ⌜ i < taskCount (problemIn inst) ⌝ }
+    requires { ⌜ length (now plan) ≡ taskCount (problemIn inst) ⌝ }
+    ensures { λ r. ⌜ r ≡ badChoice (problemIn inst) (now (plan .entry)) i ⌝ }
+{
+    let choice = plan[i];
+    let most = inst.cores as usize * inst.levelcount;
+    if most < choice as usize {
+        return true;
+    }
+    if choice == 0 {
+        return inst.tasks[i].penalty == MAY_NOT_BE_REFUSED;
+    }
+    false
+}
+
+// The first task whose choice is bad, or the number of tasks.
+fn first_bad_choice(inst: Instance, plan: &[u32]) -> usize
+    requires { ⌜ Sound inst ⌝ }
+    requires { ⌜ length (now plan) ≡ taskCount (problemIn inst) ⌝ }
+    ensures { λ r. ⌜ r ≡ first (badChoice (problemIn inst) (now (plan .entry))) (taskCount (problemIn inst)) ⌝ }
+{
+    let mut i = 0;
+    while i < inst.taskcount {
+        if is_bad_choice(inst, plan, i) {
+            return i;
+        }
+        i += 1;
+    }
+    i
+}
+
+pub(crate) fn choices_pass(inst: Instance, plan: &[u32]) -> Verdict
+    requires { ⌜ Sound inst ⌝ }
+    ensures { λ r. ⌜ r ≡ choicesPass (problemIn inst) (now (plan .entry)) ⌝ }
+{
+    let n = inst.taskcount;
+    if plan.len() < n {
+        return Verdict::Refused(Refusal::GivenPlan(plan.len()));
+    }
+    if n < plan.len() {
+        return Verdict::Refused(Refusal::GivenPlan(n));
+    }
+    let i = first_bad_choice(inst, plan);
+    if i < n {
+        return Verdict::Refused(Refusal::GivenPlan(i));
+    }
+    Verdict::Accepted
+}
+
+fn is_overloaded(inst: Instance, plan: &[u32], k: usize) -> bool
+    requires { ⌜ Sound inst ⌝ }
+    requires { ⌜ length (now plan) ≡ taskCount (problemIn inst) ⌝ }
+    ensures { λ r. ⌜ r ≡ not (fits (problemIn inst) (now (plan .entry)) k) ⌝ }
+{
+    let load = core_load(inst, plan, k);
+    let span = inst.span as u64;
+    span < load
+}
+
+// The first core that does not fit, or the number of cores.
+fn first_overloaded(inst: Instance, plan: &[u32]) -> usize
+    requires { ⌜ Sound inst ⌝ }
+    requires { ⌜ length (now plan) ≡ taskCount (problemIn inst) ⌝ }
+    ensures { λ r. ⌜ r ≡ first (λ k. not (fits (problemIn inst) (now (plan .entry)) k)) (problemIn inst .cores) ⌝ }
+{
+    let cores = inst.cores as usize;
+    let mut k = 0;
+    while k < cores {
+        if is_overloaded(inst, plan, k) {
+            return k;
+        }
+        k += 1;
+    }
+    k
+}
+
+fn cores_fit(inst: Instance, plan: &[u32]) -> Verdict
+    requires { ⌜ Sound inst ⌝ }
+    requires { ⌜ length (now plan) ≡ taskCount (problemIn inst) ⌝ }
+    ensures { λ r. ⌜ r ≡ coresFit (problemIn inst) (now (plan .entry)) ⌝ }
+{
+    let k = first_overloaded(inst, plan);
+    if k < inst.cores as usize {
+        return Verdict::Refused(Refusal::CoreOverloaded(k + 1));
+    }
+    Verdict::Accepted
+}
+
+pub(crate) fn plan_passes(inst: Instance, plan: &[u32]) -> Verdict
+    requires { ⌜ Sound inst ⌝ }
+    ensures { λ r. ⌜ r ≡ planPasses (problemIn inst) (now (plan .entry)) ⌝ }
+{
+    match choices_pass(inst, plan) {
+        Verdict::Accepted => cores_fit(inst, plan),
+        Verdict::Refused(r) => Verdict::Refused(r),
+    }
+}
