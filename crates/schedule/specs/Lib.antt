@@ -32,3 +32,4 @@ pub mod DispatchingLaws
 pub mod HeldQuantities
 pub mod QuantityBounds
 pub mod HeldPlans
+pub mod ReadLaws
