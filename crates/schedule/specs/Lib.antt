@@ -33,3 +33,6 @@ pub mod HeldQuantities
 pub mod QuantityBounds
 pub mod HeldPlans
 pub mod ReadLaws
+pub mod PlanLaws
+pub mod PriceBounds
+pub mod HeldPrices

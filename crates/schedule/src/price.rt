@@ -1,5 +1,18 @@
 // What a plan comes to.
+use crate::quantities::jobs_in;
+use crate::quantities::level_of;
+use crate::quantities::load_on;
+use instance::Instance;
 use instance::Refusal;
+ghost use mathlib.Core.Path.{_≡_};
+ghost use Prim.Native.Nat.{_<_};
+ghost use lib.ListN.{length};
+ghost use Rattle.instance.specs.Held.{Sound, problemIn};
+ghost use Rattle.instance.specs.Node.{levelAt, taskCount};
+ghost use Rattle.instance.specs.declared.refusal.Verdict.the-variants.{Accepted};
+ghost use Rattle.schedule.specs.Plans.{planPasses};
+ghost use Rattle.schedule.specs.PriceBounds.{energyOn, penaltyOf};
+ghost use Rattle.schedule.specs.Quantities.{levelOf, coreEnergy, energy, penalty, priceOf};
 
 // What a plan comes to over one span.
 pub struct Price {
@@ -11,4 +24,97 @@ pub struct Price {
 pub enum Priced {
     Cost(Price),
     Refused(Refusal),
+}
+
+// The power of the level that task i's choice names.
+fn power_of(inst: Instance, plan: &[u32], i: usize) -> u32
+    requires { ⌜ Sound inst ⌝ }
+    requires { ⌜ i < length (now plan) ⌝ }
+    ensures { λ r. ⌜ r ≡ levelAt (problemIn inst) (levelOf (problemIn inst) (now (plan .entry)) i) .power ⌝ }
+{
+    let l = level_of(plan[i], inst.levelcount);
+    inst.levels[l].power
+}
+
+// The energy of task i on core k: none where it is not kept there.
+fn energy_on(inst: Instance, plan: &[u32], k: usize, i: usize) -> u64
+    requires { ⌜ Sound inst ⌝ }
+    requires { ⌜ i < taskCount (problemIn inst) ⌝ }
+    requires { ⌜ i < length (now plan) ⌝ }
+    ensures { λ r. ⌜ r ≡ energyOn (problemIn inst) (now (plan .entry)) k i ⌝ }
+{
+    load_on(inst, plan, k, i) * power_of(inst, plan, i) as u64
+}
+
+fn core_energy(inst: Instance, plan: &[u32], k: usize) -> u64
+    requires { ⌜ Sound inst ⌝ }
+    requires { ⌜ length (now plan) ≡ taskCount (problemIn inst) ⌝ }
+    ensures { λ r. ⌜ r ≡ coreEnergy (problemIn inst) (now (plan .entry)) k ⌝ }
+{
+    let mut total = 0;
+    let mut i = 0;
+    while i < inst.taskcount {
+        total += energy_on(inst, plan, k, i);
+        i += 1;
+    }
+    total
+}
+
+fn all_energy(inst: Instance, plan: &[u32]) -> u64
+    requires { ⌜ Sound inst ⌝ }
+    requires { ⌜ length (now plan) ≡ taskCount (problemIn inst) ⌝ }
+    ensures { λ r. ⌜ r ≡ energy (problemIn inst) (now (plan .entry)) ⌝ }
+{
+    let cores = inst.cores as usize;
+    let mut total = 0;
+    let mut k = 0;
+    while k < cores {
+        total += core_energy(inst, plan, k);
+        k += 1;
+    }
+    total
+}
+
+// The penalty of task i: none where the plan keeps it.
+fn penalty_of(inst: Instance, plan: &[u32], i: usize) -> u64
+    requires { ⌜ Sound inst ⌝ }
+    requires { ⌜ i < taskCount (problemIn inst) ⌝ }
+    requires { ⌜ i < length (now plan) ⌝ }
+    ensures { λ r. ⌜ r ≡ penaltyOf (problemIn inst) (now (plan .entry)) i ⌝ }
+{
+    if plan[i] == 0 {
+        let jobs = jobs_in(inst.span, inst.tasks[i].period);
+        return jobs as u64 * inst.tasks[i].penalty as u64;
+    }
+    0
+}
+
+fn all_penalty(inst: Instance, plan: &[u32]) -> u64
+    requires { ⌜ Sound inst ⌝ }
+    requires { ⌜ length (now plan) ≡ taskCount (problemIn inst) ⌝ }
+    ensures { λ r. ⌜ r ≡ penalty (problemIn inst) (now (plan .entry)) ⌝ }
+{
+    let mut total = 0;
+    let mut i = 0;
+    while i < inst.taskcount {
+        total += penalty_of(inst, plan, i);
+        i += 1;
+    }
+    total
+}
+
+// The price of a plan that passes.
+pub(crate) fn price_of(inst: Instance, plan: &[u32]) -> Price
+    requires { ⌜ Sound inst ⌝ }
+    requires { ⌜ planPasses (problemIn inst) (now plan) ≡ Accepted ⌝ }
+    ensures { λ r. ⌜ r ≡ priceOf (problemIn inst) (now (plan .entry)) ⌝ }
+{
+    let energy = all_energy(inst, plan);
+    let penalty = all_penalty(inst, plan);
+    let cost = inst.weights.energy as u64 * energy + inst.weights.penalty as u64 * penalty;
+    Price {
+        energy,
+        penalty,
+        cost,
+    }
 }
