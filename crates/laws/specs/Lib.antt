@@ -14,3 +14,4 @@ pub mod SumLaws
 pub mod CountLaws
 pub mod DivisionLaws
 pub mod SumBounds
+pub mod SumOrderLaws

@@ -6,6 +6,11 @@ use native.Mathlib.Omega.{arith}
 use Rattle.laws.specs.Below.{below-suc}
 use Rattle.laws.specs.Sums.{sum}
 
+pub sum-cong : (f g : ℕ → ℕ) (n : ℕ) → ((i : ℕ) → i < n → f i ≡ g i) → sum f n ≡ sum g n
+unfolding sum
+sum-cong f g zero same = refl
+sum-cong f g (suc n) same = cc (sum-cong f g n (λ i l. same i (le-step l)), same n (le-refl (suc n)))
+
 pub sum-zero : (f : ℕ → ℕ) (n : ℕ) → ((i : ℕ) → i < n → f i ≡ 0) → sum f n ≡ 0
 unfolding sum
 sum-zero f zero none = refl
