@@ -1,3 +1,6 @@
 pub mod Planning
 pub mod Outcomes
 pub mod Cases
+pub mod OptionsOf
+pub mod ChoiceLaws
+pub mod OptionsLaws

@@ -1,0 +1,130 @@
+-- A problem's plans are the plans of its options: those that pass are those that are allowed.
+use Prim.Native.Nat.{ℕ, _+_, _*_, _≤_, _<_}
+use mathlib.Core.Bool.{Bool, true, false, cond}
+use mathlib.Core.List.{List, [], _∷_}
+use mathlib.Core.Logic.{_↔_}
+use mathlib.Core.Path.{_≡_, refl, sym, _∙_}
+use native.Mathlib.Nat.{mul-zero}
+use lib.ListN.{length, getD, length-map, List·getD-map}
+use borrow.Author.Tests.{leb-true, le-leb, eqb-true, eq-eqb, not-false}
+use Rattle.laws.specs.SumLaws.{sum-cong}
+use Rattle.laws.specs.SumOrderLaws.{total-is-sum}
+use Rattle.laws.specs.Sums.{sum}
+use Rattle.instance.specs.Limits.{mayNotBeRefused}
+use Rattle.instance.specs.Node.{Problem, levelCount, taskCount, taskAt, noTask, span}
+use Rattle.instance.specs.declared.node.Task.{Task}
+use Rattle.instance.specs.declared.refusal.Verdict.the-variants.{Accepted}
+use Rattle.schedule.specs.CheckLaws.{AllowedPlan, choices-pass}
+use Rattle.schedule.specs.Plans.{mostChoice, fits, coresFit, planPasses}
+use Rattle.schedule.specs.Quantities
+use Rattle.schedule.specs.Quantities.{choiceAt, keeps, jobs, jobTicks, ticksOn, loadOn}
+use Rattle.schedule.specs.VerdictLaws.{andThen-accepts, none-refused}
+use Rattle.search.specs.Assignment.{Item, choiceLoad, coreLoad, ChoiceAllowed, ChoicesAllowed, Allowed}
+use Rattle.planner.specs.ChoiceLaws.{AllowedAt, allowed-at, at-allowed}
+use Rattle.planner.specs.OptionsOf.{jobsOf, loadAt, itemOf, optionsOf}
+
+scaled-part : (a : ℕ) (b : Bool) (x : ℕ) → a * cond b x 0 ≡ cond b (a * x) 0
+scaled-part a true x = refl
+scaled-part a false x = mul-zero a
+
+module _ (p : Problem) where
+  pub item-count : length (optionsOf p .items) ≡ taskCount p
+  unfolding optionsOf
+  item-count = length-map (p .tasks) (itemOf p)
+
+  pub item-at : (i : ℕ) → getD (optionsOf p .items) i (itemOf p noTask) ≡ itemOf p (taskAt p i)
+  unfolding optionsOf
+  item-at i = List·getD-map (itemOf p) (p .tasks) i noTask
+
+  -- a choice that task t may have
+  GoodChoice : Task → ℕ → Type 0
+  GoodChoice t c = (c ≤ mostChoice p) × (t .penalty ≡ mayNotBeRefused → c ≡ 0 → ⊥)
+
+  choice-allowed-iff : (t : Task) (c : ℕ) → ChoiceAllowed (mostChoice p) (itemOf p t) c ↔ GoodChoice t c
+  unfolding itemOf GoodChoice
+  choice-allowed-iff t c = (
+    λ allowed. (allowed .in-range, λ must. allowed .kept (eq-eqb _ _ must)),
+    λ good. record { in-range = good .0; kept = λ must. good .1 (eqb-true _ _ must) },
+  )
+
+  AllowedItems : List ℕ → Type 0
+  AllowedItems plan = AllowedAt (itemOf p noTask) (mostChoice p) (optionsOf p .items) plan
+
+  good-choice-at : (plan : List ℕ) → AllowedItems plan → (i : ℕ) → i < taskCount p → GoodChoice (taskAt p i) (choiceAt plan i)
+  unfolding AllowedItems
+  good-choice-at plan allowed i h =
+      choice-allowed-iff (taskAt p i) (choiceAt plan i) .0 (rw item-at at (allowed .choice i (rw item-count h)))
+
+  allowed-items-iff : (plan : List ℕ) → AllowedPlan p plan ↔ AllowedItems plan
+  unfolding AllowedItems GoodChoice
+  allowed-items-iff plan = (
+    λ allowed.
+        record {
+          one-choice-per-item = allowed .one-choice-per-task ∙ sym item-count;
+          choice = λ i h.
+              let l : i < taskCount p = rw item-count at h in
+              rw item-at (choice-allowed-iff _ _ .1 (allowed .choices-in-range i l, allowed .must-tasks-kept i l));
+        },
+    λ allowed.
+        record {
+          one-choice-per-task = allowed .one-choice-per-item ∙ item-count;
+          choices-in-range = λ i h. good-choice-at plan allowed i h .0;
+          must-tasks-kept = λ i h. good-choice-at plan allowed i h .1;
+        },
+  )
+
+  choices-allowed-iff : (plan : List ℕ) → AllowedPlan p plan ↔ ChoicesAllowed (mostChoice p) (optionsOf p .items) plan
+  unfolding AllowedItems
+  choices-allowed-iff plan = (
+    λ allowed. at-allowed _ _ _ _ (allowed-items-iff plan .0 allowed),
+    λ choices. allowed-items-iff plan .1 (allowed-at _ _ choices),
+  )
+
+  -- what adds up item by item is a sum over the tasks
+  pub total-over-tasks : (part : Item → ℕ → ℕ) (total : List Item → List ℕ → ℕ) →
+      ((plan : List ℕ) → total [] plan ≡ 0) →
+      ((item : Item) (items : List Item) (c : ℕ) (plan : List ℕ) → total (item ∷ items) (c ∷ plan) ≡ part item c + total items plan) →
+      (plan : List ℕ) → length plan ≡ taskCount p →
+      total (optionsOf p .items) plan ≡ sum (λ i. part (itemOf p (taskAt p i)) (choiceAt plan i)) (taskCount p)
+  total-over-tasks part total none more plan e =
+      total-is-sum (itemOf p noTask) part total none more (optionsOf p .items) plan (e ∙ sym item-count) ∙ simp (item-at, item-count)
+
+  load-is-choiceLoad : (plan : List ℕ) (k i : ℕ) →
+      loadOn p plan k i ≡ choiceLoad (levelCount p) k (itemOf p (taskAt p i)) (choiceAt plan i)
+  unfolding loadOn ticksOn keeps jobs jobTicks choiceLoad itemOf loadAt jobsOf
+  load-is-choiceLoad plan k i = scaled-part (jobs p i) (keeps p plan k i) (jobTicks p plan i)
+
+  core-load-is-total : (plan : List ℕ) (k : ℕ) → length plan ≡ taskCount p →
+      Quantities.coreLoad p plan k ≡ coreLoad (levelCount p) k (optionsOf p .items) plan
+  unfolding Quantities.coreLoad coreLoad
+  core-load-is-total plan k e =
+      sum-cong _ _ _ (λ i h. load-is-choiceLoad plan k i)
+      ∙ sym (total-over-tasks (choiceLoad (levelCount p) k) (coreLoad (levelCount p) k) (λ plan. refl) (λ item items c plan. refl) plan e)
+
+  cores-fit-iff : (plan : List ℕ) → length plan ≡ taskCount p →
+      (coresFit p plan ≡ Accepted) ↔ ((k : ℕ) → k < p .cores → coreLoad (levelCount p) k (optionsOf p .items) plan ≤ span p)
+  unfolding coresFit fits
+  cores-fit-iff plan e = (
+    λ accepted k h.
+        let fit = leb-true (Quantities.coreLoad p plan k) (span p) (not-false _ (none-refused _ _ _ .0 accepted k h)) in
+        rw (core-load-is-total plan k e) at fit,
+    λ fit. none-refused _ _ _ .1 (λ k h. rw (core-load-is-total plan k e, le-leb _ _ (fit k h))),
+  )
+
+  pub passing-is-allowed : (plan : List ℕ) → (planPasses p plan ≡ Accepted) ↔ Allowed (optionsOf p) plan
+  unfolding planPasses optionsOf
+  passing-is-allowed plan = (
+    λ passes.
+        let both = andThen-accepts _ _ .0 passes in
+        let allowed = choices-pass p plan .0 (both .0) in
+        record {
+          choices = choices-allowed-iff plan .0 allowed;
+          cores-fit = cores-fit-iff plan (allowed .one-choice-per-task) .0 (both .1);
+        },
+    λ allowed.
+        let choices = choices-allowed-iff plan .1 (allowed .choices) in
+        andThen-accepts _ _ .1 (
+          choices-pass p plan .1 choices,
+          cores-fit-iff plan (choices .one-choice-per-task) .1 (allowed .cores-fit),
+        ),
+  )
