@@ -4,3 +4,4 @@ pub mod Cases
 pub mod OptionsOf
 pub mod ChoiceLaws
 pub mod OptionsLaws
+pub mod CostLaws
