@@ -5,3 +5,5 @@ pub mod OptionsOf
 pub mod ChoiceLaws
 pub mod OptionsLaws
 pub mod CostLaws
+pub mod ChoiceListLaws
+pub mod CheapestLaws
