@@ -42,13 +42,13 @@ module _ {ℓ} {A : Type ℓ} (f : ℕ → List A) where
       (List·Memᴰ·append-cases (joined f n) m)
 
 module _ (most : ℕ) where
-  pub choices-listed : {n : ℕ} {plan : List ℕ} → Choices most n plan → List·Memᴰ plan (choiceLists most n)
+  choices-listed : {n : ℕ} {plan : List ℕ} → Choices most n plan → List·Memᴰ plan (choiceLists most n)
   unfolding choiceLists
   choices-listed none = List·Memᴰ·head refl
   choices-listed (more {n} {c} h rest) =
       in-joined _ (suc most) c (omega arith) (Memᴰ·map (λ choices. c ∷ choices) (choices-listed rest))
 
-  pub listed-choices : (n : ℕ) {plan : List ℕ} → List·Memᴰ plan (choiceLists most n) → Choices most n plan
+  listed-choices : (n : ℕ) {plan : List ℕ} → List·Memᴰ plan (choiceLists most n) → Choices most n plan
   unfolding choiceLists
   listed-choices zero m = rw (List·Memᴰ·eq-of-singleton m) none
   listed-choices (suc n) {plan} m =

@@ -7,3 +7,4 @@ pub mod OptionsLaws
 pub mod CostLaws
 pub mod ChoiceListLaws
 pub mod CheapestLaws
+pub mod BestPlanLaws
