@@ -7,22 +7,22 @@ use mathlib.Core.Path.{_≡_, refl, sym, _∙_}
 use native.Mathlib.Nat.{div-lt-iff-lt-mul, zero-lt-suc}
 use native.Mathlib.Omega.{arith}
 use lib.Dec.{eqb, eqb·suc-zero}
+use lib.ListN.{length}
 use borrow.Author.Tests.{eq-eqb, ne-eqb}
 use Rattle.laws.specs.SumLaws.{sum-cong, sum-zero, sum-add, sum-scaled}
 use Rattle.laws.specs.SumOrderLaws.{sum-exchange, sum-of-one-term}
 use Rattle.laws.specs.Sums.{sum}
 use Rattle.instance.specs.Node.{Problem, levelCount, taskCount, levelAt, taskAt}
 use Rattle.instance.specs.declared.refusal.Verdict.the-variants.{Accepted}
-use Rattle.schedule.specs.CheckLaws.{AllowedPlan, choices-pass}
+use Rattle.schedule.specs.CheckLaws.{AllowedPlan}
 use Rattle.schedule.specs.Plans.{planPasses}
 use Rattle.schedule.specs.Quantities.{choiceAt, isRefused, levelOf, keeps, jobs, jobTicks, ticksOn, loadOn, coreEnergy, energy, penalty, cost}
-use Rattle.schedule.specs.VerdictLaws.{andThen-accepts}
 use Rattle.search.specs.Assignment.{choiceCost, totalCost}
-use Rattle.planner.specs.OptionsLaws.{total-over-tasks}
+use Rattle.planner.specs.OptionsLaws.{total-over-tasks, passing-choices}
 use Rattle.planner.specs.OptionsOf.{jobsOf, loadAt, itemOf, optionsOf}
 
 -- the core of a choice in range is one of the cores
-core-of-choice : (cores levels : ℕ) {d : ℕ} → d < cores * levels → d / levels < cores
+pub core-of-choice : (cores levels : ℕ) {d : ℕ} → d < cores * levels → d / levels < cores
 core-of-choice cores zero h = absurd (omega arith)
 core-of-choice cores (suc levels) h = div-lt-iff-lt-mul (zero-lt-suc levels) .1 h
 
@@ -90,18 +90,16 @@ module _ (p : Problem) (plan : List ℕ) where
       go true x y = omega arith
       go false x y = omega arith
 
+  pub total-cost-by-task : length plan ≡ taskCount p →
+      totalCost (levelCount p) (optionsOf p .items) plan
+      ≡ sum (λ i. choiceCost (levelCount p) (itemOf p (taskAt p i)) (choiceAt plan i)) (taskCount p)
+  unfolding totalCost
+  total-cost-by-task e =
+      total-over-tasks p (choiceCost (levelCount p)) (totalCost (levelCount p)) (λ plan. refl) (λ item items c plan. refl) plan e
+
   pub cost-is-total : planPasses p plan ≡ Accepted → cost p plan ≡ totalCost (levelCount p) (optionsOf p .items) plan
-  unfolding planPasses totalCost
   cost-is-total passes =
-      let allowed = choices-pass p plan .0 (andThen-accepts _ _ .0 passes .0) in
+      let allowed = passing-choices p plan passes in
       cost-by-task allowed
       ∙ sum-cong _ _ _ (λ i h. cost-of-choice i)
-      ∙ sym
-      (total-over-tasks
-      p
-      (choiceCost (levelCount p))
-      (totalCost (levelCount p))
-      (λ plan. refl)
-      (λ item items c plan. refl)
-      plan
-      (allowed .one-choice-per-task))
+      ∙ sym (total-cost-by-task (allowed .one-choice-per-task))

@@ -8,3 +8,4 @@ pub mod CostLaws
 pub mod ChoiceListLaws
 pub mod CheapestLaws
 pub mod BestPlanLaws
+pub mod OptionsBounds

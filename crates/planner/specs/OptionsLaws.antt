@@ -15,7 +15,7 @@ use Rattle.instance.specs.Node.{Problem, levelCount, taskCount, taskAt, noTask,
 use Rattle.instance.specs.declared.node.Task.{Task}
 use Rattle.instance.specs.declared.refusal.Verdict.the-variants.{Accepted}
 use Rattle.schedule.specs.CheckLaws.{AllowedPlan, choices-pass}
-use Rattle.schedule.specs.Plans.{mostChoice, fits, coresFit, planPasses}
+use Rattle.schedule.specs.Plans.{mostChoice, choicesPass, fits, coresFit, planPasses}
 use Rattle.schedule.specs.Quantities
 use Rattle.schedule.specs.Quantities.{choiceAt, keeps, jobs, jobTicks, ticksOn, loadOn}
 use Rattle.schedule.specs.VerdictLaws.{andThen-accepts, none-refused}
@@ -94,12 +94,17 @@ module _ (p : Problem) where
   unfolding loadOn ticksOn keeps jobs jobTicks choiceLoad itemOf loadAt jobsOf
   load-is-choiceLoad plan k i = scaled-part (jobs p i) (keeps p plan k i) (jobTicks p plan i)
 
+  pub core-load-by-task : (plan : List ℕ) (k : ℕ) → length plan ≡ taskCount p →
+      coreLoad (levelCount p) k (optionsOf p .items) plan
+      ≡ sum (λ i. choiceLoad (levelCount p) k (itemOf p (taskAt p i)) (choiceAt plan i)) (taskCount p)
+  unfolding coreLoad
+  core-load-by-task plan k e =
+      total-over-tasks (choiceLoad (levelCount p) k) (coreLoad (levelCount p) k) (λ plan. refl) (λ item items c plan. refl) plan e
+
   core-load-is-total : (plan : List ℕ) (k : ℕ) → length plan ≡ taskCount p →
       Quantities.coreLoad p plan k ≡ coreLoad (levelCount p) k (optionsOf p .items) plan
-  unfolding Quantities.coreLoad coreLoad
-  core-load-is-total plan k e =
-      sum-cong _ _ _ (λ i h. load-is-choiceLoad plan k i)
-      ∙ sym (total-over-tasks (choiceLoad (levelCount p) k) (coreLoad (levelCount p) k) (λ plan. refl) (λ item items c plan. refl) plan e)
+  unfolding Quantities.coreLoad
+  core-load-is-total plan k e = sum-cong _ _ _ (λ i h. load-is-choiceLoad plan k i) ∙ sym (core-load-by-task plan k e)
 
   cores-fit-iff : (plan : List ℕ) → length plan ≡ taskCount p →
       (coresFit p plan ≡ Accepted) ↔ ((k : ℕ) → k < p .cores → coreLoad (levelCount p) k (optionsOf p .items) plan ≤ span p)
@@ -111,15 +116,18 @@ module _ (p : Problem) where
     λ fit. none-refused _ _ _ .1 (λ k h. rw (core-load-is-total plan k e, le-leb _ _ (fit k h))),
   )
 
+  pub passing-choices : (plan : List ℕ) → planPasses p plan ≡ Accepted → AllowedPlan p plan
+  unfolding planPasses
+  passing-choices plan passes = choices-pass p plan .0 (andThen-accepts _ _ .0 passes .0)
+
   pub passing-is-allowed : (plan : List ℕ) → (planPasses p plan ≡ Accepted) ↔ Allowed (optionsOf p) plan
   unfolding planPasses optionsOf
   passing-is-allowed plan = (
     λ passes.
-        let both = andThen-accepts _ _ .0 passes in
-        let allowed = choices-pass p plan .0 (both .0) in
+        let allowed = passing-choices plan passes in
         record {
           choices = choices-allowed-iff plan .0 allowed;
-          cores-fit = cores-fit-iff plan (allowed .one-choice-per-task) .0 (both .1);
+          cores-fit = cores-fit-iff plan (allowed .one-choice-per-task) .0 (andThen-accepts (choicesPass p plan) _ .0 passes .1);
         },
     λ allowed.
         let choices = choices-allowed-iff plan .1 (allowed .choices) in
