@@ -2,6 +2,9 @@ pub mod Limits
 pub mod Refusals
 pub mod Node
 pub mod Text
+pub mod Tokens
+pub mod TextLaws
+pub mod TokenSteps
 pub mod SiteFile
 pub mod Outcomes
 pub mod Valid

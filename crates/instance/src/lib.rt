@@ -1,6 +1,7 @@
 // What a site's file says: from text to words, from words to an instance, and every refusal that these papers number.
 mod node;
 mod refusal;
+mod text;
 
 pub use node::Instance;
 pub use node::Level;
@@ -10,3 +11,5 @@ pub use refusal::InstanceRead;
 pub use refusal::Refusal;
 pub use refusal::TextRead;
 pub use refusal::Verdict;
+pub use text::Token;
+pub use text::number_at;
