@@ -5,6 +5,7 @@ pub mod Text
 pub mod Tokens
 pub mod TextLaws
 pub mod TokenSteps
+pub mod TextSteps
 pub mod SiteFile
 pub mod Outcomes
 pub mod Valid
@@ -16,3 +17,4 @@ pub mod ReadLevels
 pub mod ReadTasks
 pub mod SiteFileLaws
 pub mod SiteFileRefusals
+pub mod WordsLaws

@@ -2,13 +2,12 @@
 use Prim.Native.Nat.{ℕ, suc, _+_, _*_, _-_, _≤_, _<_}
 use mathlib.Core.Bool.{Bool, true, false, cond, _&&_}
 use mathlib.Core.List.{List, [], _∷_}
-use mathlib.Core.Path.{_≡_, refl, ap, _∙_}
-use native.Mathlib.Numerals.{add-one}
+use mathlib.Core.Path.{_≡_, refl, ap, subst, _∙_}
 use native.Mathlib.Omega.{arith}
 use borrow.Author.Tests.{eqb-true, leb-true, leb-false, lt-ltb, le-ltb}
 use lib.Dec.{leb, eqb}
-use lib.ListN.{length, drop, length-drop}
-use lib.Seq.{drop-drop}
+use lib.ListN.{length, drop}
+use Rattle.laws.specs.ListLaws.{rest-after, below-length}
 use Rattle.instance.specs.Limits.{mostWord}
 use Rattle.instance.specs.Text.{isDigit, isBlank, value, valueAfter, begins, numbers, faulty, firstFault}
 use Rattle.instance.specs.Tokens.{afterDigits, numberFrom, tokenFrom, tokenAt}
@@ -56,14 +55,6 @@ value-grows so-far (b ∷ text) = go (isDigit b) (value-grows (so-far * 10 + (b 
     go true more = omega arith
     go false more = omega arith
 
--- a text whose byte at `at` is b, with `rest` after it
-module _ (text rest : List ℕ) (at b : ℕ) (here : drop at text ≡ b ∷ rest) where
-  rest-after : drop (suc at) text ≡ rest
-  rest-after = cc (drop-drop 1 at text, ap (drop 1) here, add-one at)
-
-  below-length : at < length text
-  below-length = omega (arith, rw length-drop at (ap length here))
-
 -- after a digit, the numbers and the first fault go on where the run of digits ends
 record RunPassed (text : List ℕ) (at next : ℕ) : Type 0 where
   later : at ≤ next
@@ -94,6 +85,7 @@ run-passed text (b ∷ rest) at inside e =
     go false digit passed =
         record { later = omega arith; within = inside; number = rw (e, digit); fault = rw (e, digit) }
 
+-- a text whose byte at `at` is b, with `rest` after it
 module _ (text rest : List ℕ) (at b : ℕ) (here : drop at text ≡ b ∷ rest) where
   next-here : drop (suc at) text ≡ rest
   next-here = rest-after text rest at b here
@@ -161,6 +153,6 @@ token-says-from text (b ∷ rest) at e =
     go false blank false digit said = at-other-byte text rest at b e blank digit
 
 -- each token says what is left of the text
-pub token-says : (text : List ℕ) (at : ℕ) → TokenSays text at (tokenAt text at)
+pub token-says : (text : List ℕ) (at : ℕ) {token : Token} → tokenAt text at ≡ token → TokenSays text at token
 unfolding tokenAt
-token-says text at = token-says-from text (drop at text) at refl
+token-says text at e = subst (λ (t : Token). TokenSays text at t) e (token-says-from text (drop at text) at refl)

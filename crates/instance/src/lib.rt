@@ -13,3 +13,4 @@ pub use refusal::TextRead;
 pub use refusal::Verdict;
 pub use text::Token;
 pub use text::number_at;
+pub use text::words_of_text;

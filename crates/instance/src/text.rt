@@ -1,9 +1,19 @@
 // From text to words: numbers are taken from the text one after another.
+use crate::refusal::Refusal;
+use crate::refusal::TextRead;
+ghost use mathlib.Core.Bool.{false};
 ghost use mathlib.Core.Path.{_≡_};
-ghost use lib.ListN.{drop};
-ghost use Rattle.instance.specs.Text.{isDigit, isBlank};
+ghost use Prim.Native.Nat.{min};
+ghost use lib.ListN.{length, drop};
+ghost use Rattle.laws.specs.Lists.{onto};
+ghost use Rattle.instance.specs.Limits.{mostTextBytes};
+ghost use Rattle.instance.specs.Outcomes.{wordsOutcome};
+ghost use Rattle.instance.specs.Text.{isDigit, isBlank, numbers};
+ghost use Rattle.instance.specs.TextSteps.{Counted, Writable};
 ghost use Rattle.instance.specs.Tokens.{numberFrom, tokenAt};
 ghost use Rattle.instance.specs.TokenSteps.{BlanksSkipped};
+
+const MOST_TEXT_BYTES: usize = 4_096;
 
 // The largest 32-bit word.
 const MOST_WORD: u64 = 4_294_967_295;
@@ -73,4 +83,80 @@ pub fn number_at(text: &[u8], at: usize) -> Token
         return number_from(text, first);
     }
     Token::Fault(first)
+}
+
+// How many numbers a text holds, or its first fault.
+fn count_words(text: &[u8]) -> TextRead
+    ensures { λ r. ⌜ Counted (now (text .entry)) r ⌝ }
+{
+    let mut at = 0;
+    let mut count = 0;
+    loop {
+        match number_at(text, at) {
+            Token::Number(_, next) => {
+                at = next;
+                count += 1;
+            }
+            Token::End => {
+                return TextRead::Words(count);
+            }
+            Token::Fault(place) => {
+                return TextRead::Refused(Refusal::Text(place));
+            }
+        }
+    }
+}
+
+// The numbers of a text with no fault, to the front of a buffer with room for them.
+fn write_words(text: &[u8], words: &mut [u32])
+    requires { ⌜ Writable (now text) (now words) ⌝ }
+    ensures { λ _. ⌜ now (words .exit) ≡ onto (numbers false (now (text .entry))) (now (words .entry)) ⌝ }
+{
+    let mut at = 0;
+    let mut count = 0;
+    loop {
+        match number_at(text, at) {
+            Token::Number(word, next) => {
+                words[count] = word;
+                at = next;
+                count += 1;
+            }
+            Token::End => {
+                return;
+            }
+            Token::Fault(_) => {
+                return;
+            }
+        }
+    }
+}
+
+// How many of the text's bytes are read.
+fn head_length(text: &[u8]) -> usize
+    ensures { λ r. ⌜ r ≡ min mostTextBytes (length (now (text .entry))) ⌝ }
+{
+    if MOST_TEXT_BYTES < text.len() {
+        return MOST_TEXT_BYTES;
+    }
+    text.len()
+}
+
+// The text is read twice: nothing is written before all of it is known to be right and to have room.
+pub fn words_of_text(text: &[u8], words: &mut [u32]) -> TextRead
+    ensures { λ r. ⌜ r ≡ wordsOutcome (now (text .entry)) (now (words .entry)) .answer ⌝ }
+    ensures { λ _. ⌜ now (words .exit) ≡ wordsOutcome (now (text .entry)) (now (words .entry)) .words ⌝ }
+{
+    let n = head_length(text);
+    let read = count_words(&text[..n]);
+    let TextRead::Words(count) = read else {
+        return read;
+    };
+    if n < text.len() {
+        return TextRead::Refused(Refusal::Text(n));
+    }
+    if words.len() < count {
+        return TextRead::Refused(Refusal::ShortBuffer(count));
+    }
+    write_words(text, words);
+    read
 }

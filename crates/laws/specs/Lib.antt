@@ -15,3 +15,4 @@ pub mod CountLaws
 pub mod DivisionLaws
 pub mod SumBounds
 pub mod SumOrderLaws
+pub mod ListLaws
