@@ -11,6 +11,8 @@ pub use refusal::InstanceRead;
 pub use refusal::Refusal;
 pub use refusal::TextRead;
 pub use refusal::Verdict;
+pub use refusal::refusal_number;
+pub use refusal::refusal_place;
 pub use text::Token;
 pub use text::number_at;
 pub use text::words_of_text;

@@ -72,6 +72,7 @@ fn number_from(text: &[u8], first: usize) -> Token
     Token::Number(value as u32, at)
 }
 
+// The next number from `at` on: whoever reads on goes on at the position that comes with it.
 pub fn number_at(text: &[u8], at: usize) -> Token
     ensures { λ r. ⌜ r ≡ tokenAt (now (text .entry)) at ⌝ }
 {
