@@ -18,3 +18,6 @@ pub mod ReadTasks
 pub mod SiteFileLaws
 pub mod SiteFileRefusals
 pub mod WordsLaws
+pub mod Decimal
+pub mod DecimalLaws
+pub mod SpelledLaws

@@ -6,12 +6,12 @@ use mathlib.Core.List.{List}
 use mathlib.Core.Path.{_≡_, refl, sym, ap, _∙_}
 use native.Mathlib.Omega.{arith}
 use borrow.Author.Tests.{lt-ltb, le-ltb, le-leb, lt-leb}
-use lib.ListN.{length, take, length-take}
+use lib.ListN.{length, take}
 use lib.Seq.{take-all, length-take-le}
 use Rattle.laws.specs.ListLaws.{take-min}
 use Rattle.laws.specs.Lists.{onto}
 use Rattle.instance.specs.Limits.{mostTextBytes}
-use Rattle.instance.specs.Outcomes.{WordsOutcome, wordsOutcome}
+use Rattle.instance.specs.Outcomes.{wordsOutcome}
 use Rattle.instance.specs.Refusals.{Reading, refused, accepted, room}
 use Rattle.instance.specs.Text.{numbers, firstFault, wordsOf}
 use Rattle.instance.specs.TextSteps.{NoFault, FirstFault, Counted, Writable}
@@ -28,6 +28,14 @@ reading head text =
 reading-of-head : (text head : List ℕ) → head ≡ take mostTextBytes text → wordsOf text ≡ reading head text
 unfolding wordsOf reading
 reading-of-head text head e = ap (λ (h : List ℕ). reading h text) (sym e)
+
+pub accepted-whole :
+    (text : List ℕ) → length text ≤ mostTextBytes → firstFault false text ≡ length text →
+    wordsOf text ≡ accepted (numbers false text)
+unfolding reading
+accepted-whole text short no-fault =
+    reading-of-head text text (sym (take-all mostTextBytes text short)) ∙
+    rw (no-fault, le-ltb (length text) (length text) (omega arith))
 
 -- the answer, and the buffer afterwards, are the outcome's
 abbrev pub WordsRead : List ℕ → List ℕ → TextRead → List ℕ → Type 0
@@ -72,9 +80,7 @@ module _ (text buffer : List ℕ) (n : ℕ) (cut : n ≡ min mostTextBytes (leng
       whole-counted = rw (take-all n text whole) at no-fault
 
       all-accepted : wordsOf text ≡ accepted (numbers false text)
-      unfolding reading
-      all-accepted =
-          as-read ∙ rw (take-all n text whole, whole-counted .fault, le-ltb (length text) (length text) (omega arith))
+      all-accepted = accepted-whole text (omega arith) (whole-counted .fault)
 
       pub no-room : length buffer < count → WordsRead text buffer (Refused (ShortBuffer count)) buffer
       unfolding wordsOutcome room
