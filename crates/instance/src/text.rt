@@ -114,13 +114,13 @@ fn write_words(text: &[u8], words: &mut [u32])
     ensures { λ _. ⌜ now (words .exit) ≡ onto (numbers false (now (text .entry))) (now (words .entry)) ⌝ }
 {
     let mut at = 0;
-    let mut count = 0;
+    let mut written = 0;
     loop {
         match number_at(text, at) {
             Token::Number(word, next) => {
-                words[count] = word;
+                words[written] = word;
                 at = next;
-                count += 1;
+                written += 1;
             }
             Token::End => {
                 return;

@@ -10,10 +10,10 @@ use Rattle.instance.proofs.text.write_words.Statement.{statement}
 use Rattle.instance.proofs.text.write_words.Tie as tie
 
 abbrev Inv-loop : tie.InvT-loop
-Inv-loop text words₀ at₀ count₀ words at count = WordsWritten text words₀ words at count
+Inv-loop text words₀ at₀ written₀ words at written = WordsWritten text words₀ words at written
 
 abbrev μ-loop : tie.MeasureT-loop
-μ-loop text words₀ at₀ count₀ words at count = length text - at
+μ-loop text words₀ at₀ written₀ words at written = length text - at
 
 taken :
     (c : tie.After-known-told Inv-loop μ-loop) →
@@ -33,7 +33,7 @@ enum-known-word c = search needs
 
 room :
     (c : tie.After-known-told Inv-loop μ-loop) →
-    c .before .before .before .before .loop .count < length (c .before .before .before .before .loop .words)
+    c .before .before .before .before .loop .written < length (c .before .before .before .before .loop .words)
 room c =
     let writable = c .before .before .before .before .before .before .before .pre in
     room-for-next _ _ _ _ _ writable (c .before .before .before .before .loop .inv) _ _ (taken c)
@@ -44,8 +44,8 @@ mul-words c = omega (arith, room c)
 slice-write-words : tie.Need-slice-write-words Inv-loop μ-loop
 slice-write-words c = room c
 
-add-count : tie.Need-add-count Inv-loop μ-loop
-add-count c = omega (arith, taken c)
+add-written : tie.Need-add-written Inv-loop μ-loop
+add-written c = omega (arith, taken c)
 
 loop-less : tie.Need-loop-less Inv-loop μ-loop
 loop-less c = omega (arith, taken c)
@@ -90,7 +90,7 @@ write-words-spec =
     enum-known-word
     mul-words
     slice-write-words
-    add-count
+    add-written
     loop-less
     loop-again
     enum-told
