@@ -5,10 +5,10 @@ use mathlib.Core.List.{List, _∷_}
 use mathlib.Core.Path.{_≡_, refl, ap, _∙_}
 use native.Mathlib.Numerals.{add-one}
 use native.Mathlib.Omega.{arith}
+use lib.ListN.{length, take, drop, set, length-drop, length-set}
 use lib.Seq.{take-all}
-use Rattle.laws.specs.Lists.{onto}
-use lib.ListN.{take, set, length-set, length, drop, length-drop}
 use Rattle.laws.specs.ListLaws.{rest-after, below-length, onto-one-more}
+use Rattle.laws.specs.Lists.{onto}
 use Rattle.instance.specs.Text.{numbers, firstFault}
 use Rattle.instance.specs.TextLaws.{NumberTaken, EndReached, FaultFound}
 use Rattle.instance.specs.declared.refusal.Refusal.{Refusal}
