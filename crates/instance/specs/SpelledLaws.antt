@@ -1,13 +1,14 @@
 -- Words written in base ten with single spaces between are read back as themselves.
 use Prim.Native.Nat.{ℕ, suc, _+_, _≤_, _<_, suc-le-suc}
-use mathlib.Core.Bool.{Bool, true, false}
+use mathlib.Core.Bool.{true, false}
 use mathlib.Core.List.{List, [], _∷_, _++_}
-use mathlib.Core.Path.{_≡_, refl, sym, ap, _∙_}
+use mathlib.Core.Path.{_≡_, refl, ap, _∙_}
 use native.Mathlib.Nat.{zero-add}
 use native.Mathlib.Omega.{arith}
 use borrow.Author.Tests.{le-leb}
 use lib.ListN.{length, getD, length-append}
 use lib.Seq.{drop-append-seam}
+use Rattle.laws.specs.Truth.{false-not-true, not-true-is-false}
 use Rattle.instance.specs.Decimal.{decimal, spaced, spelled}
 use Rattle.instance.specs.DecimalLaws.{Digits, none, one, decimal-is-digits, decimal-is-some, value-append, value-of-decimal}
 use Rattle.instance.specs.Limits.{mostTextBytes, mostWord}
@@ -38,11 +39,8 @@ after-run at text none ends = ends .after at ∙ omega arith
 after-run at text (one digit rest) ends = rw digit (after-run (suc at) text rest ends ∙ omega arith)
 
 digit-is-no-blank : (b : ℕ) → isDigit b ≡ true → isBlank b ≡ false
-digit-is-no-blank b digit = go (isBlank b) refl
-  where
-    go : (blank : Bool) → isBlank b ≡ blank → blank ≡ false
-    go true e = sym digit ∙ blank-is-no-digit b e
-    go false e = refl
+digit-is-no-blank b digit =
+    not-true-is-false (isBlank b) (λ blank. false-not-true (blank-is-no-digit b blank) digit)
 
 number-first :
     {run : List ℕ} (at : ℕ) (text : List ℕ) → Digits run → 0 < length run →

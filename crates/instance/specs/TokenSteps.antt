@@ -1,6 +1,6 @@
 -- Taking a token byte by byte: what holds between two bytes, and how each byte goes on.
 use Prim.Native.Nat.{ℕ, suc, _+_, _*_, _-_, _≤_, _<_}
-use mathlib.Core.Bool.{Bool, true, false}
+use mathlib.Core.Bool.{true, false}
 use mathlib.Core.List.{List}
 use mathlib.Core.Path.{_≡_, refl, _∙_}
 use native.Mathlib.Nat.{lt-of-lt-of-le}
@@ -10,6 +10,7 @@ use borrow.Author.Tests.{leb-true, le-leb, lt-leb}
 use lib.Dec.{leb}
 use lib.ListN.{length, drop, getD, drop-of-length-le}
 use lib.Seq.{drop-cons}
+use Rattle.laws.specs.Truth.{and-is-true}
 use Rattle.instance.specs.Limits.{mostWord}
 use Rattle.instance.specs.Text.{isDigit, isBlank, valueAfter}
 use Rattle.instance.specs.TextLaws.{value-grows}
@@ -32,11 +33,7 @@ no-digit-read text first = record { value = refl; after = refl; small = omega ar
 
 pub at-least-48 : (b : ℕ) → isDigit b ≡ true → 48 ≤ b
 unfolding isDigit
-at-least-48 b digit = go (leb 48 b) refl
-  where
-    go : (enough : Bool) → leb 48 b ≡ enough → 48 ≤ b
-    go true e = leb-true 48 b e
-    go false e = let z : false ≡ true = rw e at digit in let n : _≡_ {A = ℕ} 0 1 = cc in absurd (omega arith)
+at-least-48 b digit = leb-true 48 b (and-is-true (leb 48 b) (leb b 57) .0 digit .0)
 
 -- the text's end at `at`
 module _ (text : List ℕ) (at : ℕ) (ends : length text ≤ at) where
