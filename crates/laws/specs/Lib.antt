@@ -16,3 +16,5 @@ pub mod DivisionLaws
 pub mod SumBounds
 pub mod SumOrderLaws
 pub mod ListLaws
+pub mod ListLaws
+pub mod SearchLaws
