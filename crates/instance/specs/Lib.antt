@@ -21,3 +21,6 @@ pub mod WordsLaws
 pub mod Decimal
 pub mod DecimalLaws
 pub mod SpelledLaws
+pub mod Sections
+pub mod TakenLaws
+pub mod SectionLaws

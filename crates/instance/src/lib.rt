@@ -1,7 +1,10 @@
 // What a site's file says: from text to words, from words to an instance, and every refusal that these papers number.
+mod limits;
 mod node;
 mod refusal;
 mod text;
+mod settings;
+mod word;
 
 pub use node::Instance;
 pub use node::Level;
