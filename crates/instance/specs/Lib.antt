@@ -22,5 +22,8 @@ pub mod Decimal
 pub mod DecimalLaws
 pub mod SpelledLaws
 pub mod Sections
+pub mod Levels
 pub mod TakenLaws
 pub mod SectionLaws
+pub mod RepeatedLaws
+pub mod LevelsLaws

@@ -1,30 +1,55 @@
 -- What an answer of the code says of the words: which case of the definition it is.
-use Prim.Native.Nat.{ℕ}
+use Prim.Native.Nat.{ℕ, suc, _+_, _-_, _<_}
 use mathlib.Core.Bool.{Bool}
-use mathlib.Core.List.{List}
-use mathlib.Core.Path.{_≡_}
+use mathlib.Core.List.{List, _∷_}
+use mathlib.Core.Path.{_≡_, refl, _∙_}
 use native.Mathlib.Omega.{arith}
-use lib.ListN.{drop}
-use Rattle.instance.specs.Sections.{wordRead}
-use Rattle.instance.specs.SiteFile.{Taken, refused, taken, word}
-use Rattle.instance.specs.TakenLaws.{InPlace, word-keeps-place}
+use lib.ListN.{drop, set}
+use Rattle.instance.specs.Sections.{answered, wordRead}
+use Rattle.instance.specs.SiteFile.{Taken, refused, taken, Take, continue, _>>=_, done, word}
+use Rattle.instance.specs.TakenLaws.{Holds, InPlace, KeepsPlace, word-keeps-place}
 use Rattle.instance.specs.declared.refusal.Refusal.{Refusal}
 use Rattle.instance.specs.declared.word.Word.{Word}
 use Rattle.instance.specs.declared.word.Word.the-variants as Word
 
-word-read-taken : (all : List ℕ) (t : Taken ℕ) (answer : Word) (w next : ℕ) → InPlace all t
-    → answer ≡ wordRead t → answer ≡ Word.Taken w next → t ≡ taken w next (drop next all)
-word-read-taken all (refused r) answer w next place read is = let z : _≡_ {A = ℕ} 0 1 = cc in absurd (omega arith)
-word-read-taken all (taken v next′ words) answer w next place read is = cc
+-- an answer that is no refusal, at an index into the whole list
 
-word-read-refused : (t : Taken ℕ) (answer : Word) (r : Refusal) → answer ≡ wordRead t → answer ≡ Word.Refused r → t ≡ refused r
-word-read-refused (refused r′) answer r read is = cc
-word-read-refused (taken v next words) answer r read is = let z : _≡_ {A = ℕ} 0 1 = cc in absurd (omega arith)
+pub record TakenAt {A : Type 0} (all : List ℕ) (t : Taken A) {B : Type 0} (on-taken : A → ℕ → B) (answer : B) : Type 0 where
+  pub what : A
+  pub next : ℕ
+  pub is : t ≡ taken what next (drop next all)
+  pub answers : answer ≡ on-taken what next
+
+pub record RefusedFor {A : Type 0} (t : Taken A) {B : Type 0} (on-refused : Refusal → B) (answer : B) : Type 0 where
+  pub why : Refusal
+  pub is : t ≡ refused why
+  pub answers : answer ≡ on-refused why
+
+module _ {A B : Type 0} (on-refused : Refusal → B) (on-taken : A → ℕ → B) where
+  pub answered-taken : (all : List ℕ) (t : Taken A) (answer : B) → Holds (InPlace all) t → answer ≡ answered on-refused on-taken t
+      → ((r : Refusal) → answer ≡ on-refused r → ⊥) → TakenAt all t on-taken answer
+  unfolding Holds
+  answered-taken all (refused r) answer place read never = absurd (never r read)
+  answered-taken all (taken a next words) answer place read never =
+      record { what = a; next = next; is = rw place; answers = read }
+
+  pub answered-refused : (t : Taken A) (answer : B) → answer ≡ answered on-refused on-taken t
+      → ((a : A) (next : ℕ) → answer ≡ on-taken a next → ⊥) → RefusedFor t on-refused answer
+  answered-refused (refused r) answer read never = record { why = r; is = refl; answers = read }
+  answered-refused (taken a next words) answer read never = absurd (never a next read)
+
+-- words
 
 module _ (passes : ℕ → Bool) (all : List ℕ) (at : ℕ) {answer : Word} (read : answer ≡ wordRead (word passes at (drop at all))) where
   pub word-taken : {w next : ℕ} → answer ≡ Word.Taken w next → word passes at (drop at all) ≡ taken w next (drop next all)
-  word-taken {w} {next} is =
-      word-read-taken all (word passes at (drop at all)) answer w next (word-keeps-place passes all at) read is
+  word-taken is =
+      let found =
+      answered-taken Word.Refused Word.Taken all (word passes at (drop at all)) answer (word-keeps-place passes .place all at) read (λ r no-refusal.
+      let z : _≡_ {A = ℕ} 0 1 = cc in omega arith)
+      in
+      cc
 
   pub word-refused : {r : Refusal} → answer ≡ Word.Refused r → word passes at (drop at all) ≡ refused r
-  word-refused {r} is = word-read-refused (word passes at (drop at all)) answer r read is
+  word-refused is =
+      let found = answered-refused Word.Refused Word.Taken (word passes at (drop at all)) answer read (λ w next no-word. let z : _≡_ {A = ℕ} 0 1 = cc in omega arith) in
+      cc

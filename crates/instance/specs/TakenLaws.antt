@@ -1,10 +1,11 @@
 -- Laws of taking words from a list, for code that holds the whole list and an index into it.
-use Prim.Native.Nat.{ℕ, zero, suc, _+_, _≤_, _<_}
-use mathlib.Core.Bool.{Bool, true, false, cond}
+use Prim.Native.Nat.{ℕ, suc, _+_, _≤_, _<_}
+use mathlib.Core.Bool.{Bool, true, false, cond, _&&_, false≢true}
 use mathlib.Core.List.{List, [], _∷_}
-use mathlib.Core.Path.{_≡_, refl, sym, ap, _∙_}
+use mathlib.Core.Path.{_≡_, refl, subst}
 use native.Mathlib.Numerals.{add-one}
-use borrow.Author.Tests.{le-leb, lt-leb}
+use borrow.Author.Tests.{le-leb, lt-leb, leb-true}
+use lib.Dec.{leb}
 use lib.ListN.{length, getD, drop, drop-of-length-le}
 use lib.Seq.{drop-cons, drop-drop}
 use Rattle.instance.specs.SiteFile.{Taken, refused, taken, Take, continue, _>>=_, done, word, between}
@@ -21,6 +22,14 @@ between-fails-below low high w below = rw (lt-leb low w below)
 pub between-fails-above : (low high w : ℕ) → low ≤ w → high < w → between low high w ≡ false
 unfolding between
 between-fails-above low high w from above = rw (le-leb low w from, lt-leb w high above)
+
+pub between-at-most : (low high w : ℕ) → between low high w ≡ true → w ≤ high
+unfolding between
+between-at-most low high w pass = from (leb low w) pass
+  where
+    from : (b : Bool) → b && leb w high ≡ true → w ≤ high
+    from true pass = leb-true w high pass
+    from false pass = absurd (false≢true pass)
 
 -- a word of the whole list
 
@@ -45,39 +54,72 @@ pub continue-assoc : {A B C : Type 0} (t : Taken A) (f : A → Take B) (g : B �
 continue-assoc (refused r) f g = refl
 continue-assoc (taken a at words) f g = refl
 
+-- what holds of all that is taken, of the next index and of the words that are left
+
+unfoldable pub Holds : {A : Type 0} → (A → ℕ → List ℕ → Type 0) → Taken A → Type 0
+Holds P (refused r) = Unit {0}
+Holds P (taken a next words) = P a next words
+
+pub holds-of-taken : {A : Type 0} (P : A → ℕ → List ℕ → Type 0) {t : Taken A} {a : A} {next : ℕ} {words : List ℕ}
+    → Holds P t → t ≡ taken a next words → P a next words
+unfolding Holds
+holds-of-taken P holds is = subst (Holds P) is holds
+
+pub continue-holds : {A B : Type 0} (P : A → ℕ → List ℕ → Type 0) (Q : B → ℕ → List ℕ → Type 0) (t : Taken A) (f : A → Take B)
+    → Holds P t → ((a : A) (next : ℕ) (words : List ℕ) → P a next words → Holds Q (f a next words)) → Holds Q (continue t f)
+unfolding Holds
+continue-holds P Q (refused r) f holds then = tt
+continue-holds P Q (taken a next words) f holds then = then a next words holds
+
+abbrev pub Anything : {A : Type 0} → A → ℕ → List ℕ → Type 0
+Anything a next words = Unit {0}
+
+pub anything-holds : {A : Type 0} (t : Taken A) → Holds Anything t
+unfolding Holds
+anything-holds (refused r) = tt
+anything-holds (taken a next words) = tt
+
+pub done-holds : {A : Type 0} (P : A → ℕ → List ℕ → Type 0) {a : A} {at : ℕ} {words : List ℕ} → P a at words → Holds P (taken a at words)
+unfolding Holds
+done-holds P holds = holds
+
+pub word-holds : (P : ℕ → ℕ → List ℕ → Type 0) (passes : ℕ → Bool) (at : ℕ) (words : List ℕ)
+    → ((w : ℕ) (left : List ℕ) → words ≡ w ∷ left → passes w ≡ true → P w (suc at) left) → Holds P (word passes at words)
+unfolding word Holds
+word-holds P passes at [] then = tt
+word-holds P passes at (w ∷ left) then = tested (passes w) refl
+  where
+    tested : (pass : Bool) → passes w ≡ pass → Holds P (cond pass (taken w (suc at) left) (refused (WordRange at)))
+    tested true pass = then w left refl pass
+    tested false pass = tt
+
+pub word-at-most : (low high at : ℕ) (words : List ℕ) {w next : ℕ} {left : List ℕ} → word (between low high) at words ≡ taken w next left → w ≤ high
+word-at-most low high at words is =
+    holds-of-taken (λ w next left. w ≤ high) (word-holds _ _ at words (λ w left front pass. between-at-most low high w pass)) is
+
 -- the words that are left are those of the whole list from the next index on
 
-abbrev pub InPlace : {A : Type 0} → List ℕ → Taken A → Type 0
-InPlace all (refused r) = Unit {0}
-InPlace all (taken a next words) = words ≡ drop next all
+abbrev pub InPlace : {A : Type 0} → List ℕ → A → ℕ → List ℕ → Type 0
+InPlace all a next words = words ≡ drop next all
 
-abbrev pub KeepsPlace : {A : Type 0} → Take A → Type 0
-KeepsPlace t = (all : List ℕ) (at : ℕ) → InPlace all (t at (drop at all))
+pub record KeepsPlace {A : Type 0} (t : Take A) : Type 0 where
+  pub place : (all : List ℕ) (at : ℕ) → Holds (InPlace all) (t at (drop at all))
 
-continue-in-place : {A B : Type 0} (all : List ℕ) (t : Taken A) (f : A → Take B)
-    → InPlace all t → ((a : A) → KeepsPlace (f a)) → InPlace all (continue t f)
-continue-in-place all (refused r) f place next-place = tt
-continue-in-place all (taken a next words) f place next-place = rw place (next-place a all next)
+pub bind-keeps-place : {A B : Type 0} {t : Take A} {f : A → Take B} → KeepsPlace t → ((a : A) → KeepsPlace (f a)) → KeepsPlace (t >>= f)
+bind-keeps-place {t = t} {f = f} first then =
+    record {
+      place = λ all at.
+          continue-holds (InPlace all) (InPlace all) (t at (drop at all)) f (first .place all at) (λ a next words is.
+          rw is (then a .place all next));
+    }
 
-pub bind-keeps-place : {A B : Type 0} (t : Take A) (f : A → Take B)
-    → KeepsPlace t → ((a : A) → KeepsPlace (f a)) → KeepsPlace (t >>= f)
-bind-keeps-place t f first next all at = continue-in-place all (t at (drop at all)) f (first all at) next
-
-pub done-keeps-place : {A : Type 0} (a : A) → KeepsPlace (done a)
-done-keeps-place a all at = refl
+pub done-keeps-place : {A : Type 0} {a : A} → KeepsPlace (done a)
+done-keeps-place = record { place = λ all at. done-holds (InPlace all) refl }
 
 pub word-keeps-place : (passes : ℕ → Bool) → KeepsPlace (word passes)
-unfolding word
-word-keeps-place passes all at = from (drop at all) refl
-  where
-    step : (w : ℕ) (words : List ℕ) → drop at all ≡ w ∷ words → words ≡ drop (suc at) all
-    step w words e = rw (← add-one at, ← drop-drop 1 at all, e)
-
-    tested : (w : ℕ) (words : List ℕ) (pass : Bool) → drop at all ≡ w ∷ words
-        → InPlace all (cond pass (taken w (suc at) words) (refused (WordRange at)))
-    tested w words true e = step w words e
-    tested w words false e = tt
-
-    from : (words : List ℕ) → drop at all ≡ words → InPlace all (word passes at words)
-    from [] e = tt
-    from (w ∷ words) e = tested w words (passes w) e
+word-keeps-place passes =
+    record {
+      place = λ all at.
+          word-holds (InPlace all) passes at (drop at all) (λ w left is pass.
+          rw (← add-one at, ← drop-drop 1 at all, is));
+    }

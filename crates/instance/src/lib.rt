@@ -1,4 +1,5 @@
 // What a site's file says: from text to words, from words to an instance, and every refusal that these papers number.
+mod levels;
 mod limits;
 mod node;
 mod refusal;

@@ -1,0 +1,50 @@
+-- The levels section as the code reads it: its count, then a level at a time.
+use Prim.Native.Nat.{ℕ, suc, _+_, _≤_}
+use mathlib.Core.List.{List}
+use lib.ListN.{length, replicate}
+use lib.Seq.{sets}
+use Rattle.laws.specs.Lists.{padded}
+use Rattle.instance.specs.Limits
+use Rattle.instance.specs.Node.{noLevel}
+use Rattle.instance.specs.Sections.{answered}
+use Rattle.instance.specs.SiteFile.{Taken, Take, continue, _>>=_, done, word, between, levels}
+use Rattle.instance.specs.declared.levels.LevelRead.{LevelRead}
+use Rattle.instance.specs.declared.levels.LevelRead.the-variants as LevelRead
+use Rattle.instance.specs.declared.levels.LevelsRead.{LevelsRead}
+use Rattle.instance.specs.declared.node.Level.{Level}
+use Rattle.instance.specs.declared.refusal.Refusal.{Refusal}
+use Rattle.instance.specs.declared.refusal.Verdict.the-variants.{Accepted, Refused}
+
+-- the level after `before`
+unfoldable pub oneLevel : Level → Take Level
+oneLevel before = do
+  s ← word (between (suc (before .speed)) Limits.mostSpeed)
+  w ← word (between (suc (before .power)) Limits.mostPower)
+  done (record { speed = s; power = w })
+
+abbrev pub WithinLimits : Level → Type 0
+WithinLimits l = (l .speed ≤ Limits.mostSpeed) × (l .power ≤ Limits.mostPower)
+
+-- n levels after `before`
+abbrev pub levelsAfter : ℕ → Level → Take (List Level)
+levelsAfter n before = levels n (before .speed) (before .power)
+
+unfoldable pub levelsSection : Take (List Level)
+levelsSection = do
+  h ← word (between 1 Limits.mostLevels)
+  levelsAfter h noLevel
+
+abbrev pub levelRead : Taken Level → LevelRead
+levelRead = answered LevelRead.Refused LevelRead.Taken
+
+abbrev pub noLevels : Refusal → LevelsRead
+noLevels r = record { verdict = Refused r; count = 0; levels = replicate Limits.mostLevels noLevel; next = 0 }
+
+unfoldable pub levelsRead : Taken (List Level) → LevelsRead
+levelsRead =
+    answered noLevels (λ ls next.
+    record { verdict = Accepted; count = length ls; levels = padded Limits.mostLevels noLevel ls; next = next })
+
+-- the same from the middle: i levels stand in the array, the last is `before`, and ls come after it
+abbrev pub levelsWith : ℕ → List Level → Level → List Level → ℕ → LevelsRead
+levelsWith i array before ls next = record { verdict = Accepted; count = i + length ls; levels = sets array i ls; next = next }
