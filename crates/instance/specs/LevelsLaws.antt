@@ -15,7 +15,7 @@ use Rattle.instance.specs.RepeatedLaws.{Repeats, Counts, repeated-count,
 use Rattle.instance.specs.SectionLaws.{answered-taken, answered-refused}
 use Rattle.instance.specs.Sections.{answered}
 use Rattle.instance.specs.SiteFile.{Taken, refused, taken, continue, _>>=_, done, word, between, levels}
-use Rattle.instance.specs.TakenLaws.{Holds, InPlace, KeepsPlace, continue-assoc, continue-holds, word-holds, done-holds, bind-keeps-place, done-keeps-place, word-keeps-place, between-at-most}
+use Rattle.instance.specs.TakenLaws.{Holds, InPlace, KeepsPlace, continue-assoc, continue-holds, word-holds, done-holds, bind-keeps-place, done-keeps-place, word-keeps-place, between-holds}
 use Rattle.instance.specs.declared.levels.LevelRead.{LevelRead}
 use Rattle.instance.specs.declared.levels.LevelRead.the-variants as LevelRead
 use Rattle.instance.specs.declared.levels.LevelsRead.{LevelsRead}
@@ -33,10 +33,10 @@ pub one-level-within-limits : (before : Level) (at : ℕ) (words : List ℕ) →
 unfolding oneLevel
 one-level-within-limits before at words =
     continue-holds (λ s next left. s ≤ Limits.mostSpeed) (λ l next left. WithinLimits l) _ _
-    (word-holds _ _ at words (λ s left is pass. between-at-most _ _ s pass))
+    (word-holds _ _ at words (λ s left is pass. between-holds _ _ s pass .1))
     (λ s next left fast.
     continue-holds (λ w next left. w ≤ Limits.mostPower) (λ l next left. WithinLimits l) _ _
-    (word-holds _ _ next left (λ w left is pass. between-at-most _ _ w pass))
+    (word-holds _ _ next left (λ w left is pass. between-holds _ _ w pass .1))
     (λ w next left strong. done-holds (λ l next left. WithinLimits l) (fast, strong)))
 
 module _ (before : Level) (all : List ℕ) (at : ℕ) {answer : LevelRead} (read : answer ≡ levelRead (oneLevel before at (drop at all))) where

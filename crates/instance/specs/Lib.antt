@@ -23,7 +23,10 @@ pub mod DecimalLaws
 pub mod SpelledLaws
 pub mod Sections
 pub mod Levels
+pub mod Tasks
 pub mod TakenLaws
 pub mod SectionLaws
 pub mod RepeatedLaws
 pub mod LevelsLaws
+pub mod PenaltyLaws
+pub mod TasksLaws

@@ -9,6 +9,7 @@ use lib.Dec.{leb}
 use lib.ListN.{length, getD, drop, drop-of-length-le}
 use lib.Seq.{drop-cons, drop-drop}
 use Rattle.instance.specs.SiteFile.{Taken, refused, taken, Take, continue, _>>=_, done, word, between}
+use Rattle.instance.specs.declared.refusal.Refusal.{Refusal}
 use Rattle.instance.specs.declared.refusal.Refusal.the-variants.{WordCount, WordRange}
 
 pub between-passes : (low high w : ℕ) → low ≤ w → w ≤ high → between low high w ≡ true
@@ -23,13 +24,13 @@ pub between-fails-above : (low high w : ℕ) → low ≤ w → high < w → betw
 unfolding between
 between-fails-above low high w from above = rw (le-leb low w from, lt-leb w high above)
 
-pub between-at-most : (low high w : ℕ) → between low high w ≡ true → w ≤ high
+pub between-holds : (low high w : ℕ) → between low high w ≡ true → (low ≤ w) × (w ≤ high)
 unfolding between
-between-at-most low high w pass = from (leb low w) pass
+between-holds low high w pass = from (leb low w) refl pass
   where
-    from : (b : Bool) → b && leb w high ≡ true → w ≤ high
-    from true pass = leb-true w high pass
-    from false pass = absurd (false≢true pass)
+    from : (above : Bool) → leb low w ≡ above → above && leb w high ≡ true → (low ≤ w) × (w ≤ high)
+    from true above below = (leb-true low w above, leb-true w high below)
+    from false above below = absurd (false≢true below)
 
 -- a word of the whole list
 
@@ -83,19 +84,21 @@ pub done-holds : {A : Type 0} (P : A → ℕ → List ℕ → Type 0) {a : A} {a
 unfolding Holds
 done-holds P holds = holds
 
+pub tested-holds : {A : Type 0} (P : A → ℕ → List ℕ → Type 0) (pass : Bool) {a : A} {next : ℕ} {words : List ℕ} (r : Refusal)
+    → (pass ≡ true → P a next words) → Holds P (cond pass (taken a next words) (refused r))
+unfolding Holds
+tested-holds P true r then = then refl
+tested-holds P false r then = tt
+
 pub word-holds : (P : ℕ → ℕ → List ℕ → Type 0) (passes : ℕ → Bool) (at : ℕ) (words : List ℕ)
     → ((w : ℕ) (left : List ℕ) → words ≡ w ∷ left → passes w ≡ true → P w (suc at) left) → Holds P (word passes at words)
 unfolding word Holds
 word-holds P passes at [] then = tt
-word-holds P passes at (w ∷ left) then = tested (passes w) refl
-  where
-    tested : (pass : Bool) → passes w ≡ pass → Holds P (cond pass (taken w (suc at) left) (refused (WordRange at)))
-    tested true pass = then w left refl pass
-    tested false pass = tt
+word-holds P passes at (w ∷ left) then = tested-holds P (passes w) _ (λ pass. then w left refl pass)
 
 pub word-at-most : (low high at : ℕ) (words : List ℕ) {w next : ℕ} {left : List ℕ} → word (between low high) at words ≡ taken w next left → w ≤ high
 word-at-most low high at words is =
-    holds-of-taken (λ w next left. w ≤ high) (word-holds _ _ at words (λ w left front pass. between-at-most low high w pass)) is
+    holds-of-taken (λ w next left. w ≤ high) (word-holds _ _ at words (λ w left front pass. between-holds low high w pass .1)) is
 
 -- the words that are left are those of the whole list from the next index on
 

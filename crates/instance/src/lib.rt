@@ -1,10 +1,12 @@
 // What a site's file says: from text to words, from words to an instance, and every refusal that these papers number.
 mod levels;
 mod limits;
+mod multiples;
 mod node;
 mod refusal;
 mod text;
 mod settings;
+mod tasks;
 mod word;
 
 pub use node::Instance;

@@ -18,3 +18,4 @@ pub mod SumOrderLaws
 pub mod ListLaws
 pub mod ListLaws
 pub mod SearchLaws
+pub mod MultipleSearch
