@@ -7,7 +7,7 @@ use Rattle.laws.specs.Lists.{padded}
 use Rattle.instance.specs.Limits
 use Rattle.instance.specs.Node.{noLevel}
 use Rattle.instance.specs.Sections.{answered}
-use Rattle.instance.specs.SiteFile.{Taken, Take, continue, _>>=_, done, word, between, levels}
+use Rattle.instance.specs.SiteFile.{Taken, Take, _>>=_, done, word, between, levels}
 use Rattle.instance.specs.declared.levels.LevelRead.{LevelRead}
 use Rattle.instance.specs.declared.levels.LevelRead.the-variants as LevelRead
 use Rattle.instance.specs.declared.levels.LevelsRead.{LevelsRead}
@@ -40,10 +40,12 @@ levelRead = answered LevelRead.Refused LevelRead.Taken
 abbrev pub noLevels : Refusal → LevelsRead
 noLevels r = record { verdict = Refused r; count = 0; levels = replicate Limits.mostLevels noLevel; next = 0 }
 
+abbrev pub theseLevels : List Level → ℕ → LevelsRead
+theseLevels ls next =
+    record { verdict = Accepted; count = length ls; levels = padded Limits.mostLevels noLevel ls; next = next }
+
 unfoldable pub levelsRead : Taken (List Level) → LevelsRead
-levelsRead =
-    answered noLevels (λ ls next.
-    record { verdict = Accepted; count = length ls; levels = padded Limits.mostLevels noLevel ls; next = next })
+levelsRead = answered noLevels theseLevels
 
 -- the same from the middle: i levels stand in the array, the last is `before`, and ls come after it
 abbrev pub levelsWith : ℕ → List Level → Level → List Level → ℕ → LevelsRead

@@ -1,12 +1,11 @@
 -- Laws of the levels section.
-use Prim.Native.Nat.{ℕ, zero, suc, _+_, _≤_}
-use mathlib.Core.List.{List, [], _∷_}
-use mathlib.Core.Path.{_≡_, refl, ap}
+use Prim.Native.Nat.{ℕ, suc, _+_, _≤_}
+use mathlib.Core.List.{List, _∷_}
+use mathlib.Core.Path.{_≡_, refl}
 use native.Mathlib.Nat.{zero-add}
 use native.Mathlib.Numerals.{add-one}
 use native.Mathlib.Omega.{arith}
 use lib.ListN.{length, drop, set, replicate}
-use lib.Seq.{sets}
 use Rattle.laws.specs.ListLaws.{sets-of-blank-is-padded}
 use Rattle.instance.specs.Levels.{oneLevel, WithinLimits, levelsAfter, levelsSection, levelRead, noLevels, levelsRead, levelsWith}
 use Rattle.instance.specs.Limits
@@ -14,11 +13,10 @@ use Rattle.instance.specs.Node.{noLevel}
 use Rattle.instance.specs.RepeatedLaws.{Repeats, Counts, repeated-count, repeated-keeps-place}
 use Rattle.instance.specs.SectionLaws.{answered-taken, answered-refused}
 use Rattle.instance.specs.Sections.{answered}
-use Rattle.instance.specs.SiteFile.{Taken, refused, taken, continue, _>>=_, done, word, between, levels}
-use Rattle.instance.specs.TakenLaws.{Holds, InPlace, KeepsPlace, continue-assoc, continue-holds, word-holds, done-holds, bind-keeps-place, done-keeps-place, word-keeps-place, between-holds}
+use Rattle.instance.specs.SiteFile.{Taken, refused, taken, levels}
+use Rattle.instance.specs.TakenLaws.{Holds, KeepsPlace, continue-assoc, continue-holds, word-holds, done-holds, bind-keeps-place, done-keeps-place, word-keeps-place, between-holds}
 use Rattle.instance.specs.declared.levels.LevelRead.{LevelRead}
 use Rattle.instance.specs.declared.levels.LevelRead.the-variants as LevelRead
-use Rattle.instance.specs.declared.levels.LevelsRead.{LevelsRead}
 use Rattle.instance.specs.declared.node.Level.{Level}
 use Rattle.instance.specs.declared.refusal.Refusal.{Refusal}
 

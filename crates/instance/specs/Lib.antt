@@ -24,9 +24,11 @@ pub mod SpelledLaws
 pub mod Sections
 pub mod Levels
 pub mod Tasks
+pub mod SiteRead
 pub mod TakenLaws
 pub mod SectionLaws
 pub mod RepeatedLaws
 pub mod LevelsLaws
 pub mod PenaltyLaws
 pub mod TasksLaws
+pub mod SiteLaws

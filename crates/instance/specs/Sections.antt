@@ -18,7 +18,8 @@ wordRead = answered Word.Refused Word.Taken
 abbrev pub noSettings : Refusal → SettingsRead
 noSettings r = record { verdict = Refused r; weights = record { energy = 0; penalty = 0 }; cores = 0; next = 0 }
 
+abbrev pub theseSettings : Settings → ℕ → SettingsRead
+theseSettings s next = record { verdict = Accepted; weights = s .weights; cores = s .cores; next = next }
+
 unfoldable pub settingsRead : Taken Settings → SettingsRead
-settingsRead =
-    answered noSettings (λ s next.
-    record { verdict = Accepted; weights = s .weights; cores = s .cores; next = next })
+settingsRead = answered noSettings theseSettings

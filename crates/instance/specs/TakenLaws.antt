@@ -8,7 +8,7 @@ use borrow.Author.Tests.{le-leb, lt-leb, leb-true}
 use lib.Dec.{leb}
 use lib.ListN.{length, getD, drop, drop-of-length-le}
 use lib.Seq.{drop-cons, drop-drop}
-use Rattle.instance.specs.SiteFile.{Taken, refused, taken, Take, continue, _>>=_, done, word, between}
+use Rattle.instance.specs.SiteFile.{Taken, refused, taken, Take, continue, _>>=_, done, word, end, between}
 use Rattle.instance.specs.declared.refusal.Refusal.{Refusal}
 use Rattle.instance.specs.declared.refusal.Refusal.the-variants.{WordCount, WordRange}
 
@@ -48,12 +48,25 @@ module _ (passes : ℕ → Bool) (all : List ℕ) (at : ℕ) where
   unfolding word
   word-fails there fail = rw (drop-cons all at 0 there, fail)
 
+pub end-of-all : (all : List ℕ) (at : ℕ) → length all ≤ at → end at (drop at all) ≡ taken tt at []
+unfolding end
+end-of-all all at past = rw (drop-of-length-le all past)
+
+pub end-too-soon : (all : List ℕ) (at : ℕ) → at < length all → end at (drop at all) ≡ refused (WordCount at)
+unfolding end
+end-too-soon all at more = rw (drop-cons all at 0 more)
+
 -- taken and then taken is one taking
 
 pub continue-assoc : {A B C : Type 0} (t : Taken A) (f : A → Take B) (g : B → Take C)
     → continue (continue t f) g ≡ continue t (λ a at words. continue (f a at words) g)
 continue-assoc (refused r) f g = refl
 continue-assoc (taken a at words) f g = refl
+
+pub continue-same : {A B : Type 0} (t : Taken A) (f g : A → Take B)
+    → ((a : A) (at : ℕ) (words : List ℕ) → f a at words ≡ g a at words) → continue t f ≡ continue t g
+continue-same (refused r) f g same = refl
+continue-same (taken a at words) f g same = same a at words
 
 -- what holds of all that is taken, of the next index and of the words that are left
 

@@ -8,7 +8,7 @@ use Rattle.laws.specs.Multiples.{lcm}
 use Rattle.instance.specs.Limits
 use Rattle.instance.specs.Node.{noTask, spanFrom}
 use Rattle.instance.specs.Sections.{answered}
-use Rattle.instance.specs.SiteFile.{Taken, Take, continue, _>>=_, done, word, between, isPenalty, period, tasks}
+use Rattle.instance.specs.SiteFile.{Taken, Take, _>>=_, done, word, between, isPenalty, period, tasks}
 use Rattle.instance.specs.declared.node.Task.{Task}
 use Rattle.instance.specs.declared.refusal.Refusal.{Refusal}
 use Rattle.instance.specs.declared.refusal.Verdict.the-variants.{Accepted, Refused}
@@ -42,16 +42,18 @@ taskRead span = answered TaskRead.Refused (λ t next. TaskRead.Taken t (spanWith
 abbrev pub noTasks : Refusal → TasksRead
 noTasks r = record { verdict = Refused r; count = 0; tasks = replicate Limits.mostTasks noTask; span = 0; next = 0 }
 
-unfoldable pub tasksRead : Taken (List Task) → TasksRead
-tasksRead =
-    answered noTasks (λ ts next.
+abbrev pub theseTasks : List Task → ℕ → TasksRead
+theseTasks ts next =
     record {
       verdict = Accepted;
       count = length ts;
       tasks = padded Limits.mostTasks noTask ts;
       span = spanFrom 1 ts;
       next = next;
-    })
+    }
+
+unfoldable pub tasksRead : Taken (List Task) → TasksRead
+tasksRead = answered noTasks theseTasks
 
 -- the same from the middle: i tasks, of this span, stand in the array, and ts come after them
 abbrev pub tasksWith : ℕ → List Task → ℕ → List Task → ℕ → TasksRead

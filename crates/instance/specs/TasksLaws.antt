@@ -8,7 +8,6 @@ use native.Mathlib.Omega.{arith}
 use borrow.Author.Tests.{leb-true, le-leb, lt-leb}
 use lib.Dec.{leb}
 use lib.ListN.{length, drop, set, replicate}
-use lib.Seq.{sets}
 use Rattle.laws.specs.ListLaws.{sets-of-blank-is-padded}
 use Rattle.laws.specs.MultipleSearch.{lcm-positive}
 use Rattle.laws.specs.Multiples.{lcm}
@@ -17,7 +16,7 @@ use Rattle.instance.specs.Node.{noTask, spanFrom}
 use Rattle.instance.specs.RepeatedLaws.{Repeats, Counts, repeated-count, repeated-keeps-place}
 use Rattle.instance.specs.SectionLaws.{answered-taken, answered-refused}
 use Rattle.instance.specs.Sections.{answered}
-use Rattle.instance.specs.SiteFile.{Taken, refused, taken, continue, _>>=_, done, word, between, period, tasks}
+use Rattle.instance.specs.SiteFile.{Taken, refused, taken, word, between, period, tasks}
 use Rattle.instance.specs.TakenLaws.{Holds, Anything, InPlace, KeepsPlace, between-holds, continue-assoc, anything-holds, done-holds, tested-holds, continue-holds, word-holds, bind-keeps-place, done-keeps-place, word-keeps-place}
 use Rattle.instance.specs.Tasks.{oneTask, spanWith, SpanWithinLimits, tasksSection, taskRead, noTasks, tasksRead, tasksWith}
 use Rattle.instance.specs.declared.node.Task.{Task}

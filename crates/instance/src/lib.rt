@@ -6,6 +6,7 @@ mod node;
 mod refusal;
 mod text;
 mod settings;
+mod site;
 mod tasks;
 mod word;
 
@@ -22,3 +23,4 @@ pub use refusal::refusal_place;
 pub use text::Token;
 pub use text::number_at;
 pub use text::words_of_text;
+pub use site::read_instance;

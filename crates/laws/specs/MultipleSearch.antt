@@ -1,12 +1,11 @@
 -- Trying k = 1, 2, 3 and so on finds the least common multiple of a and b as the first k · b that a divides.
 use Prim.Native.Nat.{ℕ, zero, suc, _*_, _-_, _%_, _<_, zero-le, suc-le-suc}
-use mathlib.Core.Bool.{Bool, false}
-use mathlib.Core.Path.{_≡_, refl, ap}
+use mathlib.Core.Bool.{false}
+use mathlib.Core.Path.{_≡_}
 use native.Mathlib.Nat.{not-suc-le-zero, mul-le-mul}
 use native.Mathlib.Omega.{arith}
 use borrow.Author.Tests.{eq-eqb, ne-eqb}
 use Rattle.laws.specs.Multiples.{divides, lcm}
-use Rattle.laws.specs.Search.{first}
 use Rattle.laws.specs.SearchLaws.{first-none, first-found}
 
 -- none of b, 2 · b, .., (k - 1) · b is a multiple of a

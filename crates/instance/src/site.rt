@@ -1,0 +1,100 @@
+// From the words of a site file to the instance that they are.
+use crate::levels::LevelsRead;
+use crate::levels::levels_at;
+use crate::node::Instance;
+use crate::node::Level;
+use crate::node::Task;
+use crate::node::Weights;
+use crate::refusal::InstanceRead;
+use crate::refusal::Refusal;
+use crate::refusal::Verdict;
+use crate::settings::SettingsRead;
+use crate::settings::settings_at;
+use crate::tasks::TasksRead;
+use crate::tasks::tasks_at;
+ghost use mathlib.Core.Path.{_≡_};
+ghost use lib.ListN.{drop};
+ghost use Rattle.instance.specs.Outcomes.{instanceOutcome};
+ghost use Rattle.instance.specs.SiteFile.{refused};
+ghost use Rattle.instance.specs.SiteRead.{settingsOf, afterSettings, instanceRead, wholeInstance};
+
+fn no_instance(why: Refusal) -> InstanceRead
+    ensures { λ r. ⌜ r ≡ instanceRead (refused why) ⌝ }
+{
+    InstanceRead {
+        verdict: Verdict::Refused(why),
+        instance: Instance {
+            weights: Weights {
+                energy: 0,
+                penalty: 0,
+            },
+            cores: 0,
+            levelcount: 0,
+            levels: [Level { speed: 0, power: 0 }; 8],
+            taskcount: 0,
+            tasks: [Task {
+                period: 0,
+                cycles: 0,
+                penalty: 0,
+            }; 12],
+            span: 0,
+        },
+    }
+}
+
+// The instance that the three sections make.
+fn whole_instance(
+    settings: SettingsRead,
+    levelsection: LevelsRead,
+    tasksection: TasksRead,
+) -> InstanceRead
+    ensures { λ r. ⌜ r ≡ wholeInstance settings levelsection tasksection ⌝ }
+{
+    let weights = settings.weights;
+    let levels = levelsection.levels;
+    let tasks = tasksection.tasks;
+    InstanceRead {
+        verdict: Verdict::Accepted,
+        instance: Instance {
+            weights,
+            cores: settings.cores,
+            levelcount: levelsection.count,
+            levels,
+            taskcount: tasksection.count,
+            tasks,
+            span: tasksection.span,
+        },
+    }
+}
+
+// What follows the settings: the levels, the tasks, and nothing more.
+fn after_settings(words: &[u32], settings: SettingsRead) -> InstanceRead
+    ensures { λ r. ⌜ r ≡ instanceRead (afterSettings (settingsOf settings) (settings .next) (drop (settings .next) (now (words .entry)))) ⌝ }
+{
+    let levelsection = levels_at(words, settings.next);
+    let levels_verdict = levelsection.verdict;
+    if let Verdict::Refused(why) = levels_verdict {
+        return no_instance(why);
+    }
+    let tasksection = tasks_at(words, levelsection.next);
+    let tasks_verdict = tasksection.verdict;
+    if let Verdict::Refused(why) = tasks_verdict {
+        return no_instance(why);
+    }
+    if tasksection.next < words.len() {
+        return no_instance(Refusal::WordCount(tasksection.next));
+    }
+    whole_instance(settings, levelsection, tasksection)
+}
+
+// The instance that the words are, or why they are none.
+pub fn read_instance(words: &[u32]) -> InstanceRead
+    ensures { λ r. ⌜ r ≡ instanceOutcome (now (words .entry)) ⌝ }
+{
+    let settings = settings_at(words, 0);
+    let verdict = settings.verdict;
+    match verdict {
+        Verdict::Refused(why) => no_instance(why),
+        Verdict::Accepted => after_settings(words, settings),
+    }
+}
