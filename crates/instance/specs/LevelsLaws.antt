@@ -6,7 +6,7 @@ use native.Mathlib.Nat.{zero-add}
 use native.Mathlib.Numerals.{add-one}
 use native.Mathlib.Omega.{arith}
 use lib.ListN.{length, drop, set, replicate}
-use Rattle.laws.specs.ListLaws.{sets-of-blank-is-padded}
+use Rattle.laws.specs.PaddedLaws.{sets-of-blank-is-padded}
 use Rattle.instance.specs.Levels.{oneLevel, WithinLimits, levelsAfter, levelsSection, levelRead, noLevels, levelsRead, levelsWith}
 use Rattle.instance.specs.Limits
 use Rattle.instance.specs.Node.{noLevel}

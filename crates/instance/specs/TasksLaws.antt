@@ -8,7 +8,7 @@ use native.Mathlib.Omega.{arith}
 use borrow.Author.Tests.{leb-true, le-leb, lt-leb}
 use lib.Dec.{leb}
 use lib.ListN.{length, drop, set, replicate}
-use Rattle.laws.specs.ListLaws.{sets-of-blank-is-padded}
+use Rattle.laws.specs.PaddedLaws.{sets-of-blank-is-padded}
 use Rattle.laws.specs.MultipleSearch.{lcm-positive}
 use Rattle.laws.specs.Multiples.{lcm}
 use Rattle.instance.specs.Limits

@@ -16,6 +16,4 @@ pub mod DivisionLaws
 pub mod SumBounds
 pub mod SumOrderLaws
 pub mod ListLaws
-pub mod ListLaws
-pub mod SearchLaws
 pub mod MultipleSearch

@@ -6,7 +6,8 @@ use native.Mathlib.Nat.{not-suc-le-zero, mul-le-mul}
 use native.Mathlib.Omega.{arith}
 use borrow.Author.Tests.{eq-eqb, ne-eqb}
 use Rattle.laws.specs.Multiples.{divides, lcm}
-use Rattle.laws.specs.SearchLaws.{first-none, first-found}
+use Rattle.laws.specs.FirstLaws.{first-unique}
+use Rattle.laws.specs.SearchFacts.{first-of-none}
 
 -- none of b, 2 · b, .., (k - 1) · b is a multiple of a
 abbrev pub NoneBefore : ℕ → ℕ → ℕ → Type 0
@@ -20,14 +21,16 @@ module _ (a b : ℕ) where
   unfolding lcm
   lcm-found zero positive below divided none = absurd (not-suc-le-zero positive)
   lcm-found (suc k) positive below divided none =
-      rw (first-found (λ j. divides a (suc j * b)) (a - 1) k (omega arith) (eq-eqb _ _ divided) (fails-before k none))
+      rw
+      (first-unique (λ j. divides a (suc j * b)) {n = a - 1} {k = k}
+      (record { at-most = omega arith; none-below = fails-before k none; passes-below = λ before-end. eq-eqb _ _ divided }))
 
   pub lcm-last : 0 < a → NoneBefore a b a → lcm a b ≡ a * b
   unfolding lcm
   lcm-last positive none =
       let last : suc (a - 1) ≡ a = omega arith in
       let fails : (j : ℕ) → j < a - 1 → divides a (suc j * b) ≡ false = fails-before (a - 1) (rw last none) in
-      rw (first-none (λ j. divides a (suc j * b)) (a - 1) fails, last)
+      rw (first-of-none (λ j. divides a (suc j * b)) (a - 1) fails, last)
 
   pub lcm-positive : 0 < b → 0 < lcm a b
   unfolding lcm
