@@ -21,16 +21,29 @@ fn print_refusal(r: Refusal) {
     print(b"\n");
 }
 
-fn print_words(words: &[u32], n: usize) {
-    print(b"words");
+fn wide(x: u32) -> u64 {
+    x as u64
+}
+
+fn print_field(n: u64) {
+    print(b" ");
+    print_number(n);
+}
+
+// The first n words.
+fn print_list(words: &[u32], n: usize) {
     let mut i = 0;
     while i < n {
         if i < words.len() {
-            print(b" ");
-            print_number(words[i] as u64);
+            print_field(wide(words[i]));
         }
         i += 1;
     }
+}
+
+fn print_words(words: &[u32], n: usize) {
+    print(b"words");
+    print_list(words, n);
     print(b"\n");
 }
 

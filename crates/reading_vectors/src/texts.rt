@@ -93,19 +93,23 @@ pub(crate) fn digits_at_the_limit() {
     straddles[4096] = 57;
     show::text(&straddles);
     let mut digits = [32u8; 4106];
-    let mut i = 4090;
+    nines_from(&mut digits, 4090);
+    show_at_the_limit(&digits);
+    let mut overlong = [32u8; 4106];
+    nines_from(&mut overlong, 4080);
+    show_at_the_limit(&overlong);
+}
+
+fn show_at_the_limit(text: &[u8; 4106]) {
+    show::text(text);
+}
+
+fn nines_from(text: &mut [u8; 4106], from: usize) {
+    let mut i = from;
     while i < 4106 {
-        digits[i] = 57;
+        text[i] = 57;
         i += 1;
     }
-    show::text(&digits);
-    let mut overlong = [32u8; 4106];
-    let mut k = 4080;
-    while k < 4106 {
-        overlong[k] = 57;
-        k += 1;
-    }
-    show::text(&overlong);
 }
 
 pub(crate) fn short_buffers() {

@@ -13,18 +13,29 @@ fn varied(at: usize, word: u32) {
     show::print_number(word as u64);
     show::print(b": ");
     let mut list = SMALL;
+    change(&mut list, at, word);
+    show_small(&list);
+}
+
+fn show_small(list: &[u32; 13]) {
+    show::words(list);
+}
+
+fn change(list: &mut [u32; 13], at: usize, word: u32) {
     if at < 13 {
         list[at] = word;
     }
-    show::words(&list);
 }
 
 // The small list's first words.
 fn cut(n: usize) {
     show::print_number(n as u64);
     show::print(b" words: ");
-    let list = SMALL;
-    if n <= 13 {
+    show_front(&SMALL, n);
+}
+
+fn show_front(list: &[u32], n: usize) {
+    if n <= list.len() {
         show::words(&list[..n]);
     }
 }
