@@ -1,5 +1,5 @@
 -- The levels section as the code reads it: its count, then a level at a time.
-use Prim.Native.Nat.{ℕ, suc, _+_, _≤_}
+use Prim.Native.Nat.{ℕ, _+_, _≤_}
 use mathlib.Core.List.{List}
 use lib.ListN.{length, replicate}
 use lib.Seq.{sets}
@@ -18,8 +18,8 @@ use Rattle.instance.specs.declared.refusal.Verdict.the-variants.{Accepte
 -- the level after `before`
 unfoldable pub oneLevel : Level → Take Level
 oneLevel before = do
-  s ← word (between (suc (before .speed)) Limits.mostSpeed)
-  w ← word (between (suc (before .power)) Limits.mostPower)
+  s ← word (between (before .speed + 1) Limits.mostSpeed)
+  w ← word (between (before .power + 1) Limits.mostPower)
   done (record { speed = s; power = w })
 
 abbrev pub WithinLimits : Level → Type 0

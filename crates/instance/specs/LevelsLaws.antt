@@ -58,7 +58,7 @@ module _ (before : Level) (all : List ℕ) (at : ℕ) {answer : LevelRead} (read
 
 pub levels-repeat : Repeats oneLevel (λ before l. l) levelsAfter
 unfolding levels oneLevel
-levels-repeat = record { none = λ before at words. refl; more = λ n before at words. simp continue-assoc }
+levels-repeat = record { none = λ before at words. refl; more = λ n before at words. simp (continue-assoc, add-one) }
 
 pub levels-section-keeps-place : KeepsPlace levelsSection
 unfolding levelsSection

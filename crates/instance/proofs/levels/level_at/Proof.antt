@@ -1,5 +1,4 @@
 -- `levels::level_at` meets its contract: `oneLevel` takes the words that the code takes.
-use native.Mathlib.Numerals.{add-one}
 use borrow.Author.Needs.{needs}
 use Rattle.instance.specs.Levels.{oneLevel}
 use Rattle.instance.specs.SectionLaws.{word-taken, word-refused}
@@ -34,7 +33,7 @@ returns : tie.Need-returns
 unfolding oneLevel
 returns c =
     let first = c .before .before .before in
-    rw (word-refused _ _ _ (rw add-one at (first .word-at .ensures)) (c .before .why .given .1))
+    rw (word-refused _ _ _ (first .word-at .ensures) (c .before .why .given .1))
 
 returns-2 : tie.Need-returns-2
 unfolding oneLevel
@@ -42,8 +41,8 @@ returns-2 c =
     let second = c .before .before .before in
     let first = second .before .before .before .before .before in
     rw (
-      word-taken _ _ _ (rw add-one at (first .word-at .ensures)) (second .before .before .before .speed .given .1),
-      word-refused _ _ _ (rw add-one at (second .word-at2 .ensures)) (c .before .why2 .given .1),
+      word-taken _ _ _ (first .word-at .ensures) (second .before .before .before .speed .given .1),
+      word-refused _ _ _ (second .word-at2 .ensures) (c .before .why2 .given .1),
     )
 
 returns-3 : tie.Need-returns-3
@@ -52,8 +51,8 @@ returns-3 c =
     let second = c .before .before .before in
     let first = second .before .before .before .before .before in
     rw (
-      word-taken _ _ _ (rw add-one at (first .word-at .ensures)) (second .before .before .before .speed .given .1),
-      word-taken _ _ _ (rw add-one at (second .word-at2 .ensures)) (c .before .power .given .1),
+      word-taken _ _ _ (first .word-at .ensures) (second .before .before .before .speed .given .1),
+      word-taken _ _ _ (second .word-at2 .ensures) (c .before .power .given .1),
     )
 
 pub level-at-spec : {M : Type 1} → statement M
