@@ -2,11 +2,9 @@
 use Prim.Native.Nat.{ℕ, zero, suc, _*_, _≤_, _<_}
 use mathlib.Core.Bool.{Bool, true, false, cond}
 use mathlib.Core.List.{List}
-use native.Mathlib.Nat.{div-eq-of-lt, div-le-of-le-mul, div-le-self, div-zero, le-mul-of-pos-right, le-of-eq, mul-comm, le-trans, mul-le-mul, mul-le-mul-right, mul-suc}
+use native.Mathlib.Nat.{div-eq-of-lt, div-le-of-le-mul, div-le-self, div-zero, le-mul-of-pos-right, le-of-eq, mul-comm, mul-le-mul, mul-suc}
 use native.Mathlib.Omega.{arith}
-use Rattle.laws.specs.SumBounds.{sum-at-most}
-use Rattle.laws.specs.Sums.{sum}
-use Rattle.instance.specs.Limits.{mostCycles, mostSpan, mostTasks}
+use Rattle.instance.specs.Limits.{mostCycles, mostSpan}
 use Rattle.instance.specs.Node.{Problem, levelAt, taskAt, taskCount, span}
 use Rattle.instance.specs.Valid.{Valid}
 use Rattle.schedule.specs.Quantities.{levelOf, keeps, ticks, jobTicks, ticksOn, jobs, loadOn}
@@ -40,10 +38,3 @@ module _ (p : Problem) (v : Valid p) (plan : List ℕ) (i : ℕ) (h : i < taskCo
   pub loadOn-at-most : (k : ℕ) → loadOn p plan k i ≤ mostSpan * mostCycles
   unfolding loadOn
   loadOn-at-most k = mul-le-mul jobs-at-most (ticksOn-at-most k)
-
--- the loads of the first n tasks
-pub coreLoad-so-far-at-most : (p : Problem) → Valid p → (plan : List ℕ) (k n : ℕ) → n ≤ taskCount p →
-    sum (loadOn p plan k) n ≤ mostTasks * (mostSpan * mostCycles)
-coreLoad-so-far-at-most p v plan k n h =
-    le-trans (sum-at-most (loadOn p plan k) (mostSpan * mostCycles) n (λ i below. loadOn-at-most p v plan i (omega arith) k))
-    (mul-le-mul-right {m = n} {n = mostTasks} (mostSpan * mostCycles) (omega (arith, v .task-count)))

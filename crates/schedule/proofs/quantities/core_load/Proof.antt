@@ -1,6 +1,8 @@
+use Prim.Native.Nat.{_+_, _*_, _-_, _≤_}
+use Rattle.laws.specs.SumBounds.{sum-and-next-at-most}
+use Rattle.instance.specs.Limits.{mostCycles, mostSpan}
 use Rattle.instance.specs.Node.{taskCount}
-use Rattle.schedule.specs.QuantityBounds.{loadOn-at-most, coreLoad-so-far-at-most}
-use Prim.Native.Nat.{_+_, _-_, _≤_, _<_}
+use Rattle.schedule.specs.QuantityBounds.{loadOn-at-most}
 use mathlib.Core.Path.{_≡_, refl, ap, ap₂, _∙_}
 use native.Mathlib.Numerals.{add-one}
 use native.Mathlib.Omega.{arith}
@@ -28,15 +30,19 @@ load-on-requires c κs = let start = c .before .before .before .before in
 add-load : tie.Need-add-load Inv-loop μ-loop
 add-load c = let start = c .before .before .before .before .before in
     let s = start .pre .0 in
-    let count = held-taskcount _ s in
-    let i = c .before .before .before .loop .i in
-    let below : i < taskCount (problemIn (start .args .inst)) = omega (arith, c .before .if1 .taken) in
+    let at = c .before .before .before .loop in
+    let p = problemIn (start .args .inst) in
+    let same = ap₂ _+_ (at .inv .1) (c .load-on .ensures) in
     omega (
       arith,
-      c .before .before .before .loop .inv .1,
-      c .load-on .ensures,
-      coreLoad-so-far-at-most _ (s .valid) (start .args .plan .now) (start .args .k) i (omega arith),
-      loadOn-at-most _ (s .valid) (start .args .plan .now) i below (start .args .k),
+      sum-and-next-at-most
+          (loadOn p (start .args .plan .now) (start .args .k))
+          (mostSpan * mostCycles)
+          (taskCount p)
+          (at .i)
+          (λ i h. loadOn-at-most p (s .valid) (start .args .plan .now) i h (start .args .k))
+          (omega (arith, held-taskcount _ s, c .before .if1 .taken)),
+      s .valid .task-count,
     )
 
 add-i : tie.Need-add-i Inv-loop μ-loop
