@@ -17,9 +17,9 @@ use Rattle.schedule.specs.Plans.{isMust, badChoice, choicesPass, fits, coresFit
 use Rattle.schedule.specs.Quantities.{keeps, ticks, jobTicks, ticksOn, jobs, loadOn, coreLoad, coreEnergy, energy, penalty, cost, priceOf}
 use Rattle.schedule.specs.Rows.{dueAt, afterRelease, earliest, chosen, afterRun, step, dispatched, row}
 use Rattle.schedule.specs.Tables.{coreTasks, tableSize, tableOf}
-use Rattle.schedule.specs.declared.price.Price.{Price}
-use Rattle.schedule.specs.declared.price.Priced.{Priced}
-use Rattle.schedule.specs.declared.price.Priced.the-variants as Priced
+use Rattle.schedule.specs.declared.prices.Price.{Price}
+use Rattle.schedule.specs.declared.prices.Priced.{Priced}
+use Rattle.schedule.specs.declared.prices.Priced.the-variants as Priced
 use Rattle.planner.specs.Outcomes.{PlanOutcome, planOutcome}
 use Rattle.planner.specs.Planning.{choiceLists, isAllowed, better, firstCheapest, bestPlan}
 

@@ -13,8 +13,8 @@ use Rattle.instance.specs.declared.refusal.Verdict.{Verdict}
 use Rattle.instance.specs.declared.refusal.Verdict.the-variants.{Accepted, Refused}
 use Rattle.schedule.specs.Quantities.{priceOf}
 use Rattle.schedule.specs.Tables.{tableOf, tableSize}
-use Rattle.schedule.specs.declared.price.Priced.{Priced}
-use Rattle.schedule.specs.declared.price.Priced.the-variants as Priced
+use Rattle.schedule.specs.declared.prices.Priced.{Priced}
+use Rattle.schedule.specs.declared.prices.Priced.the-variants as Priced
 use Rattle.planner.specs.Planning.{bestPlan}
 
 -- "Planning writes that plan and its table, and returns energy, penalty and cost."

@@ -14,7 +14,7 @@ use Rattle.schedule.specs.HeldQuantities.{held-jobs}
 use Rattle.schedule.specs.PlanLaws.{PassingPlan}
 use Rattle.schedule.specs.PriceBounds.{penaltyOf, mostPenaltyOf, job-penalty-at-most, penalty-at-most, passing-energy-at-most}
 use Rattle.schedule.specs.Quantities.{choiceAt, energy, penalty, cost, priceOf}
-use Rattle.schedule.specs.declared.price.Price.{Price}
+use Rattle.schedule.specs.declared.prices.Price.{Price}
 
 module _ (inst : Instance) (s : Sound inst) (i : ℕ) (h : i < taskCount (problemIn inst)) where
   pub held-penalty-at-most : getD (inst .tasks) i noTask .penalty ≤ mayNotBeRefused

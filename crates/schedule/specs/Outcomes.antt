@@ -13,9 +13,9 @@ use Rattle.schedule.specs.Checks.{check}
 use Rattle.schedule.specs.Plans.{planPasses}
 use Rattle.schedule.specs.Quantities.{priceOf}
 use Rattle.schedule.specs.Tables.{tableOf, tableSize}
-use Rattle.schedule.specs.declared.price.Price.{Price}
-use Rattle.schedule.specs.declared.price.Priced.{Priced}
-use Rattle.schedule.specs.declared.price.Priced.the-variants as Priced
+use Rattle.schedule.specs.declared.prices.Price.{Price}
+use Rattle.schedule.specs.declared.prices.Priced.{Priced}
+use Rattle.schedule.specs.declared.prices.Priced.the-variants as Priced
 
 -- "Pricing and tabling test 7 and 8."
 abbrev pub pricedIf : Verdict → Price → Priced

@@ -8,7 +8,7 @@ use lib.ListN.{getD}
 use Rattle.laws.specs.Sums.{sum}
 use Rattle.instance.specs.Limits.{mayNotBeRefused}
 use Rattle.instance.specs.Node.{Problem, levelCount, taskCount, levelAt, taskAt, span}
-use Rattle.schedule.specs.declared.price.Price.{Price}
+use Rattle.schedule.specs.declared.prices.Price.{Price}
 
 -- "A plan is one choice word per task: 0 refused, else (core − 1) × H + level"
 abbrev pub choiceAt : List ℕ → ℕ → ℕ

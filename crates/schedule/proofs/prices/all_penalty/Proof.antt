@@ -8,8 +8,8 @@ use Rattle.instance.specs.Held.{problemIn, held-taskcount}
 use Rattle.instance.specs.Node.{taskCount}
 use Rattle.schedule.specs.PriceBounds.{penaltyOf, mostPenaltyOf, penaltyOf-at-most}
 use Rattle.schedule.specs.Quantities.{penalty}
-use Rattle.schedule.proofs.price.all_penalty.Statement.{statement}
-use Rattle.schedule.proofs.price.all_penalty.Tie as tie
+use Rattle.schedule.proofs.prices.all_penalty.Statement.{statement}
+use Rattle.schedule.proofs.prices.all_penalty.Tie as tie
 
 abbrev Inv-loop : tie.InvT-loop
 Inv-loop inst plan total₀ i₀ total i = (i ≤ inst .taskcount) × (total ≡ sum (penaltyOf (problemIn inst) plan) i)

@@ -3,8 +3,8 @@ use mathlib.Core.Path.{ap₂}
 use native.Mathlib.Omega.{arith}
 use Rattle.schedule.specs.PriceBounds.{energyOn-at-most}
 use borrow.Author.Needs.{needs}
-use Rattle.schedule.proofs.price.energy_on.Statement.{statement}
-use Rattle.schedule.proofs.price.energy_on.Tie as tie
+use Rattle.schedule.proofs.prices.energy_on.Statement.{statement}
+use Rattle.schedule.proofs.prices.energy_on.Tie as tie
 
 load-on-requires : tie.Need-load-on-requires
 load-on-requires c κs = search needs

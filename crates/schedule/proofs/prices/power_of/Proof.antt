@@ -3,8 +3,8 @@ use native.Mathlib.Omega.{arith}
 use Rattle.instance.specs.declared.node.Level.{Level}
 use Rattle.schedule.specs.HeldQuantities.{level-count-above-zero, level-count-at-most, held-level-of}
 use borrow.Author.Needs.{needs}
-use Rattle.schedule.proofs.price.power_of.Statement.{statement}
-use Rattle.schedule.proofs.price.power_of.Tie as tie
+use Rattle.schedule.proofs.prices.power_of.Statement.{statement}
+use Rattle.schedule.proofs.prices.power_of.Tie as tie
 
 mul-level-of : tie.Need-mul-level-of
 mul-level-of c = search needs

@@ -8,8 +8,8 @@ use Rattle.instance.specs.Held.{problemIn, held-taskcount}
 use Rattle.instance.specs.Node.{taskCount}
 use Rattle.schedule.specs.PriceBounds.{energyOn, mostEnergyOn, energyOn-at-most}
 use Rattle.schedule.specs.Quantities.{coreEnergy}
-use Rattle.schedule.proofs.price.core_energy.Statement.{statement}
-use Rattle.schedule.proofs.price.core_energy.Tie as tie
+use Rattle.schedule.proofs.prices.core_energy.Statement.{statement}
+use Rattle.schedule.proofs.prices.core_energy.Tie as tie
 
 abbrev Inv-loop : tie.InvT-loop
 Inv-loop inst plan k total₀ i₀ total i = (i ≤ inst .taskcount) × (total ≡ sum (energyOn (problemIn inst) plan k) i)

@@ -2,8 +2,8 @@ use native.Mathlib.Omega.{arith}
 use Rattle.schedule.specs.HeldPrices.{weighted-energy-at-most, weighted-penalty-at-most, held-price}
 use Rattle.schedule.specs.PlanLaws.{passing-plan}
 use borrow.Author.Needs.{needs}
-use Rattle.schedule.proofs.price.price_of.Statement.{statement}
-use Rattle.schedule.proofs.price.price_of.Tie as tie
+use Rattle.schedule.proofs.prices.price_of.Statement.{statement}
+use Rattle.schedule.proofs.prices.price_of.Tie as tie
 
 all-energy-requires : tie.Need-all-energy-requires
 all-energy-requires c κs = let start = c .before in

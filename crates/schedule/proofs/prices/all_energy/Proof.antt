@@ -9,8 +9,8 @@ use Rattle.instance.specs.Limits.{mostTasks}
 use Rattle.schedule.specs.HeldPlans.{held-cores, cores-at-most}
 use Rattle.schedule.specs.PriceBounds.{mostEnergyOn, coreEnergy-at-most}
 use Rattle.schedule.specs.Quantities.{coreEnergy, energy}
-use Rattle.schedule.proofs.price.all_energy.Statement.{statement}
-use Rattle.schedule.proofs.price.all_energy.Tie as tie
+use Rattle.schedule.proofs.prices.all_energy.Statement.{statement}
+use Rattle.schedule.proofs.prices.all_energy.Tie as tie
 
 abbrev Inv-loop : tie.InvT-loop
 Inv-loop inst plan cores total₀ k₀ total k = (k ≤ cores) × (total ≡ sum (coreEnergy (problemIn inst) plan) k)

@@ -4,8 +4,8 @@ use borrow.Author.Tests.{ne-eqb}
 use Rattle.schedule.specs.HeldPrices.{held-penalty-at-most, held-penalty-of}
 use Rattle.schedule.specs.PriceBounds.{penaltyOf-at-most}
 use borrow.Author.Needs.{needs}
-use Rattle.schedule.proofs.price.penalty_of.Statement.{statement}
-use Rattle.schedule.proofs.price.penalty_of.Tie as tie
+use Rattle.schedule.proofs.prices.penalty_of.Statement.{statement}
+use Rattle.schedule.proofs.prices.penalty_of.Tie as tie
 
 mul-if1 : tie.Need-mul-if1
 mul-if1 c = search needs
