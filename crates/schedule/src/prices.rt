@@ -51,13 +51,13 @@ fn core_energy(inst: Instance, plan: &[u32], k: usize) -> u64
     requires { ⌜ length (now plan) ≡ taskCount (problemIn inst) ⌝ }
     ensures { λ r. ⌜ r ≡ coreEnergy (problemIn inst) (now (plan .entry)) k ⌝ }
 {
-    let mut total = 0;
+    let mut energy = 0;
     let mut i = 0;
     while i < inst.taskcount {
-        total += energy_on(inst, plan, k, i);
+        energy += energy_on(inst, plan, k, i);
         i += 1;
     }
-    total
+    energy
 }
 
 fn all_energy(inst: Instance, plan: &[u32]) -> u64
@@ -94,13 +94,13 @@ fn all_penalty(inst: Instance, plan: &[u32]) -> u64
     requires { ⌜ length (now plan) ≡ taskCount (problemIn inst) ⌝ }
     ensures { λ r. ⌜ r ≡ penalty (problemIn inst) (now (plan .entry)) ⌝ }
 {
-    let mut total = 0;
+    let mut penalty = 0;
     let mut i = 0;
     while i < inst.taskcount {
-        total += penalty_of(inst, plan, i);
+        penalty += penalty_of(inst, plan, i);
         i += 1;
     }
-    total
+    penalty
 }
 
 // The price of a plan that passes.

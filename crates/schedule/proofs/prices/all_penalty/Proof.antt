@@ -12,10 +12,10 @@ use Rattle.schedule.proofs.prices.all_penalty.Statement.{statement}
 use Rattle.schedule.proofs.prices.all_penalty.Tie as tie
 
 abbrev Inv-loop : tie.InvT-loop
-Inv-loop inst plan total₀ i₀ total i = (i ≤ inst .taskcount) × (total ≡ sum (penaltyOf (problemIn inst) plan) i)
+Inv-loop inst plan penalty₀ i₀ penalty i = (i ≤ inst .taskcount) × (penalty ≡ sum (penaltyOf (problemIn inst) plan) i)
 
 abbrev μ-loop : tie.MeasureT-loop
-μ-loop inst plan total₀ i₀ total i = inst .taskcount - i
+μ-loop inst plan penalty₀ i₀ penalty i = inst .taskcount - i
 
 loop-holds : tie.Need-loop-holds Inv-loop μ-loop
 unfolding sum
@@ -26,8 +26,8 @@ penalty-of-requires c κs = let start = c .before .before .before .before in
     let count = held-taskcount _ (start .pre .0) in
     (start .pre .0, (omega (arith, c .if1 .taken), omega (arith, start .pre .1, c .if1 .taken)))
 
-add-total : tie.Need-add-total Inv-loop μ-loop
-add-total c = let start = c .before .before .before .before .before in
+add-penalty : tie.Need-add-penalty Inv-loop μ-loop
+add-penalty c = let start = c .before .before .before .before .before in
     let s = start .pre .0 in
     let at = c .before .before .before .loop in
     let p = problemIn (start .args .inst) in
@@ -70,7 +70,7 @@ all-penalty-spec =
     μ-loop
     loop-holds
     penalty-of-requires
-    add-total
+    add-penalty
     add-i
     loop-less
     loop-again

@@ -12,10 +12,10 @@ use Rattle.schedule.proofs.prices.core_energy.Statement.{statement}
 use Rattle.schedule.proofs.prices.core_energy.Tie as tie
 
 abbrev Inv-loop : tie.InvT-loop
-Inv-loop inst plan k total₀ i₀ total i = (i ≤ inst .taskcount) × (total ≡ sum (energyOn (problemIn inst) plan k) i)
+Inv-loop inst plan k energy₀ i₀ energy i = (i ≤ inst .taskcount) × (energy ≡ sum (energyOn (problemIn inst) plan k) i)
 
 abbrev μ-loop : tie.MeasureT-loop
-μ-loop inst plan k total₀ i₀ total i = inst .taskcount - i
+μ-loop inst plan k energy₀ i₀ energy i = inst .taskcount - i
 
 loop-holds : tie.Need-loop-holds Inv-loop μ-loop
 unfolding sum
@@ -26,8 +26,8 @@ energy-on-requires c κs = let start = c .before .before .before .before in
     let count = held-taskcount _ (start .pre .0) in
     (start .pre .0, (omega (arith, c .if1 .taken), omega (arith, start .pre .1, c .if1 .taken)))
 
-add-total : tie.Need-add-total Inv-loop μ-loop
-add-total c = let start = c .before .before .before .before .before in
+add-energy : tie.Need-add-energy Inv-loop μ-loop
+add-energy c = let start = c .before .before .before .before .before in
     let s = start .pre .0 in
     let at = c .before .before .before .loop in
     let p = problemIn (start .args .inst) in
@@ -70,7 +70,7 @@ core-energy-spec =
     μ-loop
     loop-holds
     energy-on-requires
-    add-total
+    add-energy
     add-i
     loop-less
     loop-again
