@@ -10,6 +10,7 @@ mod tasks;
 mod text;
 mod word;
 
+pub use limits::MAY_NOT_BE_REFUSED;
 pub use node::Instance;
 pub use node::Level;
 pub use node::Task;

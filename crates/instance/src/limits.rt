@@ -20,6 +20,6 @@ pub(crate) const MOST_CYCLES: u32 = 100_000_000;
 
 pub(crate) const MOST_PENALTY: u32 = 1_000_000;
 
-pub(crate) const MAY_NOT_BE_REFUSED: u32 = 4_294_967_295;
+pub const MAY_NOT_BE_REFUSED: u32 = 4_294_967_295;
 
 pub(crate) const MOST_SPAN: u32 = 4_096;

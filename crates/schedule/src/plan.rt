@@ -1,6 +1,7 @@
 // Which plans may be given: the refusals 7 and 8.
 use crate::quantities::core_load;
 use instance::Instance;
+use instance::MAY_NOT_BE_REFUSED;
 use instance::Refusal;
 use instance::Verdict;
 ghost use mathlib.Core.Path.{_≡_};
@@ -11,8 +12,6 @@ ghost use Rattle.instance.specs.Held.{Sound, problemIn};
 ghost use Rattle.instance.specs.Node.{taskCount};
 ghost use Rattle.schedule.specs.Plans.{badChoice, choicesPass, fits, coresFit, planPasses};
 ghost use Rattle.laws.specs.Search.{first};
-
-const MAY_NOT_BE_REFUSED: u32 = 4294967295;
 
 fn is_bad_choice(inst: Instance, plan: &[u32], i: usize) -> bool
     requires { ⌜ Sound inst ⌝ }
