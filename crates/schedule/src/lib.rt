@@ -2,9 +2,11 @@
 mod dispatch;
 mod plan;
 mod prices;
+mod pricing;
 mod quantities;
 
 pub use prices::Price;
 pub use prices::Priced;
+pub use pricing::price;
 pub use quantities::jobs_in;
 pub use quantities::ticks_of;

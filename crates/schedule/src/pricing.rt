@@ -1,0 +1,24 @@
+// Pricing a given plan.
+use crate::plan::plan_passes;
+use crate::prices::Priced;
+use crate::prices::price_of;
+use instance::Verdict;
+use instance::read_instance;
+ghost use mathlib.Core.Path.{_≡_};
+ghost use Rattle.schedule.specs.Outcomes.{priceOutcome};
+
+// What the plan costs; the words are tested first, then the plan.
+pub fn price(instance: &[u32], plan: &[u32]) -> Priced
+    ensures { λ r. ⌜ r ≡ priceOutcome (now (instance .entry)) (now (plan .entry)) ⌝ }
+{
+    let read = read_instance(instance);
+    let verdict = read.verdict;
+    if let Verdict::Refused(r) = verdict {
+        return Priced::Refused(r);
+    }
+    let inst = read.instance;
+    match plan_passes(inst, plan) {
+        Verdict::Accepted => Priced::Cost(price_of(inst, plan)),
+        Verdict::Refused(r) => Priced::Refused(r),
+    }
+}
