@@ -17,3 +17,5 @@ pub mod SumBounds
 pub mod SumOrderLaws
 pub mod ListLaws
 pub mod MultipleSearch
+pub mod PartLaws
+pub mod PartSearchLaws
