@@ -36,3 +36,5 @@ pub mod ReadLaws
 pub mod PlanLaws
 pub mod PriceBounds
 pub mod HeldPrices
+pub mod HeldSlots
+pub mod HeldJobs

@@ -1,12 +1,12 @@
 -- When a verdict that is made of tests is `Accepted`.
-use Prim.Native.Nat.{ℕ, _<_}
+use Prim.Native.Nat.{ℕ, min, _<_, _≤_}
 use mathlib.Core.Bool.{Bool, true, false, cond}
 use mathlib.Core.Logic.{_↔_}
 use mathlib.Core.Path.{_≡_, refl, sym}
-use native.Mathlib.Nat.{le-of-eq}
+use native.Mathlib.Nat.{le-of-eq, min-eq-left, min-eq-right}
 use native.Mathlib.Omega.{arith}
 use lib.Dec.{ltb, eqb}
-use borrow.Author.Tests.{ltb-false, le-ltb, eqb-true, eq-eqb}
+use borrow.Author.Tests.{ltb-false, lt-ltb, le-ltb, eqb-true, eq-eqb, ne-eqb}
 use Rattle.laws.specs.Search.{first}
 use Rattle.laws.specs.SearchFacts.{first-at-end, first-of-none}
 use Rattle.instance.specs.Refusals.{_andThen_}
@@ -41,3 +41,20 @@ none-refused fails n r =
         (k : ℕ) → k < n → fails k ≡ false
     go true t e = absurd (refused-not-accepted r e)
     go false t e = first-at-end fails n (ltb-false (first fails n) n t)
+
+-- what code answers that has compared a length a with the n wanted, and then searched n places and come to x
+module _ (refusal : ℕ → Refusal) (a n : ℕ) where
+  pub shorter-is-refused : (next : Verdict) → a < n → Refused (refusal a) ≡ cond (eqb a n) next (Refused (refusal (min a n)))
+  shorter-is-refused next l = rw (ne-eqb a n (λ e. omega arith), min-eq-left {n = a} {m = n} (omega arith)) refl
+
+  pub longer-is-refused : (next : Verdict) → n < a → Refused (refusal n) ≡ cond (eqb a n) next (Refused (refusal (min a n)))
+  longer-is-refused next l = rw (ne-eqb a n (λ e. omega arith), min-eq-right {n = n} {m = a} (omega arith)) refl
+
+  pub equal-goes-on : (next : Verdict) (r : Refusal) → a ≡ n → next ≡ cond (eqb a n) next (Refused r)
+  equal-goes-on next r e = rw (eq-eqb a n e) refl
+
+pub found-is-refused : (r : Refusal) (x n : ℕ) → x < n → Refused r ≡ cond (ltb x n) (Refused r) Accepted
+found-is-refused r x n l = rw (lt-ltb x n l) refl
+
+pub none-found-passes : (r : Refusal) (x n : ℕ) → n ≤ x → Accepted ≡ cond (ltb x n) (Refused r) Accepted
+none-found-passes r x n l = rw (le-ltb x n l) refl

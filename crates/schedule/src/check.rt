@@ -1,0 +1,173 @@
+// The check of a given table: the refusals 9 and 10, after 7 and without 8.
+use crate::quantities::core_of;
+use crate::quantities::is_kept_on;
+use crate::quantities::job_ticks;
+use crate::quantities::jobs_in;
+use instance::Instance;
+use instance::Refusal;
+use instance::Verdict;
+ghost use mathlib.Core.Path.{_≡_};
+ghost use mathlib.Core.Bool.{not};
+ghost use Prim.Native.Nat.{_<_};
+ghost use lib.Dec.{eqb};
+ghost use lib.ListN.{length, getD};
+ghost use Rattle.laws.specs.Search.{first, count};
+ghost use Rattle.instance.specs.Held.{Sound, problemIn};
+ghost use Rattle.instance.specs.Node.{taskCount};
+ghost use Rattle.schedule.specs.CheckLaws.{AllowedPlan};
+ghost use Rattle.schedule.specs.Checks.{strayValue, straySlot, slotsPass, jobSlots, isServed, jobsPass};
+ghost use Rattle.schedule.specs.Quantities.{jobs};
+ghost use Rattle.schedule.specs.Tables.{tableSize};
+
+// Whether a slot of core k, counted from 0, is not 0 and names no task that is kept there.
+fn is_stray(inst: Instance, plan: &[u32], k: usize, slot: u8) -> bool
+    requires { ⌜ Sound inst ⌝ }
+    ensures { λ r. ⌜ r ≡ strayValue (problemIn inst) (now (plan .entry)) k slot ⌝ }
+{
+    if slot == 0 {
+        return false;
+    }
+    let i = slot as usize - 1;
+    if i < plan.len() {
+        return !is_kept_on(inst, plan, k, i);
+    }
+    true
+}
+
+// The first stray slot of core k's row, or the row's length.
+fn first_stray_in_row(inst: Instance, plan: &[u32], k: usize, row: &[u8]) -> usize
+    requires { ⌜ Sound inst ⌝ }
+    ensures { λ r. ⌜ r ≡ first (λ t. strayValue (problemIn inst) (now (plan .entry)) k (getD (now (row .entry)) t 0)) (length (now (row .entry))) ⌝ }
+{
+    let mut t = 0;
+    while t < row.len() {
+        if is_stray(inst, plan, k, row[t]) {
+            return t;
+        }
+        t += 1;
+    }
+    t
+}
+
+// The first stray slot of a table, or the table's length.
+fn first_stray(inst: Instance, plan: &[u32], table: &[u8]) -> usize
+    requires { ⌜ Sound inst ⌝ }
+    requires { ⌜ length (now table) ≡ tableSize (problemIn inst) ⌝ }
+    ensures { λ r. ⌜ r ≡ first (straySlot (problemIn inst) (now (plan .entry)) (now (table .entry))) (tableSize (problemIn inst)) ⌝ }
+{
+    let cores = inst.cores as usize;
+    let span = inst.span as usize;
+    let mut k = 0;
+    while k < cores {
+        let from = k * span;
+        let to = from + span;
+        let t = first_stray_in_row(inst, plan, k, &table[from..to]);
+        if t < span {
+            return from + t;
+        }
+        k += 1;
+    }
+    table.len()
+}
+
+fn slots_pass(inst: Instance, plan: &[u32], table: &[u8]) -> Verdict
+    requires { ⌜ Sound inst ⌝ }
+    ensures { λ r. ⌜ r ≡ slotsPass (problemIn inst) (now (plan .entry)) (now (table .entry)) ⌝ }
+{
+    let size = inst.cores as usize * inst.span as usize;
+    if table.len() < size {
+        return Verdict::Refused(Refusal::GivenTable(table.len()));
+    }
+    if size < table.len() {
+        return Verdict::Refused(Refusal::GivenTable(size));
+    }
+    let x = first_stray(inst, plan, table);
+    if x < size {
+        return Verdict::Refused(Refusal::GivenTable(x));
+    }
+    Verdict::Accepted
+}
+
+// How many slots of a part of a row hold a number.
+fn slots_of(part: &[u8], number: u8) -> usize
+    ensures { λ r. ⌜ r ≡ count (λ x. eqb (getD (now (part .entry)) x 0) number) (length (now (part .entry))) ⌝ }
+{
+    let mut n = 0;
+    let mut x = 0;
+    while x < part.len() {
+        if part[x] == number {
+            n += 1;
+        }
+        x += 1;
+    }
+    n
+}
+
+// The slots that job j of task i has between its release and its due tick.
+fn job_slots(inst: Instance, plan: &[u32], table: &[u8], i: usize, j: usize) -> usize
+    requires { ⌜ Sound inst ⌝ }
+    requires { ⌜ AllowedPlan (problemIn inst) (now plan) ⌝ }
+    requires { ⌜ length (now table) ≡ tableSize (problemIn inst) ⌝ }
+    requires { ⌜ i < taskCount (problemIn inst) ⌝ }
+    requires { ⌜ j < jobs (problemIn inst) i ⌝ }
+    ensures { λ r. ⌜ r ≡ jobSlots (problemIn inst) (now (plan .entry)) (now (table .entry)) i j ⌝ }
+{
+    let k = core_of(plan[i], inst.levelcount);
+    let period = inst.tasks[i].period as usize;
+    let release = k * inst.span as usize + j * period;
+    let due = release + period;
+    slots_of(&table[release..due], i as u8 + 1)
+}
+
+// Whether every job of task i has as many slots as ticks.
+fn is_served(inst: Instance, plan: &[u32], table: &[u8], i: usize) -> bool
+    requires { ⌜ Sound inst ⌝ }
+    requires { ⌜ AllowedPlan (problemIn inst) (now plan) ⌝ }
+    requires { ⌜ length (now table) ≡ tableSize (problemIn inst) ⌝ }
+    requires { ⌜ i < taskCount (problemIn inst) ⌝ }
+    ensures { λ r. ⌜ r ≡ isServed (problemIn inst) (now (plan .entry)) (now (table .entry)) i ⌝ }
+{
+    if plan[i] == 0 {
+        return true;
+    }
+    let ticks = job_ticks(inst, plan, i) as usize;
+    let jobs = jobs_in(inst.span, inst.tasks[i].period) as usize;
+    let mut j = 0;
+    while j < jobs {
+        if job_slots(inst, plan, table, i, j) != ticks {
+            return false;
+        }
+        j += 1;
+    }
+    true
+}
+
+// The first task that has a job with more or fewer slots than ticks, or the number of tasks.
+fn first_unserved(inst: Instance, plan: &[u32], table: &[u8]) -> usize
+    requires { ⌜ Sound inst ⌝ }
+    requires { ⌜ AllowedPlan (problemIn inst) (now plan) ⌝ }
+    requires { ⌜ length (now table) ≡ tableSize (problemIn inst) ⌝ }
+    ensures { λ r. ⌜ r ≡ first (λ i. not (isServed (problemIn inst) (now (plan .entry)) (now (table .entry)) i)) (taskCount (problemIn inst)) ⌝ }
+{
+    let mut i = 0;
+    while i < inst.taskcount {
+        if !is_served(inst, plan, table, i) {
+            return i;
+        }
+        i += 1;
+    }
+    i
+}
+
+fn jobs_pass(inst: Instance, plan: &[u32], table: &[u8]) -> Verdict
+    requires { ⌜ Sound inst ⌝ }
+    requires { ⌜ AllowedPlan (problemIn inst) (now plan) ⌝ }
+    requires { ⌜ length (now table) ≡ tableSize (problemIn inst) ⌝ }
+    ensures { λ r. ⌜ r ≡ jobsPass (problemIn inst) (now (plan .entry)) (now (table .entry)) ⌝ }
+{
+    let i = first_unserved(inst, plan, table);
+    if i < inst.taskcount {
+        return Verdict::Refused(Refusal::JobSlots(i + 1));
+    }
+    Verdict::Accepted
+}
