@@ -40,10 +40,10 @@ module _ (inst : Instance) (s : Sound inst) where
   held-period i h = ap (λ (t : Task). t .period) (held-task inst s i h)
 
 -- job j's part of a table of n slots: d slots from its release tick on, in core k's row of w slots
-pub window-within-table : (p : Problem) (i j k w d n : ℕ) → w ≡ span p → d ≡ taskAt p i .period → n ≡ tableSize p → k < p .cores → j < jobs p i →
+pub window-within-table : (p : Problem) (i j k w d n : ℕ) → w ≡ span p → d ≡ taskAt p i .period → tableSize p ≤ n → k < p .cores → j < jobs p i →
     (k * w + j * d) + d ≤ n
-window-within-table p i j k w d n wide long size h l =
-    let row = row-within-table p w n k wide size h in
+window-within-table p i j k w d n wide long room h l =
+    let row = row-within-table p w n k wide room h in
     let window : j * d + d ≤ w = rw (wide, long) (window-within-span p i j l) in
     omega arith
 

@@ -3,7 +3,7 @@ use Prim.Native.Nat.{ℕ, _+_, _*_, _-_, _≤_, _<_}
 use mathlib.Core.Bool.{true, false, not}
 use mathlib.Core.List.{List}
 use mathlib.Core.Path.{_≡_, refl, sym, ap, _∙_}
-use native.Mathlib.Nat.{mul-le-mul, mul-le-mul-right}
+use native.Mathlib.Nat.{le-of-eq, mul-le-mul, mul-le-mul-right}
 use native.Mathlib.Numerals.{sub-one}
 use native.Mathlib.Omega.{arith}
 use lib.Arith.{digits-div}
@@ -36,8 +36,8 @@ module _ (p : Problem) (plan : List ℕ) (k slot : ℕ) where
   slot-past-tasks-is-stray busy past =
       rw (ne-eqb slot 0 busy, ← sub-one slot, List·getD-eq-default plan 0 {n = slot - 1} past) refl
 
-pub row-within-table : (p : Problem) (w n k : ℕ) → w ≡ span p → n ≡ tableSize p → k < p .cores → k * w + w ≤ n
-row-within-table p w n k wide size h = let whole : n ≡ p .cores * w = rw wide size in omega (arith, mul-le-mul-right w h)
+pub row-within-table : (p : Problem) (w n k : ℕ) → w ≡ span p → tableSize p ≤ n → k < p .cores → k * w + w ≤ n
+row-within-table p w n k wide room h = let whole : p .cores * w ≤ n = rw wide room in omega (arith, mul-le-mul-right w h)
 
 -- all rows were searched
 pub no-stray-in-rows : (p : Problem) (plan table : List ℕ) (w k : ℕ) → w ≡ span p → length table ≡ tableSize p → k ≡ p .cores →
@@ -58,7 +58,7 @@ module _ (p : Problem) (plan table : List ℕ) (w : ℕ) (wide : w ≡ span p) (
     in-its-part : t ≡ first (λ t. straySlot p plan table (k * w + t)) w
     in-its-part =
         found
-        ∙ rw (length-part table (k * w) w (row-within-table p w (length table) k wide size h))
+        ∙ rw (length-part table (k * w) w (row-within-table p w (length table) k wide (le-of-eq (sym size)) h))
         (first-same _ (λ t. straySlot p plan table (k * w + t)) w row-slot)
 
     pub stray-in-row-is-first-stray : t < w → k * w + t ≡ first (straySlot p plan table) (tableSize p)

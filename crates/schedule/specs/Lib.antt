@@ -38,3 +38,4 @@ pub mod PriceBounds
 pub mod HeldPrices
 pub mod HeldSlots
 pub mod HeldJobs
+pub mod HeldTables

@@ -9,17 +9,17 @@ use Rattle.schedule.specs.Rows.{slotOf, row}
 use Rattle.schedule.specs.Tables.{coreTasks, tableOf, slotAt}
 
 module _ (p : Problem) (plan : List ℕ) where
-  row-length : (k : ℕ) → k < p .cores → length (row (coreTasks p plan k) (span p)) ≡ span p
+  pub row-length : (k : ℕ) → length (row (coreTasks p plan k) (span p)) ≡ span p
   unfolding row
-  row-length k h = length-listOf (slotOf (coreTasks p plan k)) (span p)
+  row-length k = length-listOf (slotOf (coreTasks p plan k)) (span p)
 
   pub length-tableOf : length (tableOf p plan) ≡ p .cores * span p
   unfolding tableOf
-  length-tableOf = length-joined (λ k. row (coreTasks p plan k) (span p)) (span p) (p .cores) row-length
+  length-tableOf = length-joined (λ k. row (coreTasks p plan k) (span p)) (span p) (p .cores) (λ k h. row-length k)
 
   pub slotAt-tableOf : (k t : ℕ) → k < p .cores → t < span p →
       slotAt p (tableOf p plan) k t ≡ slotOf (coreTasks p plan k) t
   unfolding tableOf slotAt row
   slotAt-tableOf k t h l =
-      getD-joined (λ k. row (coreTasks p plan k) (span p)) (span p) 0 (p .cores) row-length k t h l
+      getD-joined (λ k. row (coreTasks p plan k) (span p)) (span p) 0 (p .cores) (λ k h. row-length k) k t h l
       ∙ getD-listOf (slotOf (coreTasks p plan k)) (span p) t 0 l

@@ -1,10 +1,11 @@
 // What a plan costs, the slot table that it gives, and the check of a table.
-mod dispatch;
 mod check;
+mod dispatch;
 mod plan;
 mod prices;
 mod pricing;
 mod quantities;
+mod table;
 
 pub use prices::Price;
 pub use prices::Priced;

@@ -1,6 +1,7 @@
 use Prim.Native.Nat.{ℕ, _+_, _-_, _*_, _≤_, _<_}
 use mathlib.Core.Bool.{false}
-use mathlib.Core.Path.{_≡_}
+use mathlib.Core.Path.{_≡_, sym}
+use native.Mathlib.Nat.{le-of-eq}
 use native.Mathlib.Omega.{arith}
 use lib.ListN.{length}
 use borrow.Author.Needs.{needs}
@@ -29,7 +30,7 @@ row-fits : (c : tie.In-loop Inv-loop μ-loop) →
     let inst = start .args .inst in
     c .before .loop .k * inst .span + inst .span ≤ length (start .args .table .now)
 row-fits c = let start = c .before .before .before .before .before .before in
-    row-within-table _ _ _ _ (held-span _ (start .pre .0)) (start .pre .1) (core-below c)
+    row-within-table _ _ _ _ (held-span _ (start .pre .0)) (le-of-eq (sym (start .pre .1))) (core-below c)
 
 cast-cores : tie.Need-cast-cores Inv-loop μ-loop
 cast-cores c = search needs

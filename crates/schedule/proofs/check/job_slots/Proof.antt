@@ -1,5 +1,6 @@
 use Prim.Native.Nat.{_+_, _*_, _≤_}
-use mathlib.Core.Path.{_≡_, _∙_}
+use mathlib.Core.Path.{_≡_, _∙_, sym}
+use native.Mathlib.Nat.{le-of-eq}
 use native.Mathlib.Numerals.{add-one}
 use native.Mathlib.Omega.{arith}
 use lib.ListN.{length, getD}
@@ -39,7 +40,7 @@ window-fits c =
     let h = start .pre .1 .1 .1 .0 in
     let in-range = core-in-range _ (s .valid) _ (start .pre .1 .0) _ h in
     window-within-table _ (start .args .i) _ _ _ _ _ (held-span _ s) (held-period _ s _ h)
-    (start .pre .1 .1 .0) (rw (core-held c) in-range) (start .pre .1 .1 .1 .1)
+    (le-of-eq (sym (start .pre .1 .1 .0))) (rw (core-held c) in-range) (start .pre .1 .1 .1 .1)
 
 mul-period : tie.Need-mul-period
 mul-period c = search needs

@@ -1,0 +1,66 @@
+use Prim.Native.Nat.{_<_}
+use Rattle.laws.specs.OntoLaws.{next-onto-listOf}
+use Rattle.instance.specs.Node.{taskCount}
+use Prim.Native.Nat.{_-_, _≤_}
+use mathlib.Core.Path.{_≡_, refl}
+use native.Mathlib.Omega.{arith}
+use borrow.Author.Needs.{needs}
+use Rattle.laws.specs.Lists.{listOf, onto}
+use Rattle.instance.specs.Held.{problemIn, held-taskcount}
+use Rattle.instance.specs.Node.{taskAt}
+use Rattle.schedule.specs.HeldJobs.{held-period}
+use Rattle.schedule.proofs.table.periods_of.Statement.{statement}
+use Rattle.schedule.proofs.table.periods_of.Tie as tie
+
+abbrev Inv-loop : tie.InvT-loop
+Inv-loop inst periods₀ i₀ periods i = (i ≤ inst .taskcount) × (periods ≡ onto (listOf (λ x. taskAt (problemIn inst) x .period) i) periods₀)
+
+abbrev μ-loop : tie.MeasureT-loop
+μ-loop inst periods₀ i₀ periods i = inst .taskcount - i
+
+loop-holds : tie.Need-loop-holds Inv-loop μ-loop
+unfolding onto listOf
+loop-holds c = (search needs, refl)
+
+mul-periods : tie.Need-mul-periods Inv-loop μ-loop
+mul-periods c = omega (arith, held-taskcount _ (c .before .before .pre))
+
+element-copy-out-periods : tie.Need-element-copy-out-periods Inv-loop μ-loop
+element-copy-out-periods c = omega (arith, held-taskcount _ (c .before .before .pre))
+
+mul-periods-2 : tie.Need-mul-periods-2 Inv-loop μ-loop
+mul-periods-2 c = omega (arith, held-taskcount _ (c .before .before .pre))
+
+array-write-periods : tie.Need-array-write-periods Inv-loop μ-loop
+array-write-periods c = omega (arith, held-taskcount _ (c .before .before .pre))
+
+add-i : tie.Need-add-i Inv-loop μ-loop
+add-i c = search needs
+
+loop-less : tie.Need-loop-less Inv-loop μ-loop
+loop-less c = search needs
+
+loop-again : tie.Need-loop-again Inv-loop μ-loop
+loop-again c = let s = c .before .before .pre in
+    let below : c .before .loop .i < taskCount (problemIn (c .before .before .args .t1)) = omega (arith, held-taskcount _ s) in
+    (search needs, next-onto-listOf _ _ _ _ _ (omega (arith, s .valid .task-count)) (c .before .loop .inv .1) (held-period _ s _ below))
+
+returns : tie.Need-returns Inv-loop μ-loop
+returns c = let all : c .before .loop .i ≡ taskCount (problemIn (c .before .before .args .t1)) = omega (arith, held-taskcount _ (c .before .before .pre)) in
+    rw all at (c .before .loop .inv .1)
+
+pub periods-of-spec : {M : Type 1} → statement M
+periods-of-spec =
+    tie.close
+    (tie.spec
+    Inv-loop
+    μ-loop
+    loop-holds
+    mul-periods
+    element-copy-out-periods
+    mul-periods-2
+    array-write-periods
+    add-i
+    loop-less
+    loop-again
+    returns)

@@ -1,0 +1,79 @@
+// The slot table of a plan.
+use crate::dispatch::Core;
+use crate::dispatch::fill_row;
+use crate::quantities::ticks_on;
+use instance::Instance;
+ghost use mathlib.Core.Path.{_≡_};
+ghost use Prim.Native.Nat.{_≤_};
+ghost use lib.ListN.{length, replicate};
+ghost use Rattle.laws.specs.Lists.{listOf, onto};
+ghost use Rattle.instance.specs.Held.{Sound, problemIn};
+ghost use Rattle.instance.specs.Limits.{mostTasks};
+ghost use Rattle.instance.specs.Node.{taskCount, taskAt};
+ghost use Rattle.schedule.specs.HeldTables.{HeldCore};
+ghost use Rattle.schedule.specs.Quantities.{ticksOn};
+ghost use Rattle.schedule.specs.Tables.{tableOf, tableSize};
+
+// The tasks' periods.
+fn periods_of(inst: Instance) -> [u32; 12]
+    requires { ⌜ Sound inst ⌝ }
+    ensures { λ r. ⌜ r ≡ onto (listOf (λ i. taskAt (problemIn inst) i .period) (taskCount (problemIn inst))) (replicate mostTasks 0) ⌝ }
+{
+    let mut periods = [0; 12];
+    let mut i = 0;
+    while i < inst.taskcount {
+        periods[i] = inst.tasks[i].period;
+        i += 1;
+    }
+    periods
+}
+
+// The ticks of a job of each task on core k, counted from 0.
+fn ticks_of_core(inst: Instance, plan: &[u32], k: usize) -> [u32; 12]
+    requires { ⌜ Sound inst ⌝ }
+    requires { ⌜ length (now plan) ≡ taskCount (problemIn inst) ⌝ }
+    ensures { λ r. ⌜ r ≡ onto (listOf (ticksOn (problemIn inst) (now (plan .entry)) k) (taskCount (problemIn inst))) (replicate mostTasks 0) ⌝ }
+{
+    let mut ticks = [0; 12];
+    let mut i = 0;
+    while i < inst.taskcount {
+        ticks[i] = ticks_on(inst, plan, k, i);
+        i += 1;
+    }
+    ticks
+}
+
+// What core k, counted from 0, knows of the tasks.
+fn core_tasks(inst: Instance, plan: &[u32], k: usize) -> Core
+    requires { ⌜ Sound inst ⌝ }
+    requires { ⌜ length (now plan) ≡ taskCount (problemIn inst) ⌝ }
+    ensures { λ r. ⌜ HeldCore (problemIn inst) (now (plan .entry)) k r ⌝ }
+{
+    let periods = periods_of(inst);
+    let ticks = ticks_of_core(inst, plan, k);
+    Core {
+        size: inst.taskcount,
+        period: periods,
+        window: periods,
+        ticks,
+    }
+}
+
+// Writes the rows of all cores, one after another, to the front of the table.
+fn fill_table(inst: Instance, plan: &[u32], table: &mut [u8])
+    requires { ⌜ Sound inst ⌝ }
+    requires { ⌜ length (now plan) ≡ taskCount (problemIn inst) ⌝ }
+    requires { ⌜ tableSize (problemIn inst) ≤ length (now table) ⌝ }
+    ensures { λ _. ⌜ now (table .exit) ≡ onto (tableOf (problemIn inst) (now (plan .entry))) (now (table .entry)) ⌝ }
+{
+    let cores = inst.cores as usize;
+    let span = inst.span as usize;
+    let mut k = 0;
+    while k < cores {
+        let from = k * span;
+        let to = from + span;
+        let core = core_tasks(inst, plan, k);
+        fill_row(core, &mut table[from..to]);
+        k += 1;
+    }
+}
