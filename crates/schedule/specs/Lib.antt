@@ -39,3 +39,4 @@ pub mod HeldPrices
 pub mod HeldSlots
 pub mod HeldJobs
 pub mod HeldTables
+pub mod OutcomeLaws

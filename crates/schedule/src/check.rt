@@ -1,4 +1,5 @@
 // The check of a given table: the refusals 9 and 10, after 7 and without 8.
+use crate::plan::choices_pass;
 use crate::quantities::core_of;
 use crate::quantities::is_kept_on;
 use crate::quantities::job_ticks;
@@ -6,6 +7,7 @@ use crate::quantities::jobs_in;
 use instance::Instance;
 use instance::Refusal;
 use instance::Verdict;
+use instance::read_instance;
 ghost use mathlib.Core.Path.{_≡_};
 ghost use mathlib.Core.Bool.{not};
 ghost use Prim.Native.Nat.{_<_};
@@ -15,7 +17,8 @@ ghost use Rattle.laws.specs.Search.{first, count};
 ghost use Rattle.instance.specs.Held.{Sound, problemIn};
 ghost use Rattle.instance.specs.Node.{taskCount};
 ghost use Rattle.schedule.specs.CheckLaws.{AllowedPlan};
-ghost use Rattle.schedule.specs.Checks.{strayValue, straySlot, slotsPass, jobSlots, isServed, jobsPass};
+ghost use Rattle.schedule.specs.Checks.{strayValue, straySlot, slotsPass, jobSlots, isServed, jobsPass, check};
+ghost use Rattle.schedule.specs.Outcomes.{checkOutcome};
 ghost use Rattle.schedule.specs.Quantities.{jobs};
 ghost use Rattle.schedule.specs.Tables.{tableSize};
 
@@ -170,4 +173,32 @@ fn jobs_pass(inst: Instance, plan: &[u32], table: &[u8]) -> Verdict
         return Verdict::Refused(Refusal::JobSlots(i + 1));
     }
     Verdict::Accepted
+}
+
+// The check of a table for an instance that was read.
+fn check_read(inst: Instance, plan: &[u32], table: &[u8]) -> Verdict
+    requires { ⌜ Sound inst ⌝ }
+    ensures { λ r. ⌜ r ≡ check (problemIn inst) (now (plan .entry)) (now (table .entry)) ⌝ }
+{
+    match choices_pass(inst, plan) {
+        Verdict::Refused(r) => Verdict::Refused(r),
+        Verdict::Accepted => match slots_pass(inst, plan, table) {
+            Verdict::Refused(r) => Verdict::Refused(r),
+            Verdict::Accepted => jobs_pass(inst, plan, table),
+        },
+    }
+}
+
+// Whether a table is one of the plan's for the instance: every kept job has its ticks between release and due tick, and
+// no other slot is taken.
+pub fn check_table(instance: &[u32], plan: &[u32], table: &[u8]) -> Verdict
+    ensures { λ r. ⌜ r ≡ checkOutcome (now (instance .entry)) (now (plan .entry)) (now (table .entry)) ⌝ }
+{
+    let read = read_instance(instance);
+    let inst = read.instance;
+    let verdict = read.verdict;
+    match verdict {
+        Verdict::Refused(r) => Verdict::Refused(r),
+        Verdict::Accepted => check_read(inst, plan, table),
+    }
 }

@@ -1,8 +1,12 @@
 // The slot table of a plan.
 use crate::dispatch::Core;
 use crate::dispatch::fill_row;
+use crate::plan::plan_passes;
 use crate::quantities::ticks_on;
 use instance::Instance;
+use instance::Refusal;
+use instance::Verdict;
+use instance::read_instance;
 ghost use mathlib.Core.Path.{_≡_};
 ghost use Prim.Native.Nat.{_≤_};
 ghost use lib.ListN.{length, replicate};
@@ -10,7 +14,9 @@ ghost use Rattle.laws.specs.Lists.{listOf, onto};
 ghost use Rattle.instance.specs.Held.{Sound, problemIn};
 ghost use Rattle.instance.specs.Limits.{mostTasks};
 ghost use Rattle.instance.specs.Node.{taskCount, taskAt};
+ghost use Rattle.instance.specs.Refusals.{accepted};
 ghost use Rattle.schedule.specs.HeldTables.{HeldCore};
+ghost use Rattle.schedule.specs.Outcomes.{tableOutcomeOf, tableOutcome};
 ghost use Rattle.schedule.specs.Quantities.{ticksOn};
 ghost use Rattle.schedule.specs.Tables.{tableOf, tableSize};
 
@@ -75,5 +81,38 @@ fn fill_table(inst: Instance, plan: &[u32], table: &mut [u8])
         let core = core_tasks(inst, plan, k);
         fill_row(core, &mut table[from..to]);
         k += 1;
+    }
+}
+
+// The table of a plan for an instance that was read.
+fn tabulate_read(inst: Instance, plan: &[u32], table: &mut [u8]) -> Verdict
+    requires { ⌜ Sound inst ⌝ }
+    ensures { λ r. ⌜ r ≡ tableOutcomeOf (accepted (problemIn inst)) (now (plan .entry)) (now (table .entry)) .answer ⌝ }
+    ensures { λ _. ⌜ now (table .exit) ≡ tableOutcomeOf (accepted (problemIn inst)) (now (plan .entry)) (now (table .entry)) .table ⌝ }
+{
+    let size = inst.cores as usize * inst.span as usize;
+    if table.len() < size {
+        return Verdict::Refused(Refusal::ShortBuffer(size));
+    }
+    match plan_passes(inst, plan) {
+        Verdict::Refused(r) => Verdict::Refused(r),
+        Verdict::Accepted => {
+            fill_table(inst, plan, table);
+            Verdict::Accepted
+        }
+    }
+}
+
+// Writes the table of a plan, one byte a slot.
+pub fn tabulate(instance: &[u32], plan: &[u32], table: &mut [u8]) -> Verdict
+    ensures { λ r. ⌜ r ≡ tableOutcome (now (instance .entry)) (now (plan .entry)) (now (table .entry)) .answer ⌝ }
+    ensures { λ _. ⌜ now (table .exit) ≡ tableOutcome (now (instance .entry)) (now (plan .entry)) (now (table .entry)) .table ⌝ }
+{
+    let read = read_instance(instance);
+    let inst = read.instance;
+    let verdict = read.verdict;
+    match verdict {
+        Verdict::Refused(r) => Verdict::Refused(r),
+        Verdict::Accepted => tabulate_read(inst, plan, table),
     }
 }

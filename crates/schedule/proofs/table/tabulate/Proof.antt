@@ -1,0 +1,42 @@
+use mathlib.Core.Path.{refl}
+use Rattle.schedule.specs.Outcomes.{tableOutcome}
+use Rattle.schedule.specs.ReadLaws.{accepted-read-holds-problem, refused-read-refuses-words}
+use borrow.Author.Needs.{needs}
+use Rattle.schedule.proofs.table.tabulate.Statement.{statement}
+use Rattle.schedule.proofs.table.tabulate.Tie as tie
+
+read-instance-requires : tie.Need-read-instance-requires
+read-instance-requires c κs = search needs
+
+enum-known-verdict : tie.Need-enum-known-verdict
+enum-known-verdict c = search needs
+
+enum-told : tie.Need-enum-told
+enum-told c = search needs
+
+tabulate-read-requires : tie.Need-tabulate-read-requires
+tabulate-read-requires c κs = accepted-read-holds-problem _ _ (c .before .before .before .before .read-instance .ensures) (c .before .enum-told .given .1) .sound
+
+returns : tie.Need-returns
+unfolding tableOutcome
+returns c = rw (refused-read-refuses-words _ _ (c .before .before .before .before .read-instance .ensures) (c .before .verdict .given .1)) (refl, refl)
+
+same-length : tie.Need-same-length
+same-length c = search needs
+
+returns-2 : tie.Need-returns-2
+unfolding tableOutcome
+returns-2 c = rw (accepted-read-holds-problem _ _ (c .before .before .before .before .before .before .before .read-instance .ensures) (c .before .before .before .before .enum-told .given .1) .problem)
+    (c .before .before .tabulate-read .ensures)
+
+pub tabulate-spec : {M : Type 1} → statement M
+tabulate-spec =
+    tie.close
+    (tie.spec
+    read-instance-requires
+    enum-known-verdict
+    enum-told
+    tabulate-read-requires
+    returns
+    same-length
+    returns-2)

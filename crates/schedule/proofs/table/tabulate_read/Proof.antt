@@ -1,0 +1,71 @@
+use Prim.Native.Nat.{_≤_}
+use lib.ListN.{length}
+use Rattle.instance.specs.Held.{problemIn}
+use Rattle.schedule.specs.Tables.{tableSize}
+use mathlib.Core.Path.{sym, _∙_}
+use native.Mathlib.Omega.{arith}
+use Rattle.schedule.specs.HeldSlots.{held-table-size, table-size-at-most}
+use Rattle.schedule.specs.OutcomeLaws.{short-buffer-is-refused, plan-is-refused, table-is-written}
+use Rattle.schedule.specs.PlanLaws.{passing-plan}
+use borrow.Author.Needs.{needs}
+use Rattle.schedule.proofs.table.tabulate_read.Statement.{statement}
+use Rattle.schedule.proofs.table.tabulate_read.Tie as tie
+
+cast-size : tie.Need-cast-size
+cast-size c = search needs
+
+cast-size-2 : tie.Need-cast-size-2
+cast-size-2 c = search needs
+
+mul-size : tie.Need-mul-size
+mul-size c = let s = c .before .before .before .before .pre in
+    omega (arith, held-table-size _ s, table-size-at-most _ (s .valid))
+
+returns : tie.Need-returns
+returns c = let given = short-buffer-is-refused _ _ _ _ (held-table-size _ (c .before .before .before .before .before .pre)) (c .if1 .taken) in
+    (given .same-answer, given .same-table)
+
+room-left : (c : tie.Else1) →
+    let start = c .before .before .before .before .before in
+    tableSize (problemIn (start .args .inst)) ≤ length (start .args .table .now)
+room-left c = omega (arith, held-table-size _ (c .before .before .before .before .before .pre), c .if1 .left)
+
+plan-passes-requires : tie.Need-plan-passes-requires
+plan-passes-requires c κs = search needs
+
+enum-known-r : tie.Need-enum-known-r
+enum-known-r c = search needs
+
+enum-told : tie.Need-enum-told
+enum-told c = search needs
+
+fill-table-requires : tie.Need-fill-table-requires
+fill-table-requires c κs = let passes = sym (c .before .before .before .plan-passes .ensures) ∙ c .before .enum-told .given .1 in
+    (c .before .before .before .before .before .before .before .before .before .pre, (passing-plan _ _ passes .allowed .one-choice-per-task, room-left (c .before .before .before .before)))
+
+returns-2 : tie.Need-returns-2
+returns-2 c = let given = plan-is-refused _ _ _ (room-left (c .before .before .before .before)) (sym (c .before .before .before .plan-passes .ensures) ∙ c .before .r .given .1) in
+    (given .same-answer, given .same-table)
+
+same-length : tie.Need-same-length
+same-length c = search needs
+
+returns-3 : tie.Need-returns-3
+returns-3 c = let given = table-is-written _ _ _ (room-left (c .before .before .before .before .before .before .before)) (sym (c .before .before .before .before .before .before .plan-passes .ensures) ∙ c .before .before .before .before .enum-told .given .1) in
+    (given .same-answer, c .before .before .fill-table .ensures ∙ given .same-table)
+
+pub tabulate-read-spec : {M : Type 1} → statement M
+tabulate-read-spec =
+    tie.close
+    (tie.spec
+    cast-size
+    cast-size-2
+    mul-size
+    returns
+    plan-passes-requires
+    enum-known-r
+    enum-told
+    fill-table-requires
+    returns-2
+    same-length
+    returns-3)
