@@ -26,6 +26,9 @@ pub mod ServedLaws
 pub mod RepeatedRowLaws
 pub mod KeptTaskLaws
 pub mod SchedulingTheorems
+pub mod FitLaws
+pub mod RepeatedTables
+pub mod RepeatedTableLaws
 pub mod Dispatching
 pub mod StepLaws
 pub mod DispatchingLaws
