@@ -7,12 +7,10 @@ mod pricing;
 mod quantities;
 mod table;
 
+pub use check::check_table;
 pub use prices::Price;
 pub use prices::Priced;
 pub use pricing::price;
-pub use check::check_table;
-pub use price::Price;
-pub use price::Priced;
 pub use quantities::jobs_in;
 pub use quantities::ticks_of;
 pub use table::tabulate;
