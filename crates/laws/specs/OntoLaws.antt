@@ -1,14 +1,14 @@
 -- A list that is written to the front of a buffer, element by element or part by part.
 use Prim.Native.Nat.{ℕ, suc, _+_, _-_, _≤_, _<_}
-use mathlib.Core.Path.{_≡_, refl, _∙_}
 use mathlib.Core.List.{List, _∷_, _++_, append-assoc, append-nil}
+use mathlib.Core.Path.{_≡_, refl, _∙_}
 use native.Mathlib.Numerals.{add-one}
 use native.Mathlib.Omega.{arith}
 use lib.ListN.{length, getD, drop, set, length-append, length-drop, List·getD-append, drop-of-length-le}
 use lib.Seq.{drop-append-add, drop-cons, drop-drop, take-at, set-at, getD-at}
 use borrow.Rule.Slice.PartMut.{putMid, post-is}
-use Rattle.laws.specs.Lists.{listOf, onto}
 use Rattle.laws.specs.JoinedLaws.{length-listOf, getD-listOf}
+use Rattle.laws.specs.Lists.{listOf, onto}
 
 module _ {A : Type 0} where
   pub length-onto : (xs buffer : List A) → length xs ≤ length buffer → length (onto xs buffer) ≡ length buffer

@@ -1,23 +1,18 @@
 -- Which plans may be given, from the fields of the struct that holds the problem, test by test as the code makes them.
-use Prim.Native.Nat.{ℕ, _+_, _*_, _<_, _≤_}
+use Prim.Native.Nat.{ℕ, _*_, _<_, _≤_}
 use mathlib.Core.Bool.{Bool, true, false, not}
-use mathlib.Core.Path.{_≡_, refl, ap, ap₂, _∙_}
 use mathlib.Core.List.{List}
-use lib.Dec.{leb, ltb, eqb}
-use lib.ListN.{length, getD}
-use borrow.Author.Tests.{lt-ltb, le-ltb, leb-true, leb-false, eq-eqb, ne-eqb}
-use native.Mathlib.Nat.{min-eq-left, min-eq-right}
-use native.Mathlib.Numerals.{add-one}
+use mathlib.Core.Path.{_≡_, refl, ap, ap₂, _∙_}
 use native.Mathlib.Omega.{arith}
-use Rattle.laws.specs.Search.{first}
+use lib.Dec.{leb, ltb, eqb}
+use lib.ListN.{getD}
+use borrow.Author.Tests.{lt-ltb, le-ltb, leb-true, leb-false, eq-eqb, ne-eqb}
 use Rattle.instance.specs.Held.{problemIn, Sound, held-task, held-levelcount, held-span}
 use Rattle.instance.specs.Limits.{mostCores, mayNotBeRefused}
-use Rattle.instance.specs.Node.{Problem, taskCount, noTask, span}
+use Rattle.instance.specs.Node.{taskCount, noTask, span}
 use Rattle.instance.specs.declared.node.Instance.{Instance}
 use Rattle.instance.specs.declared.node.Task.{Task}
-use Rattle.instance.specs.declared.refusal.Refusal.the-variants.{GivenPlan, CoreOverloaded}
-use Rattle.instance.specs.declared.refusal.Verdict.the-variants.{Accepted, Refused}
-use Rattle.schedule.specs.Plans.{isMust, mostChoice, badChoice, choicesPass, fits, coresFit}
+use Rattle.schedule.specs.Plans.{isMust, mostChoice, badChoice, fits}
 use Rattle.schedule.specs.Quantities.{choiceAt, coreLoad}
 
 above-is-not-at-most : (a b : ℕ) → ltb a b ≡ not (leb b a)
@@ -65,34 +60,3 @@ module _ (inst : Instance) (s : Sound inst) where
   unfolding fits
   load-above-span-does-not-fit plan k load e =
       ap₂ ltb (held-span inst s) e ∙ above-is-not-at-most (span (problemIn inst)) (coreLoad (problemIn inst) plan k)
-
--- the verdicts, for a problem of n tasks
-module _ (p : Problem) (plan : List ℕ) (n : ℕ) (count : n ≡ taskCount p) where
-  pub short-plan-is-refused : length plan < n → Refused (GivenPlan (length plan)) ≡ choicesPass p plan
-  unfolding choicesPass
-  short-plan-is-refused short =
-      rw (← count, ne-eqb (length plan) n (λ e. omega arith), min-eq-left {n = length plan} {m = n} (omega arith)) refl
-
-  pub long-plan-is-refused : n < length plan → Refused (GivenPlan n) ≡ choicesPass p plan
-  unfolding choicesPass
-  long-plan-is-refused long =
-      rw (← count, ne-eqb (length plan) n (λ e. omega arith), min-eq-right {n = n} {m = length plan} (omega arith)) refl
-
-  module _ (same : length plan ≡ n) (i : ℕ) (e : i ≡ first (badChoice p plan) (taskCount p)) where
-    pub first-bad-choice-is-refused : i < n → Refused (GivenPlan i) ≡ choicesPass p plan
-    unfolding choicesPass
-    first-bad-choice-is-refused below = rw (← e, ← count, eq-eqb (length plan) n same, lt-ltb i n below) refl
-
-    pub good-choices-pass : n ≤ i → Accepted ≡ choicesPass p plan
-    unfolding choicesPass
-    good-choices-pass past = rw (← e, ← count, eq-eqb (length plan) n same, le-ltb i n past) refl
-
-module _ (inst : Instance) (s : Sound inst) (plan : List ℕ) (k : ℕ)
-    (e : k ≡ first (λ k. not (fits (problemIn inst) plan k)) (problemIn inst .cores)) where
-  pub first-overloaded-is-refused : k < inst .cores → Refused (CoreOverloaded (k + 1)) ≡ coresFit (problemIn inst) plan
-  unfolding coresFit
-  first-overloaded-is-refused below = rw (add-one, ← e, lt-ltb k (problemIn inst .cores) (omega (arith, held-cores inst s))) refl
-
-  pub fitting-cores-pass : inst .cores ≤ k → Accepted ≡ coresFit (problemIn inst) plan
-  unfolding coresFit
-  fitting-cores-pass past = rw (← e, le-ltb k (problemIn inst .cores) (omega (arith, held-cores inst s))) refl

@@ -42,19 +42,21 @@ none-refused fails n r =
     go true t e = absurd (refused-not-accepted r e)
     go false t e = first-at-end fails n (ltb-false (first fails n) n t)
 
--- what code answers that has compared a length a with the n wanted, and then searched n places and come to x
-module _ (refusal : ℕ → Refusal) (a n : ℕ) where
-  pub shorter-is-refused : (next : Verdict) → a < n → Refused (refusal a) ≡ cond (eqb a n) next (Refused (refusal (min a n)))
-  shorter-is-refused next l = rw (ne-eqb a n (λ e. omega arith), min-eq-left {n = a} {m = n} (omega arith)) refl
+-- what code answers where m is wanted: m places were searched, and the search came to x; a length a was compared with m
+module _ (refusal : ℕ → Refusal) (n m : ℕ) (wanted : m ≡ n) where
+  module _ (x y : ℕ) (found : x ≡ y) where
+    pub found-is-refused : x < m → Refused (refusal x) ≡ cond (ltb y n) (Refused (refusal y)) Accepted
+    found-is-refused below = rw (← found, ← wanted, lt-ltb x m below) refl
 
-  pub longer-is-refused : (next : Verdict) → n < a → Refused (refusal n) ≡ cond (eqb a n) next (Refused (refusal (min a n)))
-  longer-is-refused next l = rw (ne-eqb a n (λ e. omega arith), min-eq-right {n = n} {m = a} (omega arith)) refl
+    pub none-found-passes : m ≤ x → Accepted ≡ cond (ltb y n) (Refused (refusal y)) Accepted
+    none-found-passes past = rw (← found, ← wanted, le-ltb x m past) refl
 
-  pub equal-goes-on : (next : Verdict) (r : Refusal) → a ≡ n → next ≡ cond (eqb a n) next (Refused r)
-  equal-goes-on next r e = rw (eq-eqb a n e) refl
+  module _ (a : ℕ) (next : Verdict) where
+    pub shorter-is-refused : a < m → Refused (refusal a) ≡ cond (eqb a n) next (Refused (refusal (min a n)))
+    shorter-is-refused l = rw (← wanted, ne-eqb a m (λ e. omega arith), min-eq-left {n = a} {m = m} (omega arith)) refl
 
-pub found-is-refused : (r : Refusal) (x n : ℕ) → x < n → Refused r ≡ cond (ltb x n) (Refused r) Accepted
-found-is-refused r x n l = rw (lt-ltb x n l) refl
+    pub longer-is-refused : m < a → Refused (refusal m) ≡ cond (eqb a n) next (Refused (refusal (min a n)))
+    longer-is-refused l = rw (← wanted, ne-eqb a m (λ e. omega arith), min-eq-right {n = m} {m = a} (omega arith)) refl
 
-pub none-found-passes : (r : Refusal) (x n : ℕ) → n ≤ x → Accepted ≡ cond (ltb x n) (Refused r) Accepted
-none-found-passes r x n l = rw (le-ltb x n l) refl
+    pub equal-goes-on : m ≤ a → a ≤ m → next ≡ cond (eqb a n) next (Refused (refusal (min a n)))
+    equal-goes-on enough fits = rw (← wanted, eq-eqb a m (omega arith)) refl

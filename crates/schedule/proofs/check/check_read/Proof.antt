@@ -1,9 +1,8 @@
-use Rattle.schedule.specs.CheckLaws.{slots-pass}
-use Rattle.schedule.specs.Periods.{valid-is-periodic}
 use mathlib.Core.Path.{refl, sym, _∙_}
-use Rattle.schedule.specs.CheckLaws.{choices-pass}
-use Rattle.schedule.specs.Checks.{check}
 use borrow.Author.Needs.{needs}
+use Rattle.schedule.specs.CheckLaws.{slots-pass, choices-pass}
+use Rattle.schedule.specs.Checks.{check}
+use Rattle.schedule.specs.Periods.{valid-is-periodic}
 use Rattle.schedule.proofs.check.check_read.Statement.{statement}
 use Rattle.schedule.proofs.check.check_read.Tie as tie
 
@@ -40,11 +39,13 @@ returns c = rw (← c .before .before .before .choices-pass .ensures, c .before 
 
 returns-2 : tie.Need-returns-2
 unfolding check
-returns-2 c = rw (← c .before .before .before .before .before .before .choices-pass .ensures, c .before .before .before .before .enum-told .given .1, ← c .before .before .before .slots-pass .ensures, c .before .r2 .given .1) refl
+returns-2 c = rw (← c .before .before .before .before .before .before .choices-pass .ensures, c .before .before .before .before .enum-told .given .1)
+    (rw (← c .before .before .before .slots-pass .ensures, c .before .r2 .given .1) refl)
 
 returns-3 : tie.Need-returns-3
 unfolding check
-returns-3 c = rw (← c .before .before .before .before .before .before .choices-pass .ensures, c .before .before .before .before .enum-told .given .1, ← c .before .before .before .slots-pass .ensures, c .before .enum-told2 .given .1) (c .jobs-pass .ensures)
+returns-3 c = rw (← c .before .before .before .before .before .before .choices-pass .ensures, c .before .before .before .before .enum-told .given .1)
+    (rw (← c .before .before .before .slots-pass .ensures, c .before .enum-told2 .given .1) (c .jobs-pass .ensures))
 
 pub check-read-spec : {M : Type 1} → statement M
 check-read-spec =

@@ -1,7 +1,7 @@
 use mathlib.Core.Path.{refl}
+use borrow.Author.Needs.{needs}
 use Rattle.schedule.specs.Outcomes.{checkOutcome}
 use Rattle.schedule.specs.ReadLaws.{accepted-read-holds-problem, refused-read-refuses-words}
-use borrow.Author.Needs.{needs}
 use Rattle.schedule.proofs.check.check_table.Statement.{statement}
 use Rattle.schedule.proofs.check.check_table.Tie as tie
 
@@ -23,7 +23,8 @@ returns c = rw (refused-read-refuses-words _ _ (c .before .before .before .befor
 
 returns-2 : tie.Need-returns-2
 unfolding checkOutcome
-returns-2 c = rw (accepted-read-holds-problem _ _ (c .before .before .before .before .read-instance .ensures) (c .before .enum-told .given .1) .problem) (c .check-read .ensures)
+returns-2 c = let held = accepted-read-holds-problem _ _ (c .before .before .before .before .read-instance .ensures) (c .before .enum-told .given .1) in
+    rw (held .problem) (c .check-read .ensures)
 
 pub check-table-spec : {M : Type 1} → statement M
 check-table-spec =

@@ -1,3 +1,4 @@
+-- `first_stray` searches row by row: no slot of the rows that it has passed is stray.
 use Prim.Native.Nat.{ℕ, _+_, _-_, _*_, _≤_, _<_}
 use mathlib.Core.Bool.{false}
 use mathlib.Core.Path.{_≡_, sym}
@@ -64,7 +65,9 @@ add-result c = omega (arith, row-fits (c .before .before .before))
 
 returns : tie.Need-returns Inv-loop μ-loop
 returns c = let start = c .before .before .before .before .before .before .before .before .before in
-    stray-in-row-is-first-stray _ _ _ _ (held-span _ (start .pre .0)) (start .pre .1) _ (core-below (c .before .before .before)) (c .before .before .before .before .loop .inv .1) _ (c .before .first-stray-in-row .ensures) (c .if1 .taken)
+    let wide = held-span _ (start .pre .0) in
+    let none-before = c .before .before .before .before .loop .inv .1 in
+    stray-in-row-is-first-stray _ _ _ _ wide (start .pre .1) _ (core-below (c .before .before .before)) none-before _ (c .before .first-stray-in-row .ensures) (c .if1 .taken)
 
 add-k : tie.Need-add-k Inv-loop μ-loop
 add-k c = search needs
@@ -74,7 +77,9 @@ loop-less c = search needs
 
 loop-again : tie.Need-loop-again Inv-loop μ-loop
 loop-again c = let start = c .before .before .before .before .before .before .before .before .before in
-    (search needs, no-stray-after-row _ _ _ _ (held-span _ (start .pre .0)) (start .pre .1) _ (core-below (c .before .before .before)) (c .before .before .before .before .loop .inv .1) _ (c .before .first-stray-in-row .ensures) (c .if1 .left))
+    let wide = held-span _ (start .pre .0) in
+    let none-before = c .before .before .before .before .loop .inv .1 in
+    (search needs, no-stray-after-row _ _ _ _ wide (start .pre .1) _ (core-below (c .before .before .before)) none-before _ (c .before .first-stray-in-row .ensures) (c .if1 .left))
 
 returns-2 : tie.Need-returns-2 Inv-loop μ-loop
 returns-2 c = let start = c .before .before .before .before .before .before in

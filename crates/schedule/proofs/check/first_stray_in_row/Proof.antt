@@ -1,3 +1,4 @@
+-- `first_stray_in_row` tries the slots in order: none that it has passed is stray.
 use Prim.Native.Nat.{ℕ, _-_, _≤_, _<_}
 use mathlib.Core.Bool.{false}
 use mathlib.Core.Path.{_≡_, sym, _∙_}

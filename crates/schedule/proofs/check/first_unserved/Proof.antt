@@ -1,3 +1,4 @@
+-- `first_unserved` tries the tasks in order: each that it has passed is served.
 use Prim.Native.Nat.{ℕ, _-_, _≤_, _<_}
 use mathlib.Core.Bool.{false, not}
 use mathlib.Core.Path.{_≡_, sym, ap, _∙_}

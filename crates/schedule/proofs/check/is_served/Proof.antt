@@ -1,3 +1,4 @@
+-- `is_served` counts job by job: each that it has passed has as many slots as ticks.
 use Prim.Native.Nat.{ℕ, _-_, _≤_, _<_}
 use mathlib.Core.Path.{_≡_, sym, _∙_}
 use native.Mathlib.Omega.{arith}
@@ -7,8 +8,8 @@ use Rattle.laws.specs.Truth.{not-true-is-false}
 use Rattle.instance.specs.Held.{problemIn}
 use Rattle.schedule.specs.CheckLaws.{task-is-served}
 use Rattle.schedule.specs.Checks.{jobSlots}
-use Rattle.schedule.specs.Quantities.{jobs}
 use Rattle.schedule.specs.HeldQuantities.{held-jobs}
+use Rattle.schedule.specs.Quantities.{jobs}
 use Rattle.schedule.proofs.check.is_served.Statement.{statement}
 use Rattle.schedule.proofs.check.is_served.Tie as tie
 

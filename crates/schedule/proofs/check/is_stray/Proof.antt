@@ -1,7 +1,7 @@
 use mathlib.Core.Bool.{not}
 use mathlib.Core.Path.{ap, _∙_}
-use Rattle.schedule.specs.HeldSlots.{idle-slot-is-not-stray, slot-is-stray-unless-kept, slot-past-tasks-is-stray}
 use borrow.Author.Needs.{needs}
+use Rattle.schedule.specs.HeldSlots.{idle-slot-is-not-stray, slot-is-stray-unless-kept, slot-past-tasks-is-stray}
 use Rattle.schedule.proofs.check.is_stray.Statement.{statement}
 use Rattle.schedule.proofs.check.is_stray.Tie as tie
 

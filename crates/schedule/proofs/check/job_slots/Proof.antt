@@ -1,15 +1,16 @@
+-- The window of a job lies in its core's row, and the row in the table.
 use Prim.Native.Nat.{_+_, _*_, _≤_}
 use mathlib.Core.Path.{_≡_, _∙_, sym}
 use native.Mathlib.Nat.{le-of-eq}
 use native.Mathlib.Numerals.{add-one}
 use native.Mathlib.Omega.{arith}
 use lib.ListN.{length, getD}
+use borrow.Author.Needs.{needs}
 use Rattle.instance.specs.Held.{problemIn, held-span}
-use Rattle.schedule.specs.Quantities.{coreOf}
 use Rattle.instance.specs.Node.{noTask}
 use Rattle.schedule.specs.HeldJobs.{core-in-range, held-core-of, held-period, window-within-table, counted-is-job-slots}
 use Rattle.schedule.specs.HeldQuantities.{level-count-above-zero}
-use borrow.Author.Needs.{needs}
+use Rattle.schedule.specs.Quantities.{coreOf}
 use Rattle.schedule.proofs.check.job_slots.Statement.{statement}
 use Rattle.schedule.proofs.check.job_slots.Tie as tie
 
@@ -90,8 +91,9 @@ slots-of-requires c κs = search needs
 returns : tie.Need-returns
 returns c = let start = c .before .before .before .before .before .before in
     let s = start .pre .0 in
-    c .slots-of .ensures
-    ∙ rw add-one (counted-is-job-slots _ _ _ _ _ _ _ _ (core-held (c .before .before)) (held-span _ s) (held-period _ s _ (start .pre .1 .1 .1 .0)) (window-fits (c .before .before)))
+    let at = c .before .before in
+    let period = held-period _ s _ (start .pre .1 .1 .1 .0) in
+    c .slots-of .ensures ∙ rw add-one (counted-is-job-slots _ _ _ _ _ _ _ _ (core-held at) (held-span _ s) period (window-fits at))
 
 pub job-slots-spec : {M : Type 1} → statement M
 job-slots-spec =

@@ -1,5 +1,10 @@
-use Rattle.schedule.specs.HeldPlans.{first-overloaded-is-refused, fitting-cores-pass}
+use Prim.Native.Nat.{suc}
+use native.Mathlib.Numerals.{add-one}
 use borrow.Author.Needs.{needs}
+use Rattle.instance.specs.declared.refusal.Refusal.the-variants.{CoreOverloaded}
+use Rattle.schedule.specs.HeldPlans.{held-cores}
+use Rattle.schedule.specs.Plans.{coresFit}
+use Rattle.schedule.specs.VerdictLaws.{found-is-refused, none-found-passes}
 use Rattle.schedule.proofs.plan.cores_fit.Statement.{statement}
 use Rattle.schedule.proofs.plan.cores_fit.Tie as tie
 
@@ -13,10 +18,14 @@ add-t6 : tie.Need-add-t6
 add-t6 c = search needs
 
 returns : tie.Need-returns
-returns c = first-overloaded-is-refused _ (c .before .before .before .before .pre .0) _ _ (c .before .before .first-overloaded .ensures) (c .if1 .taken)
+unfolding coresFit
+returns c = let wanted = held-cores _ (c .before .before .before .before .pre .0) in
+    rw add-one (found-is-refused (λ n. CoreOverloaded (suc n)) _ _ wanted _ _ (c .before .before .first-overloaded .ensures) (c .if1 .taken))
 
 returns-2 : tie.Need-returns-2
-returns-2 c = fitting-cores-pass _ (c .before .before .before .before .pre .0) _ _ (c .before .before .first-overloaded .ensures) (c .if1 .left)
+unfolding coresFit
+returns-2 c = let wanted = held-cores _ (c .before .before .before .before .pre .0) in
+    none-found-passes (λ n. CoreOverloaded (suc n)) _ _ wanted _ _ (c .before .before .first-overloaded .ensures) (c .if1 .left)
 
 pub cores-fit-spec : {M : Type 1} → statement M
 cores-fit-spec = tie.close (tie.spec first-overloaded-requires cast-if1 add-t6 returns returns-2)

@@ -1,6 +1,6 @@
+use borrow.Author.Needs.{needs}
 use Rattle.instance.specs.Held.{held-taskcount}
 use Rattle.schedule.specs.HeldTables.{core-is-held}
-use borrow.Author.Needs.{needs}
 use Rattle.schedule.proofs.table.core_tasks.Statement.{statement}
 use Rattle.schedule.proofs.table.core_tasks.Tie as tie
 

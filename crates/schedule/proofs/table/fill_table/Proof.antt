@@ -1,3 +1,4 @@
+-- `fill_table` has written the rows of the cores that it has passed to the front, and nothing else.
 use Prim.Native.Nat.{_+_, _-_, _*_, _≤_, _<_}
 use mathlib.Core.Path.{_≡_, ap, _∙_}
 use native.Mathlib.Omega.{arith}
@@ -68,10 +69,12 @@ part-fill-row-end : tie.Need-part-fill-row-end Inv-loop μ-loop
 part-fill-row-end c = row-fits (c .before)
 
 fill-row-requires : tie.Need-fill-row-requires Inv-loop μ-loop
-fill-row-requires c κs = let s = c .before .before .before .before .before .before .before .before .pre .0 in
+fill-row-requires c κs = let start = c .before .before .before .before .before .before .before .before in
+    let s = start .pre .0 in
     let at = c .before .before .before .loop in
-    let span = c .before .before .before .before .before .before .before .before .args .inst .span in
-    (c .before .core-tasks .ensures .is-ok, omega (arith, length-part (at .table) (at .k * span) span (row-fits (c .before .before)), held-span _ s, s .valid .span-at-most))
+    let span = start .args .inst .span in
+    let its-length = length-part (at .table) (at .k * span) span (row-fits (c .before .before)) in
+    (c .before .core-tasks .ensures .is-ok, omega (arith, its-length, held-span _ s, s .valid .span-at-most))
 
 add-k : tie.Need-add-k Inv-loop μ-loop
 add-k c = search needs
@@ -80,9 +83,10 @@ loop-less : tie.Need-loop-less Inv-loop μ-loop
 loop-less c = search needs
 
 loop-again : tie.Need-loop-again Inv-loop μ-loop
-loop-again c = let at = c .before .before .before .before .before .before .loop in
-    let within = row-fits (c .before .before .before .before .before) in
-    (search needs, row-onto _ _ _ _ _ _ _ _ (held-span _ (c .before .before .before .before .before .before .before .before .before .before .before .pre .0)) (c .before .before .before .before .core-tasks .ensures) (at .inv .1) within (c .before .before .fill-row .ensures))
+loop-again c = let start = c .before .before .before .before .before .before .before .before .before .before .before in
+    let at = c .before .before .before .before .before .before .loop in
+    let core = c .before .before .before .before .core-tasks .ensures in
+    (search needs, row-onto _ _ _ _ _ _ _ _ (held-span _ (start .pre .0)) core (at .inv .1) (row-fits (c .before .before .before .before .before)) (c .before .before .fill-row .ensures))
 
 same-length : tie.Need-same-length Inv-loop μ-loop
 same-length c = same-length-so-far (c .before)

@@ -1,13 +1,12 @@
-use Prim.Native.Nat.{_<_}
-use Rattle.laws.specs.OntoLaws.{next-onto-listOf}
-use Rattle.instance.specs.Node.{taskCount}
-use Prim.Native.Nat.{_-_, _≤_}
+-- `periods_of` has stored the periods of the tasks that it has passed.
+use Prim.Native.Nat.{_<_, _-_, _≤_}
 use mathlib.Core.Path.{_≡_, refl}
 use native.Mathlib.Omega.{arith}
 use borrow.Author.Needs.{needs}
 use Rattle.laws.specs.Lists.{listOf, onto}
+use Rattle.laws.specs.OntoLaws.{next-onto-listOf}
 use Rattle.instance.specs.Held.{problemIn, held-taskcount}
-use Rattle.instance.specs.Node.{taskAt}
+use Rattle.instance.specs.Node.{taskCount, taskAt}
 use Rattle.schedule.specs.HeldJobs.{held-period}
 use Rattle.schedule.proofs.table.periods_of.Statement.{statement}
 use Rattle.schedule.proofs.table.periods_of.Tie as tie

@@ -1,7 +1,7 @@
 use mathlib.Core.Path.{refl}
+use borrow.Author.Needs.{needs}
 use Rattle.schedule.specs.Outcomes.{tableOutcome}
 use Rattle.schedule.specs.ReadLaws.{accepted-read-holds-problem, refused-read-refuses-words}
-use borrow.Author.Needs.{needs}
 use Rattle.schedule.proofs.table.tabulate.Statement.{statement}
 use Rattle.schedule.proofs.table.tabulate.Tie as tie
 
@@ -26,8 +26,9 @@ same-length c = search needs
 
 returns-2 : tie.Need-returns-2
 unfolding tableOutcome
-returns-2 c = rw (accepted-read-holds-problem _ _ (c .before .before .before .before .before .before .before .read-instance .ensures) (c .before .before .before .before .enum-told .given .1) .problem)
-    (c .before .before .tabulate-read .ensures)
+returns-2 c = let read = c .before .before .before .before .before .before .before .read-instance .ensures in
+    let held = accepted-read-holds-problem _ _ read (c .before .before .before .before .enum-told .given .1) in
+    rw (held .problem) (c .before .before .tabulate-read .ensures)
 
 pub tabulate-spec : {M : Type 1} → statement M
 tabulate-spec =

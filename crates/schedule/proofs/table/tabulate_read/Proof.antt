@@ -1,13 +1,13 @@
 use Prim.Native.Nat.{_≤_}
-use lib.ListN.{length}
-use Rattle.instance.specs.Held.{problemIn}
-use Rattle.schedule.specs.Tables.{tableSize}
 use mathlib.Core.Path.{sym, _∙_}
 use native.Mathlib.Omega.{arith}
+use lib.ListN.{length}
+use borrow.Author.Needs.{needs}
+use Rattle.instance.specs.Held.{problemIn}
 use Rattle.schedule.specs.HeldSlots.{held-table-size, table-size-at-most}
 use Rattle.schedule.specs.OutcomeLaws.{short-buffer-is-refused, plan-is-refused, table-is-written}
 use Rattle.schedule.specs.PlanLaws.{passing-plan}
-use borrow.Author.Needs.{needs}
+use Rattle.schedule.specs.Tables.{tableSize}
 use Rattle.schedule.proofs.table.tabulate_read.Statement.{statement}
 use Rattle.schedule.proofs.table.tabulate_read.Tie as tie
 
@@ -41,17 +41,20 @@ enum-told c = search needs
 
 fill-table-requires : tie.Need-fill-table-requires
 fill-table-requires c κs = let passes = sym (c .before .before .before .plan-passes .ensures) ∙ c .before .enum-told .given .1 in
-    (c .before .before .before .before .before .before .before .before .before .pre, (passing-plan _ _ passes .allowed .one-choice-per-task, room-left (c .before .before .before .before)))
+    let plan-length = passing-plan _ _ passes .allowed .one-choice-per-task in
+    (c .before .before .before .before .before .before .before .before .before .pre, (plan-length, room-left (c .before .before .before .before)))
 
 returns-2 : tie.Need-returns-2
-returns-2 c = let given = plan-is-refused _ _ _ (room-left (c .before .before .before .before)) (sym (c .before .before .before .plan-passes .ensures) ∙ c .before .r .given .1) in
+returns-2 c = let refused = sym (c .before .before .before .plan-passes .ensures) ∙ c .before .r .given .1 in
+    let given = plan-is-refused _ _ _ (room-left (c .before .before .before .before)) refused in
     (given .same-answer, given .same-table)
 
 same-length : tie.Need-same-length
 same-length c = search needs
 
 returns-3 : tie.Need-returns-3
-returns-3 c = let given = table-is-written _ _ _ (room-left (c .before .before .before .before .before .before .before)) (sym (c .before .before .before .before .before .before .plan-passes .ensures) ∙ c .before .before .before .before .enum-told .given .1) in
+returns-3 c = let passes = sym (c .before .before .before .before .before .before .plan-passes .ensures) ∙ c .before .before .before .before .enum-told .given .1 in
+    let given = table-is-written _ _ _ (room-left (c .before .before .before .before .before .before .before)) passes in
     (given .same-answer, c .before .before .fill-table .ensures ∙ given .same-table)
 
 pub tabulate-read-spec : {M : Type 1} → statement M

@@ -1,3 +1,4 @@
+-- `ticks_of_core` has stored the ticks of the tasks that it has passed.
 use Prim.Native.Nat.{_-_, _≤_}
 use mathlib.Core.Path.{_≡_, refl}
 use native.Mathlib.Omega.{arith}
@@ -40,10 +41,12 @@ loop-less c = search needs
 loop-again : tie.Need-loop-again Inv-loop μ-loop
 loop-again c = let s = c .before .before .before .before .before .pre .0 in
     let count = held-taskcount _ s in
-    (search needs, next-onto-listOf _ _ _ _ _ (omega (arith, s .valid .task-count, c .before .if1 .taken)) (c .before .before .before .loop .inv .1) (c .ticks-on .ensures))
+    let at = c .before .before .before .loop in
+    (search needs, next-onto-listOf _ _ _ _ _ (omega (arith, s .valid .task-count, c .before .if1 .taken)) (at .inv .1) (c .ticks-on .ensures))
 
 returns : tie.Need-returns Inv-loop μ-loop
-returns c = let all : c .before .before .loop .i ≡ taskCount (problemIn (c .before .before .before .before .args .inst)) = omega (arith, held-taskcount _ (c .before .before .before .before .pre .0), c .if1 .left) in
+returns c = let start = c .before .before .before .before in
+    let all : c .before .before .loop .i ≡ taskCount (problemIn (start .args .inst)) = omega (arith, held-taskcount _ (start .pre .0), c .if1 .left) in
     rw all at (c .before .before .loop .inv .1)
 
 pub ticks-of-core-spec : {M : Type 1} → statement M
