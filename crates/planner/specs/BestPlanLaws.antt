@@ -10,7 +10,7 @@ use Rattle.laws.specs.Truth.{false-not-true}
 use Rattle.instance.specs.Node.{Problem, taskCount}
 use Rattle.instance.specs.declared.refusal.Verdict.{Verdict}
 use Rattle.instance.specs.declared.refusal.Verdict.the-variants.{Accepted, Refused}
-use Rattle.schedule.specs.Plans.{mostChoice}
+use Rattle.schedule.specs.Plans.{mostChoice, planPasses}
 use Rattle.search.specs.Assignment.{Item, Options, ChoicesAllowed, Allowed, NoWorse, Best}
 use Rattle.search.specs.SearchTheorem.{best-unique}
 use Rattle.planner.specs.Planning.{passes, isAllowed, bestPlan, choiceLists}
@@ -91,3 +91,6 @@ module _ (p : Problem) where
 
   pub none-is-none : ((plan : List ℕ) → Allowed (optionsOf p) plan → ⊥) → bestPlan p ≡ none
   none-is-none none-allowed = answer-unique bestPlan-answers (nothing none-allowed)
+
+  pub best-plan-passes : {plan : List ℕ} → bestPlan p ≡ some plan → planPasses p plan ≡ Accepted
+  best-plan-passes {plan} e = passing-is-allowed p plan .1 (best-plan-is-best e .allowed)

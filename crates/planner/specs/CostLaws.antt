@@ -72,6 +72,13 @@ module _ (p : Problem) (plan : List ℕ) where
   energy-by-task allowed =
       sum-exchange _ _ _ ∙ sum-cong _ _ _ (λ i h. drawn-on-all-cores i (allowed .choices-in-range i h))
 
+  -- "Energy of a kept task: jobs × ticks × P."
+  pub energy-of-kept-tasks : AllowedPlan p plan →
+      energy p plan
+      ≡ sum (λ i. cond (isRefused plan i) 0 (jobs p i * jobTicks p plan i * levelAt p (levelOf p plan i) .power)) (taskCount p)
+  unfolding energyPart drawn loadAt jobsOf jobs jobTicks
+  energy-of-kept-tasks allowed = energy-by-task allowed
+
   cost-by-task : AllowedPlan p plan →
       cost p plan ≡ sum (λ i. p .weights .energy * energyPart i + p .weights .penalty * penaltyPart i) (taskCount p)
   unfolding cost penalty penaltyPart

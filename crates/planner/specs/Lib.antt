@@ -9,3 +9,12 @@ pub mod ChoiceListLaws
 pub mod CheapestLaws
 pub mod BestPlanLaws
 pub mod OptionsBounds
+pub mod Endings
+pub mod RefusalNumbers
+pub mod RoomLaws
+pub mod EndingLaws
+pub mod Planned
+pub mod BestDrawingLaws
+pub mod PlannedLaws
+pub mod ArithmeticLaws
+pub mod Demands

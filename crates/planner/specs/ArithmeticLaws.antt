@@ -1,0 +1,66 @@
+-- Pricing, tabling and the check answer for an instance that was read what the definitions say of it.
+use Prim.Native.Nat.{ℕ, suc, _+_, _-_, _*_, _/_, _≤_, _<_}
+use mathlib.Core.Bool.{cond}
+use mathlib.Core.List.{List}
+use mathlib.Core.Logic.{_↔_}
+use mathlib.Core.Path.{_≡_, refl, ap, _∙_}
+use native.Mathlib.Nat.{div-lt-iff-lt-mul}
+use native.Mathlib.Omega.{arith}
+use lib.ListN.{length}
+use Rattle.laws.specs.Lists.{onto}
+use Rattle.laws.specs.Sums.{sum}
+use Rattle.instance.specs.Node.{Problem, taskCount, levelAt, taskAt}
+use Rattle.instance.specs.Refusals.{accepted, room}
+use Rattle.instance.specs.SiteFile.{problemOf}
+use Rattle.instance.specs.declared.refusal.Verdict.the-variants.{Accepted}
+use Rattle.schedule.specs.Checks.{check}
+use Rattle.schedule.specs.Outcomes.{priceOutcome, priceOutcomeOf, pricedIf, tableOutcome, tableOutcomeOf, tableWhere, checkOutcome, checkOutcomeOf}
+use Rattle.schedule.specs.Plans.{planPasses}
+use Rattle.schedule.specs.Quantities.{isRefused, levelOf, ticks, jobTicks, jobs, penalty, cost, priceOf}
+use Rattle.schedule.specs.Tables.{tableOf, tableSize}
+use Rattle.schedule.specs.VerdictLaws.{andThen-accepts}
+use Rattle.schedule.specs.declared.prices.Priced.the-variants as Priced
+use Rattle.planner.specs.CostLaws.{energy-of-kept-tasks}
+use Rattle.planner.specs.OptionsLaws.{passing-choices}
+use Rattle.planner.specs.RoomLaws.{enough-room}
+
+-- the least number of ticks in which the cycles are done
+pub ticks-round-up : (cycles speed n : ℕ) → 0 < speed → (ticks cycles speed ≤ n) ↔ (cycles ≤ n * speed)
+unfolding ticks
+ticks-round-up cycles speed n above =
+    let below = div-lt-iff-lt-mul {k = speed} {x = cycles + (speed - 1)} {y = suc n} above in (
+      λ h. let product : cycles + (speed - 1) < suc n * speed = below .0 (omega arith) in omega arith,
+      λ h. let quotient : (cycles + (speed - 1)) / speed < suc n = below .1 (omega arith) in omega arith,
+    )
+
+module _ (p : Problem) (plan : List ℕ) where
+  pub priced-energy : planPasses p plan ≡ Accepted →
+      priceOf p plan .energy
+      ≡ sum (λ i. cond (isRefused plan i) 0 (jobs p i * jobTicks p plan i * levelAt p (levelOf p plan i) .power)) (taskCount p)
+  unfolding priceOf
+  priced-energy passes = energy-of-kept-tasks p plan (passing-choices p plan passes)
+
+  pub priced-penalty : priceOf p plan .penalty ≡ sum (λ i. cond (isRefused plan i) (jobs p i * taskAt p i .penalty) 0) (taskCount p)
+  unfolding priceOf penalty
+  priced-penalty = refl
+
+  pub priced-cost : priceOf p plan .cost ≡ p .weights .energy * priceOf p plan .energy + p .weights .penalty * priceOf p plan .penalty
+  unfolding priceOf cost
+  priced-cost = refl
+
+module _ (words : List ℕ) (p : Problem) (read : problemOf words ≡ accepted p) where
+  pub passing-plan-is-priced : (plan : List ℕ) → planPasses p plan ≡ Accepted → priceOutcome words plan ≡ Priced.Cost (priceOf p plan)
+  unfolding priceOutcome
+  passing-plan-is-priced plan passes =
+      ap (λ r. priceOutcomeOf r plan) read ∙ ap (λ v. pricedIf v (priceOf p plan)) passes
+
+  pub passing-plan-is-tabled : (plan buffer : List ℕ) → planPasses p plan ≡ Accepted → tableSize p ≤ length buffer →
+      tableOutcome words plan buffer ≡ record { answer = Accepted; table = onto (tableOf p plan) buffer }
+  unfolding tableOutcome
+  passing-plan-is-tabled plan buffer passes enough =
+      let passes-all = andThen-accepts (room (tableSize p) buffer) (planPasses p plan) .1 (enough-room (tableSize p) buffer enough, passes) in
+      ap (λ r. tableOutcomeOf r plan buffer) read ∙ ap (λ v. tableWhere v (tableOf p plan) buffer) passes-all
+
+  pub checked-as-defined : (plan table : List ℕ) → checkOutcome words plan table ≡ check p plan table
+  unfolding checkOutcome
+  checked-as-defined plan table = ap (λ r. checkOutcomeOf r plan table) read

@@ -1,0 +1,67 @@
+-- What planning promises, for every list of words and whatever buffers are lent: document 01's refusals in their order,
+-- and demand 3.
+use Prim.Native.Nat.{ℕ, _≤_, _<_}
+use mathlib.Core.List.{List}
+use mathlib.Core.Logic.{_↔_, _⊎_}
+use mathlib.Core.Path.{_≡_}
+use lib.ListN.{length, take, drop}
+use Rattle.instance.specs.Node.{Problem, taskCount}
+use Rattle.instance.specs.Refusals.{refused, accepted}
+use Rattle.instance.specs.SiteFile.{problemOf}
+use Rattle.instance.specs.declared.refusal.Refusal.{Refusal}
+use Rattle.instance.specs.declared.refusal.Refusal.the-variants.{NoPlan, ShortBuffer}
+use Rattle.instance.specs.declared.refusal.Verdict.the-variants.{Accepted}
+use Rattle.schedule.specs.Checks.{check}
+use Rattle.schedule.specs.Drawings.{Drawing}
+use Rattle.schedule.specs.Quantities.{cost, priceOf}
+use Rattle.schedule.specs.RepeatedTables.{ServesForEver}
+use Rattle.schedule.specs.Tables.{tableOf, tableSize}
+use Rattle.schedule.specs.declared.prices.Priced.{Priced}
+use Rattle.schedule.specs.declared.prices.Priced.the-variants as Priced
+use Rattle.search.specs.Assignment.{Before}
+
+-- "no drawing exists"
+abbrev pub NoDrawing : Problem → Type 0
+NoDrawing p = (plan table : List ℕ) → Drawing p plan table → ⊥
+
+pub record BestDrawing (p : Problem) (plan table : List ℕ) : Type 0 where
+  -- "the plan with its table is a drawing"
+  pub is-drawing : Drawing p plan table
+  -- "These are the choices and tables that pass the check."
+  pub passes-check : check p plan table ≡ Accepted
+  -- "every drawing by anyone costs at least as much"
+  pub nobody-beats : (other slots : List ℕ) → Drawing p other slots → cost p plan ≤ cost p other
+  -- "among equal costs the one whose first differing choice, in task order, is smaller"
+  pub first-of-equals : (other slots : List ℕ) → Drawing p other slots → cost p plan ≡ cost p other →
+      (plan ≡ other) ⊎ Before plan other
+  -- "Planning writes that plan and its table"
+  pub its-table : table ≡ tableOf p plan
+  -- "the table repeated for ever serves every job"
+  pub for-ever : ServesForEver p plan table
+
+-- Demand 3 of an answer, and of the plan and the table that were written with it
+pub record NobodyBeats (p : Problem) (answer : Priced) (plan table : List ℕ) : Type 0 where
+  -- "'no plan' exactly when no drawing exists"
+  pub no-plan : (answer ≡ Priced.Refused NoPlan) ↔ NoDrawing p
+  -- "otherwise .. its cost is the one returned", with energy and penalty
+  pub otherwise : (answer ≡ Priced.Refused NoPlan → ⊥) →
+      (answer ≡ Priced.Cost (priceOf p plan)) × BestDrawing p plan table
+
+-- `plan` and `table` are what the lent buffers held before the call.
+pub record Planned (words plan table : List ℕ) (answer : Priced) (planAfter tableAfter : List ℕ) : Type 0 where
+  -- "words are taken from the front, each tested for 2, 3, 4"
+  pub not-read : (r : Refusal) → problemOf words ≡ refused r → answer ≡ Priced.Refused r
+  -- "then 6 .. of several short ones, the plan's before the table's"
+  pub plan-too-short : (p : Problem) → problemOf words ≡ accepted p → length plan < taskCount p →
+      answer ≡ Priced.Refused (ShortBuffer (taskCount p))
+  pub table-too-short : (p : Problem) → problemOf words ≡ accepted p → taskCount p ≤ length plan →
+      length table < tableSize p → answer ≡ Priced.Refused (ShortBuffer (tableSize p))
+  -- "5 comes last": demand 3 of the fronts of the buffers
+  pub nobody-beats : (p : Problem) → problemOf words ≡ accepted p → taskCount p ≤ length plan → tableSize p ≤ length table →
+      NobodyBeats p answer (take (taskCount p) planAfter) (take (tableSize p) tableAfter)
+  -- "Every refusal leaves all lent buffers unchanged."
+  pub refused-unchanged : (r : Refusal) → answer ≡ Priced.Refused r → (planAfter ≡ plan) × (tableAfter ≡ table)
+  -- "An accepted call writes only the words or bytes its result needs, from the front of each buffer."
+  pub rest-unchanged : (p : Problem) → problemOf words ≡ accepted p →
+      (drop (taskCount p) planAfter ≡ drop (taskCount p) plan) × (drop (tableSize p) tableAfter ≡ drop (tableSize p) table)
+  pub same-lengths : (length planAfter ≡ length plan) × (length tableAfter ≡ length table)
