@@ -29,6 +29,8 @@ use Rattle.schedule.specs.Periods.{valid-is-periodic}
 use Rattle.schedule.specs.Plans.{choicesPass, coresFit, planPasses}
 use Rattle.schedule.specs.Quantities.{isRefused, levelOf, ticks, jobTicks, jobs, priceOf}
 use Rattle.schedule.specs.Tables.{tableOf, tableSize}
+use Rattle.schedule.specs.WorkedOut.{WorkedOut}
+use Rattle.schedule.specs.WorkedOutLaws.{worked-out-is-table}
 use Rattle.schedule.specs.declared.prices.Priced.the-variants as Priced
 use Rattle.planner.specs.ArithmeticLaws.{ticks-round-up, priced-energy, priced-penalty, priced-cost, passing-plan-is-priced, passing-plan-is-tabled, checked-as-defined}
 use Rattle.planner.specs.BestDrawingLaws.{no-plan-iff-no-drawing, answered-is-best-drawing}
@@ -128,6 +130,8 @@ pub record ArithmeticIsThePapers (words : List ℕ) (p : Problem) : Type 0 where
   -- "energy weight × all energy + penalty weight × all penalty"
   pub weighted-cost : (plan : List ℕ) →
       priceOf p plan .cost ≡ p .weights .energy * priceOf p plan .energy + p .weights .penalty * priceOf p plan .penalty
+  -- "among jobs released and not finished, the earliest due runs; of equal ones, the lower task number"
+  pub slot-table : (plan table : List ℕ) → WorkedOut p plan table ↔ (table ≡ tableOf p plan)
   -- of a plan that 7 and 8 let pass
   pub price-returned : (plan : List ℕ) → planPasses p plan ≡ Accepted → priceOutcome words plan ≡ Priced.Cost (priceOf p plan)
   pub table-written : (plan table : List ℕ) → planPasses p plan ≡ Accepted → tableSize p ≤ length table →
@@ -146,6 +150,7 @@ demand-2 words p read =
       energy-of-kept-tasks = priced-energy p;
       penalty-of-refused-tasks = priced-penalty p;
       weighted-cost = priced-cost p;
+      slot-table = worked-out-is-table p (valid-is-periodic valid);
       price-returned = passing-plan-is-priced words p read;
       table-written = passing-plan-is-tabled words p read;
       check-passes = λ plan table passes.

@@ -1,12 +1,13 @@
 -- What `earliest` chooses, as a relation: the earliest due of the tasks that have ticks left, of equal ones the lowest.
 use Prim.Native.Nat.{ℕ, zero, suc, pred, _≤_, _<_}
 use mathlib.Core.Bool.{Bool, true, false, cond}
-use mathlib.Core.Path.{_≡_, refl}
+use mathlib.Core.Logic.{⊎-elim}
+use mathlib.Core.Path.{_≡_, refl, sym, _∙_}
 use native.Mathlib.Nat.{le-step, le-refl, le-of-lt, pos-of-ne-zero}
 use native.Mathlib.Omega.{arith}
 use lib.Dec.{eqb, ltb}
 use borrow.Author.Tests.{eqb-true, eqb-false, ltb-true, ltb-false, ne-eqb}
-use Rattle.laws.specs.Below.{below-suc}
+use Rattle.laws.specs.Below.{lt-or-le, below-suc}
 use Rattle.schedule.specs.Rows.{earliest}
 
 -- the number chosen among the tasks below n: 0 where none has ticks left; else that of one with ticks left, such that
@@ -60,6 +61,33 @@ module _ (due left : ℕ → ℕ) where
       go : (b : Bool) → eqb (left n) 0 ≡ b → Choice due left n (earliest due left n) → Choice due left (suc n) (earliest due left (suc n))
       go true e c = rw e (passed-over n (earliest due left n) (eqb-true (left n) 0 e) c)
       go false e c = rw e (entered n (earliest due left n) (pos-of-ne-zero (eqb-false (left n) 0 e)) c)
+
+-- there is one choice
+pub choice-unique : {due left : ℕ → ℕ} {n a b : ℕ} → Choice due left n a → Choice due left n b → a ≡ b
+choice-unique (Choice.idle all) (Choice.idle likewise) = refl
+choice-unique (Choice.idle all) (Choice.runs m l has first lower) = absurd (omega (arith, all m l))
+choice-unique (Choice.runs k l has first lower) (Choice.idle all) = absurd (omega (arith, all k l))
+choice-unique (Choice.runs k l has first lower) (Choice.runs m l₂ has₂ first₂ lower₂) =
+    ⊎-elim
+    (λ before. absurd (omega (arith, lower₂ k before has, first m l₂ has₂)))
+    (λ (from : m ≤ k).
+    ⊎-elim
+    (λ before. absurd (omega (arith, lower m before has₂, first₂ k l has)))
+    (λ (to : k ≤ m). omega arith)
+    (lt-or-le m k))
+    (lt-or-le k m)
+
+-- it depends on what is left below n
+pub choice-same : {due left left₂ : ℕ → ℕ} {n number : ℕ} → ((i : ℕ) → i < n → left i ≡ left₂ i) →
+    Choice due left n number → Choice due left₂ n number
+choice-same same (Choice.idle all) = Choice.idle (λ i l. sym (same i l) ∙ all i l)
+choice-same same (Choice.runs k l has first lower) =
+    Choice.runs
+    k
+    l
+    (rw (same k l) at has)
+    (λ i m h. first i m (rw (same i m) h))
+    (λ i m h. lower i m (rw (same i (omega arith)) h))
 
 pub chosen-has-left : {due left : ℕ → ℕ} {n number : ℕ} (k : ℕ) → Choice due left n number → number ≡ suc k → 0 < left k
 chosen-has-left k (Choice.idle all) e = absurd (omega arith)

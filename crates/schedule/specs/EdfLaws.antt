@@ -19,7 +19,7 @@ use Rattle.schedule.specs.OnTimeSteps.{on-time-start, on-time-run, on-ti
 use Rattle.schedule.specs.Rows.{CoreTasks, dueAt, afterRun, slotOf}
 
 -- the slots of job j of task i among the first x ticks from its release
-abbrev slotsSoFar : CoreTasks → ℕ → ℕ → ℕ → ℕ
+abbrev pub slotsSoFar : CoreTasks → ℕ → ℕ → ℕ → ℕ
 slotsSoFar core i j x = count (λ k. eqb (slotOf core (j * core .period i + k)) (suc i)) x
 
 module _ (core : CoreTasks) where
@@ -65,7 +65,7 @@ module _ (core : CoreTasks) where
     run-keeps-account x before = omega (arith, run-accounts (j * core .period i + x) i l)
 
     -- what job j got and what it has left make its ticks, until the next release
-    accounted : (x : ℕ) → x < core .period i → slotsSoFar core i j x + readyAt core (j * core .period i + x) i ≡ core .ticks i
+    pub accounted : (x : ℕ) → x < core .period i → slotsSoFar core i j x + readyAt core (j * core .period i + x) i ≡ core .ticks i
     unfolding count
     accounted zero h = omega (arith, ready-at-release)
     accounted (suc x) h = rw (ready-between-releases x h) (run-keeps-account x (accounted x (le-of-suc-le h)))

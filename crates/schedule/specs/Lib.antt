@@ -26,6 +26,8 @@ pub mod ServedLaws
 pub mod RepeatedRowLaws
 pub mod KeptTaskLaws
 pub mod SchedulingTheorems
+pub mod WorkedOut
+pub mod WorkedOutLaws
 pub mod FitLaws
 pub mod RepeatedTables
 pub mod RepeatedTableLaws
