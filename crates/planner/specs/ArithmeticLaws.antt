@@ -1,4 +1,5 @@
--- Pricing, tabling and the check answer for an instance that was read what the definitions say of it.
+-- What demand 2 needs: ticks round up, a price is document 01's sums, and pricing, tabling and the check answer for an
+-- instance that was read what the definitions say of it.
 use Prim.Native.Nat.{ℕ, suc, _+_, _-_, _*_, _/_, _≤_, _<_}
 use mathlib.Core.Bool.{cond}
 use mathlib.Core.List.{List}

@@ -182,7 +182,7 @@ demand-3 words p read =
           rw (checked-as-defined words p read plan table) (check-accepts-exactly-drawings p periodic plan table);
     }
 
--- What planning promises beside it, refusals included, in the form that the contract of `plan` cites.
+-- Demand 3 with all that planning promises besides, refusals included, as a contract can cite it.
 pub planning-keeps-its-promise : (words plan table : List ℕ) →
     let o = planOutcome words plan table in Planned words plan table (o .answer) (o .plan) (o .table)
 planning-keeps-its-promise = planOutcome-is-planned

@@ -36,11 +36,12 @@ abbrev pub Every : (Lent → Type 0) → List Lent → Type 0
 Every P [] = Unit {0}
 Every P (b ∷ buffers) = P b × Every P buffers
 
+-- "either served or refused", with one of these numbers
 pub data ServedOrRefused (numbers : List ℕ) (buffers : List Lent) : Verdict → Type 0 where
   served : Every FrontWritten buffers → ServedOrRefused numbers buffers Accepted
   refused : {r : Refusal} → List·Memᴰ (numberOf r) numbers → Every Unchanged buffers → ServedOrRefused numbers buffers (Refused r)
 
--- a call for which document 01 has these tests, in this order, and these numbers
+-- a call for which document 01 has these tests in this order, and lists these numbers: its verdict is theirs
 pub record Ends (tests : Verdict) (numbers : List ℕ) (buffers : List Lent) (verdict : Verdict) : Type 0 where
   pub as-tested : verdict ≡ tests
   pub ending : ServedOrRefused numbers buffers verdict

@@ -28,7 +28,8 @@ use Rattle.planner.specs.Planned.{BestDrawing, NobodyBeats, Planned}
 use Rattle.planner.specs.Planning.{bestPlan}
 use Rattle.planner.specs.RoomLaws.{enough-room, no-room, front-of-onto}
 
-refused-leaves : {numbers : List ℕ} {buffers : List Lent} {v : Verdict} {r : Refusal} → ServedOrRefused numbers buffers v → v ≡ Refused r → Every Unchanged buffers
+refused-leaves : {numbers : List ℕ} {buffers : List Lent} {v : Verdict} {r : Refusal} →
+    ServedOrRefused numbers buffers v → v ≡ Refused r → Every Unchanged buffers
 refused-leaves (ServedOrRefused.served written) e = let z : _≡_ {A = ℕ} 0 1 = cc in absurd (omega arith)
 refused-leaves (ServedOrRefused.refused listed same) e = same
 
@@ -42,6 +43,7 @@ unchanged-is-front-written (b ∷ buffers) same = (
   unchanged-is-front-written buffers (same .1),
 )
 
+-- in either case
 front-at-most : {numbers : List ℕ} {buffers : List Lent} {v : Verdict} → ServedOrRefused numbers buffers v → Every FrontWritten buffers
 front-at-most (ServedOrRefused.served written) = written
 front-at-most {buffers = buffers} (ServedOrRefused.refused listed same) = unchanged-is-front-written buffers same

@@ -22,10 +22,12 @@ use Rattle.schedule.specs.Checks.{straySlot, slotsPass, jobsPass, check}
 use Rattle.schedule.specs.Plans.{badChoice, choicesPass, coresFit, planPasses}
 use Rattle.schedule.specs.Tables.{tableSize}
 
+-- a verdict that is a refusal with one of these numbers, if it is one
 pub data RefusesOnly (numbers : List ℕ) : Verdict → Type 0 where
   accepts : RefusesOnly numbers Accepted
   refuses : {r : Refusal} → List·Memᴰ (numberOf r) numbers → RefusesOnly numbers (Refused r)
 
+-- and so of something read
 pub data UnreadOnly {A : Type 0} (numbers : List ℕ) : Reading A → Type 0 where
   read : (a : A) → UnreadOnly numbers (Reading.accepted a)
   unread : {r : Refusal} → List·Memᴰ (numberOf r) numbers → UnreadOnly numbers (Reading.refused r)

@@ -75,7 +75,7 @@ module _ (p : Problem) (periodic : Periodic p) (plan : List ℕ) (k : ℕ) where
       rw load-of-core
       (served-load-is-within-span (coreTasks p plan k) (span p) slots windows-well-formed periods-whole (row-serves-core-tasks slots serves))
 
-  -- A core fits exactly when some row serves its jobs: all that is used of `fits` beyond this file.
+  -- "A core fits" exactly when some row serves its jobs: through this alone drawings know of loads.
   pub core-fits-iff-served : (fits p plan k ≡ true) ↔ ((slots : ℕ → ℕ) × RowServes p plan k slots)
   unfolding fits
   core-fits-iff-served = (
