@@ -2,6 +2,7 @@ pub mod Assignment
 pub mod Values
 pub mod ValueLaws
 pub mod Words
+pub mod Worths
 pub mod Sets
 pub mod Rows
 pub mod Partition
