@@ -17,3 +17,9 @@ pub mod KeyLaws
 pub mod Cheapest
 pub mod SearchTheorem
 pub mod Bounds
+pub mod Offered
+pub mod RowSteps
+pub mod SetNumberLaws
+pub mod RowWords
+pub mod RelaxedRows
+pub mod RelaxedItems

@@ -1,2 +1,3 @@
 // The exact search for the cheapest plan. It knows nothing of text, words or tables: only of loads, costs and a capacity.
+mod rows;
 mod value;

@@ -1,0 +1,110 @@
+-- A whole row relaxed by every level of an item.
+use Prim.Native.Nat.{ℕ, suc, _+_, _*_, _^_, _≤_, _<_}
+use mathlib.Core.Path.{_≡_}
+use mathlib.Core.List.{List, []}
+use native.Mathlib.Nat.{pow-suc, mul-le-mul-right}
+use native.Mathlib.Omega.{arith}
+use lib.ListN.{length, getD}
+use Rattle.search.specs.Assignment.{Item}
+use Rattle.search.specs.Bounds.{keys-fit}
+use Rattle.search.specs.Offered.{mostItems, mostLevels, entryOf, itemAt, Affordable}
+use Rattle.search.specs.RelaxedRows.{SumsFit}
+use Rattle.search.specs.Rows.{keyBase}
+use Rattle.search.specs.RowWords.{RowHeld, rowOf, Relaxed, LeastAt, least-of-no-level, least-of-one-more}
+use Rattle.search.specs.Words.{noCost}
+use Rattle.search.specs.declared.rows.Choice.{Choice}
+use Rattle.search.specs.declared.rows.Core.{Core}
+use Rattle.search.specs.declared.rows.Front.{Front}
+
+-- an item as rows see it: they ask nothing of refusals
+abbrev pub rowItem : List ℕ → List ℕ → ℕ → Item
+rowItem load cost = itemAt load cost [] []
+
+abbrev pub choiceOf : List ℕ → List ℕ → Front → ℕ → Choice
+choiceOf load cost front level =
+    record { load = entryOf load (front .item) level; cost = entryOf cost (front .item) level; key = suc level * front .digit }
+
+pub record ChoiceFits (load cost : List ℕ) (front : Front) (level : ℕ) : Type 0 where
+  pub level-limited : level < mostLevels
+  pub load-there : suc (front .item) * mostLevels ≤ length load
+  pub cost-there : suc (front .item) * mostLevels ≤ length cost
+  pub key-fits : mostLevels * front .digit < 2 ^ 64
+
+-- the item is within the limits, and the row is one of its `places` items
+pub record ItemBefore (core : Core) (front : Front) (load cost costs keys : List ℕ) : Type 0 where
+  pub affordable : Affordable (suc (front .item)) (core .levels) (core .capacity) load cost
+  pub places-limited : front .places < mostItems
+  pub digit-is : front .digit ≡ keyBase ^ front .places
+  pub row-held : RowHeld (front .places) (core .capacity) costs keys
+
+pub record RowOfNone (capacity : ℕ) (costs keys : List ℕ) : Type 0 where
+  pub costs-to-capacity : capacity < length costs
+  pub keys-to-capacity : capacity < length keys
+  pub no-cost : (w : ℕ) → w ≤ capacity → getD costs w 0 ≡ noCost
+  pub no-key : (w : ℕ) → w ≤ capacity → getD keys w 0 ≡ 0
+
+-- each entry is the least of the item's first l levels before the row
+pub record RowWithItem (core : Core) (front : Front) (load cost rowCosts rowKeys : List ℕ) (l : ℕ) (costs keys : List ℕ) : Type 0 where
+  pub least : (w : ℕ) → w ≤ core .capacity →
+      LeastAt (rowItem load cost (front .item)) (front .places) l (rowOf rowCosts rowKeys) w (getD costs w 0) (getD keys w 0)
+
+pub row-of-no-level : {core : Core} {front : Front} {load cost rowCosts rowKeys costs keys : List ℕ} →
+    RowOfNone (core .capacity) costs keys → RowWithItem core front load cost rowCosts rowKeys 0 costs keys
+row-of-no-level empty =
+    record { least = λ w le. rw (empty .no-cost w le, empty .no-key w le) (least-of-no-level _ _ _ w) }
+
+module _ {core : Core} {front : Front} {load cost rowCosts rowKeys : List ℕ}
+    (before : ItemBefore core front load cost rowCosts rowKeys) {l : ℕ} (under : l < core .levels) where
+  digit-fits : mostLevels * front .digit + front .digit < 2 ^ 64
+  unfolding keyBase
+  digit-fits =
+      let few = before .places-limited in
+      let fits = keys-fit {n = suc (front .places)} few in
+      omega (arith, before .digit-is, pow-suc keyBase (front .places))
+
+  pub choice-fits : ChoiceFits load cost front l
+  choice-fits =
+      let few = before .affordable .levels-limited in
+      record {
+        level-limited = omega arith;
+        load-there = before .affordable .loads-for-all;
+        cost-there = before .affordable .costs-for-all;
+        key-fits = omega (arith, digit-fits);
+      }
+
+  module _ {choice : Choice} (chosen : choice ≡ choiceOf load cost front l) where
+    pub sums-fit : SumsFit (choice .load) (choice .cost) (choice .key) (core .capacity) rowCosts rowKeys
+    sums-fit =
+        let held = before .row-held in
+        let few = before .affordable .levels-limited in
+        rw chosen
+        record {
+          costs-to-capacity = held .costs-to-capacity;
+          keys-to-capacity = held .keys-to-capacity;
+          cost-fits = λ u le.
+              let cheap = before .affordable .cheap (front .item) l (omega arith) under (omega arith) in
+              omega (arith, held .small u (omega arith) .at-most-none);
+          key-fits = λ u le.
+              let most : suc l * front .digit ≤ mostLevels * front .digit = mul-le-mul-right (front .digit) (omega arith) in
+              omega (arith, digit-fits, before .digit-is, held .small u (omega arith) .digits);
+        }
+
+    -- (d, j) is what (c, k) becomes by the choice
+    pub entry-of-one-more : {w c k d j : ℕ} → w ≤ core .capacity →
+        LeastAt (rowItem load cost (front .item)) (front .places) l (rowOf rowCosts rowKeys) w c k →
+        Relaxed (choice .load) (choice .cost) (choice .key) rowCosts rowKeys w c k d j →
+        LeastAt (rowItem load cost (front .item)) (front .places) (suc l) (rowOf rowCosts rowKeys) w d j
+    unfolding itemAt
+    entry-of-one-more le sofar relaxed =
+        least-of-one-more (omega (arith, before .places-limited))
+        (λ fits. before .affordable .cheap (front .item) l (omega arith) under (omega arith))
+        (λ u under-w. before .row-held .small u (omega arith))
+        sofar
+        (rw (chosen, before .digit-is) at relaxed)
+
+    pub row-of-one-more : {costs₀ keys₀ costs keys : List ℕ} → RowWithItem core front load cost rowCosts rowKeys l costs₀ keys₀ →
+        ((w : ℕ) → w ≤ core .capacity →
+        Relaxed (choice .load) (choice .cost) (choice .key) rowCosts rowKeys w
+        (getD costs₀ w 0) (getD keys₀ w 0) (getD costs w 0) (getD keys w 0)) →
+        RowWithItem core front load cost rowCosts rowKeys (suc l) costs keys
+    row-of-one-more sofar relaxed = record { least = λ w le. entry-of-one-more le (sofar .least w le) (relaxed w le) }
