@@ -23,3 +23,7 @@ pub mod SetNumberLaws
 pub mod RowWords
 pub mod RelaxedRows
 pub mod RelaxedItems
+pub mod FilledTables
+pub mod Branches
+pub mod BranchLaws
+pub mod TabledRows

@@ -4,17 +4,17 @@ use mathlib.Core.Path.{_≡_}
 use mathlib.Core.List.{List, []}
 use native.Mathlib.Nat.{pow-suc, mul-le-mul-right}
 use native.Mathlib.Omega.{arith}
-use lib.ListN.{length, getD}
+use lib.ListN.{length, getD, replicate, length-replicate, getD-replicate}
 use Rattle.search.specs.Assignment.{Item}
 use Rattle.search.specs.Bounds.{keys-fit}
-use Rattle.search.specs.Offered.{mostItems, mostLevels, entryOf, itemAt, Affordable}
+use Rattle.search.specs.Offered.{mostItems, mostLevels, mostCapacity, entryOf, itemAt, Affordable}
 use Rattle.search.specs.RelaxedRows.{SumsFit}
 use Rattle.search.specs.Rows.{keyBase}
 use Rattle.search.specs.RowWords.{RowHeld, rowOf, Relaxed, LeastAt, least-of-no-level, least-of-one-more}
 use Rattle.search.specs.Words.{noCost}
-use Rattle.search.specs.declared.rows.Choice.{Choice}
-use Rattle.search.specs.declared.rows.Core.{Core}
-use Rattle.search.specs.declared.rows.Front.{Front}
+use Rattle.search.specs.declared.row.Choice.{Choice}
+use Rattle.search.specs.declared.row.Core.{Core}
+use Rattle.search.specs.declared.row.Front.{Front}
 
 -- an item as rows see it: they ask nothing of refusals
 abbrev pub rowItem : List ℕ → List ℕ → ℕ → Item
@@ -37,11 +37,22 @@ pub record ItemBefore (core : Core) (front : Front) (load cost costs keys : List
   pub digit-is : front .digit ≡ keyBase ^ front .places
   pub row-held : RowHeld (front .places) (core .capacity) costs keys
 
-pub record RowOfNone (capacity : ℕ) (costs keys : List ℕ) : Type 0 where
+-- every entry up to the capacity is (c, k)
+pub record FlatRow (c k capacity : ℕ) (costs keys : List ℕ) : Type 0 where
   pub costs-to-capacity : capacity < length costs
   pub keys-to-capacity : capacity < length keys
-  pub no-cost : (w : ℕ) → w ≤ capacity → getD costs w 0 ≡ noCost
-  pub no-key : (w : ℕ) → w ≤ capacity → getD keys w 0 ≡ 0
+  pub each-cost : (w : ℕ) → w ≤ capacity → getD costs w 0 ≡ c
+  pub each-key : (w : ℕ) → w ≤ capacity → getD keys w 0 ≡ k
+
+pub flat-row : (c k capacity : ℕ) → capacity ≤ mostCapacity →
+    FlatRow c k capacity (replicate (suc mostCapacity) c) (replicate (suc mostCapacity) k)
+flat-row c k capacity le =
+    record {
+      costs-to-capacity = omega (arith, length-replicate (suc mostCapacity) c);
+      keys-to-capacity = omega (arith, length-replicate (suc mostCapacity) k);
+      each-cost = λ w under. getD-replicate (suc mostCapacity) w c 0 (omega arith);
+      each-key = λ w under. getD-replicate (suc mostCapacity) w k 0 (omega arith);
+    }
 
 -- each entry is the least of the item's first l levels before the row
 pub record RowWithItem (core : Core) (front : Front) (load cost rowCosts rowKeys : List ℕ) (l : ℕ) (costs keys : List ℕ) : Type 0 where
@@ -49,9 +60,9 @@ pub record RowWithItem (core : Core) (front : Front) (load cost rowCosts rowKeys
       LeastAt (rowItem load cost (front .item)) (front .places) l (rowOf rowCosts rowKeys) w (getD costs w 0) (getD keys w 0)
 
 pub row-of-no-level : {core : Core} {front : Front} {load cost rowCosts rowKeys costs keys : List ℕ} →
-    RowOfNone (core .capacity) costs keys → RowWithItem core front load cost rowCosts rowKeys 0 costs keys
-row-of-no-level empty =
-    record { least = λ w le. rw (empty .no-cost w le, empty .no-key w le) (least-of-no-level _ _ _ w) }
+    FlatRow noCost 0 (core .capacity) costs keys → RowWithItem core front load cost rowCosts rowKeys 0 costs keys
+row-of-no-level none =
+    record { least = λ w le. rw (none .each-cost w le, none .each-key w le) (least-of-no-level _ _ _ w) }
 
 module _ {core : Core} {front : Front} {load cost rowCosts rowKeys : List ℕ}
     (before : ItemBefore core front load cost rowCosts rowKeys) {l : ℕ} (under : l < core .levels) where

@@ -1,3 +1,4 @@
 // The exact search for the cheapest plan. It knows nothing of text, words or tables: only of loads, costs and a capacity.
+mod row;
 mod rows;
 mod value;

@@ -1,125 +1,168 @@
 // The rows of all sets of items: each set's least value on one core.
+use crate::row::Core;
+use crate::row::Front;
+use crate::row::entry;
+use crate::row::relax;
+use crate::row::relaxed_entry;
 use crate::value::NO_COST;
 use crate::value::Worth;
+ghost use mathlib.Core.Bool.{Bool};
+ghost use mathlib.Core.List.{List};
 ghost use mathlib.Core.Path.{_≡_};
-ghost use Prim.Native.Nat.{ℕ, _≤_, _<_};
-ghost use lib.ListN.{length, getD};
-ghost use Rattle.search.specs.RelaxedItems.{ChoiceFits, choiceOf, ItemBefore, RowOfNone, RowWithItem, rowItem};
-ghost use Rattle.search.specs.RelaxedRows.{SumsFit};
-ghost use Rattle.search.specs.RowWords.{LeastAt, Relaxed, rowOf};
+ghost use Prim.Native.Nat.{ℕ, _*_, _^_, _<_};
+ghost use lib.ListN.{length, set};
+ghost use Rattle.search.specs.Branches.{BranchFilled, BranchFits, NextFits, nextItem, withoutNext, withNext};
+ghost use Rattle.search.specs.Offered.{itemsOf, mostCost};
+ghost use Rattle.search.specs.Rows.{keyBase, row};
+ghost use Rattle.search.specs.Sets.{Tabled};
+ghost use Rattle.search.specs.TabledRows.{RowsFit};
 
-// A core's levels, and the most load that it takes.
-struct Core {
+// What one place more in a key is worth.
+const KEY_BASE: u64 = 33;
+
+// Sets that agree on their last `places` items, the part of their number that these make up being `index`. The other
+// items are `ahead`; `bit` and `digit` are the weights of the last of those in a set's number and in a key.
+struct Branch {
+    ahead: usize,
+    places: usize,
+    bit: usize,
+    digit: u64,
+    index: usize,
+}
+
+fn store(at: usize, worth: Worth, costs: &mut [u64], keys: &mut [u64])
+    requires { ⌜ (at < length (now costs)) × (at < length (now keys)) ⌝ }
+    ensures { λ _. ⌜ now (costs .exit) ≡ set (now (costs .entry)) at (worth .cost) ⌝ }
+    ensures { λ _. ⌜ now (keys .exit) ≡ set (now (keys .entry)) at (worth .key) ⌝ }
+{
+    costs[at] = worth.cost;
+    keys[at] = worth.key;
+}
+
+// The last of the items ahead, which is settled next.
+fn next_item(branch: Branch) -> Front
+    requires { ⌜ NextFits branch ⌝ }
+    ensures { λ r. ⌜ r ≡ nextItem branch ⌝ }
+{
+    Front {
+        item: branch.ahead - 1,
+        places: branch.places,
+        digit: branch.digit,
+    }
+}
+
+fn without_next(branch: Branch) -> Branch
+    requires { ⌜ NextFits branch ⌝ }
+    ensures { λ r. ⌜ r ≡ withoutNext branch ⌝ }
+{
+    Branch {
+        ahead: branch.ahead - 1,
+        places: branch.places + 1,
+        bit: branch.bit * 2,
+        digit: branch.digit * KEY_BASE,
+        index: branch.index,
+    }
+}
+
+fn with_next(branch: Branch) -> Branch
+    requires { ⌜ NextFits branch ⌝ }
+    ensures { λ r. ⌜ r ≡ withNext branch ⌝ }
+{
+    let mut r = without_next(branch);
+    r.index = branch.index + branch.bit;
+    r
+}
+
+// The rows of the branch's sets, from the row of the items that these agree on.
+fn fill(
+    core: Core,
+    branch: Branch,
+    load: &[u64],
+    cost: &[u64],
+    row_costs: &[u64],
+    row_keys: &[u64],
+    costs: &mut [u64],
+    keys: &mut [u64],
+)
+    requires { ⌜ BranchFits core branch (now load) (now cost) (now «row_costs») (now «row_keys») (now costs) (now keys) ⌝ }
+    ensures { λ _. ⌜ BranchFilled core branch (now (load .entry)) (now (cost .entry)) (now («row_costs» .entry)) (now («row_keys» .entry))
+        (now (costs .entry)) (now (keys .entry)) (now (costs .exit)) (now (keys .exit)) ⌝ }
+{
+    if branch.ahead == 0 {
+        store(
+            branch.index,
+            entry(row_costs, row_keys, core.capacity),
+            costs,
+            keys,
+        );
+        return;
+    }
+    fill(
+        core,
+        without_next(branch),
+        load,
+        cost,
+        row_costs,
+        row_keys,
+        costs,
+        keys,
+    );
+    let front = next_item(branch);
+    let with = with_next(branch);
+    if branch.ahead == 1 {
+        let last = relaxed_entry(core, front, load, cost, row_costs, row_keys);
+        store(with.index, last, costs, keys);
+        return;
+    }
+    let mut more_costs = [NO_COST; 4097];
+    let mut more_keys = [0u64; 4097];
+    relax(
+        core,
+        front,
+        load,
+        cost,
+        row_costs,
+        row_keys,
+        &mut more_costs,
+        &mut more_keys,
+    );
+    fill(core, with, load, cost, &more_costs, &more_keys, costs, keys);
+}
+
+// The row of every set of n items at the whole capacity, in the entry of the set's number.
+pub(crate) fn fill_rows(
+    n: usize,
     levels: usize,
     capacity: usize,
-}
-
-// An item in front of `places` others, and its weight in a key.
-struct Front {
-    item: usize,
-    places: usize,
-    digit: u64,
-}
-
-// An item at a level: its load and cost there, and what it adds to a key.
-struct Choice {
-    load: usize,
-    cost: u64,
-    key: u64,
-}
-
-// Each entry of a row becomes that of the choice before another row, where that is cheaper.
-fn relax_level(
-    choice: Choice,
-    capacity: usize,
-    row_costs: &[u64],
-    row_keys: &[u64],
+    load: &[u64],
+    cost: &[u64],
     costs: &mut [u64],
     keys: &mut [u64],
 )
-    requires { ⌜ SumsFit (choice .load) (choice .cost) (choice .key) capacity (now «row_costs») (now «row_keys») ⌝ }
-    requires { ⌜ (capacity < length (now costs)) × (capacity < length (now keys)) ⌝ }
-    ensures { λ _. ⌜ ((w : ℕ) → w ≤ capacity →
-        Relaxed (choice .load) (choice .cost) (choice .key) (now («row_costs» .entry)) (now («row_keys» .entry)) w
-        (getD (now (costs .entry)) w 0) (getD (now (keys .entry)) w 0)
-        (getD (now (costs .exit)) w 0) (getD (now (keys .exit)) w 0)) ⌝ }
+    requires { ⌜ RowsFit n levels capacity (now load) (now cost) (now costs) (now keys) ⌝ }
+    ensures { λ _. ⌜ ((refusal : List ℕ) (must : List Bool) →
+        Tabled n (n * mostCost) (keyBase ^ n)
+        (λ S. row levels (itemsOf (now (load .entry)) (now (cost .entry)) refusal must n) S capacity)
+        (now (costs .exit)) (now (keys .exit))) ⌝ }
 {
-    let load = choice.load;
-    let mut w = load;
-    while w <= capacity {
-        let rest = w - load;
-        let cost = choice.cost + row_costs[rest];
-        if cost < costs[w] {
-            costs[w] = cost;
-            keys[w] = choice.key + row_keys[rest];
-        }
-        w += 1;
-    }
-}
-
-fn choice_at(load: &[u64], cost: &[u64], front: Front, level: usize) -> Choice
-    requires { ⌜ ChoiceFits (now load) (now cost) front level ⌝ }
-    ensures { λ r. ⌜ r ≡ choiceOf (now (load .entry)) (now (cost .entry)) front level ⌝ }
-{
-    let at = front.item * 8 + level;
-    Choice {
-        load: load[at] as usize,
-        cost: cost[at],
-        key: (level as u64 + 1) * front.digit,
-    }
-}
-
-// The row of a set with the item, from a row of none.
-fn relax(
-    core: Core,
-    front: Front,
-    load: &[u64],
-    cost: &[u64],
-    row_costs: &[u64],
-    row_keys: &[u64],
-    costs: &mut [u64],
-    keys: &mut [u64],
-)
-    requires { ⌜ ItemBefore core front (now load) (now cost) (now «row_costs») (now «row_keys») ⌝ }
-    requires { ⌜ RowOfNone (core .capacity) (now costs) (now keys) ⌝ }
-    ensures { λ _. ⌜ RowWithItem core front (now (load .entry)) (now (cost .entry)) (now («row_costs» .entry)) (now («row_keys» .entry))
-        (core .levels) (now (costs .exit)) (now (keys .exit)) ⌝ }
-{
-    let mut l = 0;
-    while l < core.levels {
-        let choice = choice_at(load, cost, front, l);
-        relax_level(choice, core.capacity, row_costs, row_keys, costs, keys);
-        l += 1;
-    }
-}
-
-// The entry of that row for the whole capacity alone.
-fn relaxed_entry(
-    core: Core,
-    front: Front,
-    load: &[u64],
-    cost: &[u64],
-    row_costs: &[u64],
-    row_keys: &[u64],
-) -> Worth
-    requires { ⌜ ItemBefore core front (now load) (now cost) (now «row_costs») (now «row_keys») ⌝ }
-    ensures { λ r. ⌜ LeastAt (rowItem (now (load .entry)) (now (cost .entry)) (front .item)) (front .places) (core .levels)
-        (rowOf (now («row_costs» .entry)) (now («row_keys» .entry))) (core .capacity) (r .cost) (r .key) ⌝ }
-{
-    let mut best = NO_COST;
-    let mut key = 0;
-    let mut l = 0;
-    while l < core.levels {
-        let choice = choice_at(load, cost, front, l);
-        if choice.load <= core.capacity {
-            let rest = core.capacity - choice.load;
-            let sum = choice.cost + row_costs[rest];
-            if sum < best {
-                best = sum;
-                key = choice.key + row_keys[rest];
-            }
-        }
-        l += 1;
-    }
-    Worth { cost: best, key }
+    let core = Core { levels, capacity };
+    let all = Branch {
+        ahead: n,
+        places: 0,
+        bit: 1,
+        digit: 1,
+        index: 0,
+    };
+    let empty_costs = [0u64; 4097];
+    let empty_keys = [0u64; 4097];
+    fill(
+        core,
+        all,
+        load,
+        cost,
+        &empty_costs,
+        &empty_keys,
+        costs,
+        keys,
+    );
 }

@@ -7,8 +7,8 @@ use native.Mathlib.Omega.{arith}
 use borrow.Author.Needs.{needs}
 use Rattle.search.specs.RowWords.{LeastAt, rowOf, least-of-no-level, no-room, no-cheaper, cheaper}
 use Rattle.search.specs.RelaxedItems.{rowItem, choice-fits, sums-fit, entry-of-one-more}
-use Rattle.search.proofs.rows.relaxed_entry.Statement.{statement}
-use Rattle.search.proofs.rows.relaxed_entry.Tie as tie
+use Rattle.search.proofs.row.relaxed_entry.Statement.{statement}
+use Rattle.search.proofs.row.relaxed_entry.Tie as tie
 
 abbrev Inv-loop : tie.InvT-loop
 Inv-loop core front load cost row-costs row-keys best₀ key₀ l₀ best key l =

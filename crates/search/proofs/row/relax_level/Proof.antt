@@ -5,8 +5,8 @@ use Prim.Native.Nat.{_+_, _-_}
 use native.Mathlib.Omega.{arith}
 use borrow.Author.Needs.{needs}
 use Rattle.search.specs.RelaxedRows.{RelaxedBelow, relaxed-start, relaxed-kept, relaxed-stored}
-use Rattle.search.proofs.rows.relax_level.Statement.{statement}
-use Rattle.search.proofs.rows.relax_level.Tie as tie
+use Rattle.search.proofs.row.relax_level.Statement.{statement}
+use Rattle.search.proofs.row.relax_level.Tie as tie
 
 abbrev Inv-loop : tie.InvT-loop
 Inv-loop choice capacity row-costs row-keys costs₀ keys₀ load w₀ costs keys w =

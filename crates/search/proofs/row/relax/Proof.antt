@@ -6,8 +6,8 @@ use native.Mathlib.Omega.{arith}
 use borrow.Author.Needs.{needs}
 use lib.ListN.{length}
 use Rattle.search.specs.RelaxedItems.{RowWithItem, row-of-no-level, row-of-one-more, choice-fits, sums-fit}
-use Rattle.search.proofs.rows.relax.Statement.{statement}
-use Rattle.search.proofs.rows.relax.Tie as tie
+use Rattle.search.proofs.row.relax.Statement.{statement}
+use Rattle.search.proofs.row.relax.Tie as tie
 
 abbrev Inv-loop : tie.InvT-loop
 Inv-loop core front load cost row-costs row-keys costs₀ keys₀ l₀ costs keys l =

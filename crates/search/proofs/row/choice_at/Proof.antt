@@ -5,8 +5,8 @@ use native.Mathlib.Nat.{mul-le-mul-right}
 use native.Mathlib.Numerals.{add-one}
 use native.Mathlib.Omega.{arith}
 use borrow.Author.Needs.{needs}
-use Rattle.search.proofs.rows.choice_at.Statement.{statement}
-use Rattle.search.proofs.rows.choice_at.Tie as tie
+use Rattle.search.proofs.row.choice_at.Statement.{statement}
+use Rattle.search.proofs.row.choice_at.Tie as tie
 
 mul-at : tie.Need-mul-at
 mul-at c = search needs

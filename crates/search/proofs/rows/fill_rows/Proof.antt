@@ -1,0 +1,40 @@
+-- All sets are one branch, whose settled part is empty.
+use Rattle.search.specs.RelaxedItems.{flat-row}
+use Rattle.search.specs.TabledRows.{all-sets-fit, all-sets-tabled}
+use borrow.Author.Needs.{needs}
+use Rattle.search.proofs.rows.fill_rows.Statement.{statement}
+use Rattle.search.proofs.rows.fill_rows.Tie as tie
+
+slice-aggregate-fill : tie.Need-slice-aggregate-fill
+slice-aggregate-fill c = search needs
+
+slice-aggregate-fill-2 : tie.Need-slice-aggregate-fill-2
+slice-aggregate-fill-2 c = search needs
+
+fill-requires : tie.Need-fill-requires
+fill-requires c κs =
+    let fit = c .before .before .before .before .before .before .before .before .pre in
+    all-sets-fit fit (flat-row 0 0 _ (fit .affordable .capacity-limited))
+
+same-length : tie.Need-same-length
+same-length c = search needs
+
+same-length-2 : tie.Need-same-length-2
+same-length-2 c = search needs
+
+returns : tie.Need-returns
+returns c =
+    let fit = c .before .before .before .before .before .before .before .before .before .before .before .before .before .pre in
+    let called = c .before .before .before .before .fill in
+    all-sets-tabled fit (flat-row 0 0 _ (fit .affordable .capacity-limited)) (called .ensures) (called .kept .1 .1 .1 .1 .1 .1 .0) (called .kept .1 .1 .1 .1 .1 .1 .1 .0)
+
+pub fill-rows-spec : {M : Type 1} → statement M
+fill-rows-spec =
+    tie.close
+    (tie.spec
+    slice-aggregate-fill
+    slice-aggregate-fill-2
+    fill-requires
+    same-length
+    same-length-2
+    returns)

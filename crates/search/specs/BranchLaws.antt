@@ -1,0 +1,171 @@
+-- From a branch of the sets to the two below it, and back from what these fill in.
+use Prim.Native.Nat.{ℕ, suc, _+_, _*_, _-_, _^_, _≤_, _<_}
+use mathlib.Core.Path.{_≡_, refl, sym, ap, _∙_}
+use mathlib.Core.List.{List}
+use native.Mathlib.Nat.{pow-suc, pow-le-pow-right, le-refl}
+use native.Mathlib.Omega.{arith}
+use lib.ListN.{length, getD, set}
+use Rattle.search.specs.Assignment.{Item}
+use Rattle.search.specs.Bounds.{keys-fit}
+use Rattle.search.specs.Branches.{NextFits, BranchFits, BranchFilled, nextItem, settled, withoutNext, withNext}
+use Rattle.search.specs.FilledTables.{Holds, filled-one, filled-same, filled-both}
+use Rattle.search.specs.Offered.{mostCapacity, mostItems, mostLevels, Affordable}
+use Rattle.search.specs.RelaxedItems.{rowItem, ItemBefore, RowWithItem}
+use Rattle.search.specs.Rows.{keyBase}
+use Rattle.search.specs.RowSteps.{withItem}
+use Rattle.search.specs.RowWords.{Small, RowHeld, rowOf, LeastAt, least-of-all-levels}
+use Rattle.search.specs.Values.{Value}
+use Rattle.search.specs.declared.rows.Branch.{Branch}
+use Rattle.search.specs.declared.row.Core.{Core}
+
+-- a row of fewer items is within the limits of more
+small-for-more : {m c k : ℕ} → Small m c k → Small (suc m) c k
+unfolding keyBase
+small-for-more {m} small =
+    record {
+      at-most-none = small .at-most-none;
+      real = λ h. omega (arith, small .real h);
+      digits = omega (arith, small .digits, pow-suc keyBase m);
+    }
+
+affordable-without-last : {n levels capacity : ℕ} {load cost : List ℕ} → Affordable (suc n) levels capacity load cost →
+    Affordable n levels capacity load cost
+affordable-without-last a =
+    record {
+      levels-limited = a .levels-limited;
+      capacity-limited = a .capacity-limited;
+      loads-for-all = omega (arith, a .loads-for-all);
+      costs-for-all = omega (arith, a .costs-for-all);
+      cheap = λ i l under. a .cheap i l (omega arith);
+    }
+
+least-holds : {levels m w c k : ℕ} {item : Item} {rest : ℕ → Value} → levels ≤ mostLevels →
+    LeastAt item m levels rest w c k → Holds (suc m) (withItem levels item m rest w) c k
+unfolding withItem
+least-holds few least = record { is = least .value; small = least-of-all-levels few least }
+
+held-for-more : {m capacity : ℕ} {costs keys : List ℕ} → RowHeld m capacity costs keys → RowHeld (suc m) capacity costs keys
+held-for-more held =
+    record {
+      costs-to-capacity = held .costs-to-capacity;
+      keys-to-capacity = held .keys-to-capacity;
+      small = λ w le. small-for-more (held .small w le);
+    }
+
+pub index-there : {core : Core} {branch : Branch} {load cost rowCosts rowKeys costs keys : List ℕ} →
+    BranchFits core branch load cost rowCosts rowKeys costs keys → (branch .index < length costs) × (branch .index < length keys)
+index-there {branch = branch} fits =
+    let some-digit : 0 < 2 = omega arith in
+    let more : 2 ^ branch .places ≤ 2 ^ (branch .ahead + branch .places) = pow-le-pow-right some-digit (omega arith) in
+    (omega (arith, fits), omega (arith, fits))
+
+module _ {core : Core} {branch : Branch} {load cost rowCosts rowKeys costs keys : List ℕ}
+    (fits : BranchFits core branch load cost rowCosts rowKeys costs keys) where
+  bit-above-0 : 0 < branch .bit
+  bit-above-0 = omega (arith, fits .index-below)
+
+  pub entry-filled : {c k : ℕ} → branch .ahead ≡ 0 → c ≡ getD rowCosts (core .capacity) 0 → k ≡ getD rowKeys (core .capacity) 0 →
+      BranchFilled core branch load cost rowCosts rowKeys costs keys (set costs (branch .index) c) (set keys (branch .index) k)
+  unfolding rowOf
+  entry-filled none is-cost is-key =
+      rw (none, is-cost, is-key)
+      (filled-one (core .levels) (core .capacity) (rowItem load cost) (index-there fits .0) (index-there fits .1)
+      record { is = refl; small = fits .row-held .small (core .capacity) (le-refl _) })
+
+  module _ (some : branch .ahead ≡ 0 → ⊥) where
+    one-ahead : branch .ahead ≡ suc (branch .ahead - 1)
+    one-ahead = omega arith
+
+    bit-doubled : branch .bit * 2 ≡ 2 ^ suc (branch .places)
+    bit-doubled = omega (arith, fits .bit-is, pow-suc 2 (branch .places))
+
+    digit-moved : branch .digit * keyBase ≡ keyBase ^ suc (branch .places)
+    digit-moved = ap (λ (d : ℕ). d * keyBase) (fits .digit-is) ∙ sym (pow-suc keyBase (branch .places))
+
+    pub next-fits : NextFits branch
+    next-fits =
+        let limit = fits .items-limited in
+        let some-digit : 0 < 2 = omega arith in
+        let most : 2 ^ suc (branch .places) ≤ 2 ^ mostItems = pow-le-pow-right some-digit {j = mostItems} (omega arith) in
+        record {
+          some-ahead = omega arith;
+          places-fit = omega arith;
+          bit-fits = omega (arith, bit-doubled);
+          digit-fits = omega (arith, digit-moved, keys-fit {n = suc (branch .places)} (omega arith));
+          index-fits = omega (arith, bit-doubled, fits .index-below);
+        }
+
+    pub item-before : ItemBefore core (nextItem branch) load cost rowCosts rowKeys
+    item-before =
+        record {
+          affordable = rw one-ahead at (fits .affordable);
+          places-limited = omega (arith, fits .items-limited);
+          digit-is = fits .digit-is;
+          row-held = fits .row-held;
+        }
+
+    settled-fits : {index : ℕ} {rowCosts₁ rowKeys₁ costs₁ keys₁ : List ℕ} → index < branch .bit * 2 →
+        RowHeld (suc (branch .places)) (core .capacity) rowCosts₁ rowKeys₁ → length costs₁ ≡ length costs →
+        length keys₁ ≡ length keys → BranchFits core (settled branch index) load cost rowCosts₁ rowKeys₁ costs₁ keys₁
+    settled-fits below held same-costs same-keys =
+        let sums : branch .ahead - 1 + suc (branch .places) ≡ branch .ahead + branch .places = omega arith in
+        record {
+          items-limited = omega (arith, fits .items-limited);
+          affordable = affordable-without-last (rw one-ahead at (fits .affordable));
+          bit-is = bit-doubled;
+          digit-is = digit-moved;
+          index-below = below;
+          row-held = held;
+          costs-for-all = rw (sums, same-costs) (fits .costs-for-all);
+          keys-for-all = rw (sums, same-keys) (fits .keys-for-all);
+        }
+
+    pub without-fits : BranchFits core (withoutNext branch) load cost rowCosts rowKeys costs keys
+    without-fits = settled-fits (omega (arith, fits .index-below)) (held-for-more (fits .row-held)) refl refl
+
+    pub with-there : (costs₁ keys₁ : List ℕ) → length costs₁ ≡ length costs → length keys₁ ≡ length keys →
+        (branch .index + branch .bit < length costs₁) × (branch .index + branch .bit < length keys₁)
+    with-there costs₁ keys₁ same-costs same-keys =
+        let below : branch .index + branch .bit < branch .bit * 2 = omega (arith, fits .index-below) in
+        index-there {costs = costs₁} {keys = keys₁} (settled-fits below (held-for-more (fits .row-held)) same-costs same-keys)
+
+    pub with-fits : {moreCosts moreKeys costs₁ keys₁ : List ℕ} → length moreCosts ≡ suc mostCapacity →
+        length moreKeys ≡ suc mostCapacity →
+        RowWithItem core (nextItem branch) load cost rowCosts rowKeys (core .levels) moreCosts moreKeys →
+        length costs₁ ≡ length costs → length keys₁ ≡ length keys →
+        BranchFits core (withNext branch) load cost moreCosts moreKeys costs₁ keys₁
+    with-fits full-costs full-keys more same-costs same-keys =
+        settled-fits (omega (arith, fits .index-below))
+        record {
+          costs-to-capacity = omega (arith, full-costs, fits .affordable .capacity-limited);
+          keys-to-capacity = omega (arith, full-keys, fits .affordable .capacity-limited);
+          small = λ w le. least-of-all-levels (fits .affordable .levels-limited) (more .least w le);
+        }
+        same-costs same-keys
+
+    pub last-filled : {costs₁ keys₁ : List ℕ} {c k : ℕ} → length costs₁ ≡ length costs → length keys₁ ≡ length keys →
+        BranchFilled core (withoutNext branch) load cost rowCosts rowKeys costs keys costs₁ keys₁ → branch .ahead ≡ 1 →
+        LeastAt (rowItem load cost (branch .ahead - 1)) (branch .places) (core .levels) (rowOf rowCosts rowKeys) (core .capacity) c k →
+        BranchFilled core branch load cost rowCosts rowKeys costs keys
+        (set costs₁ (branch .index + branch .bit) c) (set keys₁ (branch .index + branch .bit) k)
+    last-filled {costs₁} {keys₁} same-costs same-keys without one least =
+        let there = with-there costs₁ keys₁ same-costs same-keys in
+        let none : branch .ahead - 1 ≡ 0 = omega arith in
+        rw one-ahead
+        (filled-both (core .levels) (core .capacity) (rowItem load cost) bit-above-0 without
+        (rw none
+        (filled-one (core .levels) (core .capacity) (rowItem load cost) (there .0) (there .1)
+        (rw none at (least-holds (fits .affordable .levels-limited) least)))))
+
+    pub both-filled : {costs₁ keys₁ moreCosts moreKeys costs₂ keys₂ : List ℕ} →
+        BranchFilled core (withoutNext branch) load cost rowCosts rowKeys costs keys costs₁ keys₁ →
+        RowWithItem core (nextItem branch) load cost rowCosts rowKeys (core .levels) moreCosts moreKeys →
+        BranchFilled core (withNext branch) load cost moreCosts moreKeys costs₁ keys₁ costs₂ keys₂ →
+        BranchFilled core branch load cost rowCosts rowKeys costs keys costs₂ keys₂
+    unfolding rowOf
+    both-filled without more with =
+        rw one-ahead
+        (filled-both (core .levels) (core .capacity) (rowItem load cost) bit-above-0 without
+        (filled-same (core .levels) (core .capacity) (rowItem load cost)
+        (λ u le. least-holds (fits .affordable .levels-limited) (more .least u le) .is)
+        with))

@@ -1,0 +1,78 @@
+-- The branch of all sets: what filling it asks for, and that the filled tables hold the row of every set.
+use Prim.Native.Nat.{ℕ, _*_, _^_, _≤_, _<_}
+use mathlib.Core.Path.{_≡_, refl, ap, _∙_}
+use mathlib.Core.Bool.{Bool}
+use mathlib.Core.List.{List}
+use native.Mathlib.Nat.{add-zero, mul-one}
+use native.Mathlib.Omega.{arith}
+use lib.ListN.{length, getD}
+use Rattle.search.specs.Branches.{BranchFits, BranchFilled}
+use Rattle.search.specs.Offered.{mostItems, mostCost, Affordable, itemsOf}
+use Rattle.search.specs.FilledTables.{Holds, filled-same}
+use Rattle.search.specs.RelaxedItems.{rowItem, FlatRow}
+use Rattle.search.specs.Rows.{keyBase, row}
+use Rattle.search.specs.RowSteps.{rowBefore}
+use Rattle.search.specs.RowWords.{rowOf}
+use Rattle.search.specs.SetNumberLaws.{setNumber-below, rowBefore-set}
+use Rattle.search.specs.Sets.{setNumber, Tabled}
+use Rattle.search.specs.Values.{Value, pair}
+use Rattle.search.specs.Words.{words-pair}
+use Rattle.search.specs.declared.rows.Branch.{Branch}
+
+pub record RowsFit (n levels capacity : ℕ) (load cost costs keys : List ℕ) : Type 0 where
+  pub items-limited : n ≤ mostItems
+  pub affordable : Affordable n levels capacity load cost
+  pub costs-for-all : 2 ^ n ≤ length costs
+  pub keys-for-all : 2 ^ n ≤ length keys
+
+-- where nothing is settled yet
+abbrev pub allSets : ℕ → Branch
+allSets n = record { ahead = n; places = 0; bit = 1; digit = 1; index = 0 }
+
+module _ {n levels capacity : ℕ} {load cost costs₀ keys₀ emptyCosts emptyKeys : List ℕ}
+    (fit : RowsFit n levels capacity load cost costs₀ keys₀) (empty : FlatRow 0 0 capacity emptyCosts emptyKeys) where
+  pub all-sets-fit : BranchFits record { levels = levels; capacity = capacity } (allSets n) load cost emptyCosts emptyKeys costs₀ keys₀
+  unfolding keyBase
+  all-sets-fit =
+      record {
+        items-limited = omega (arith, fit .items-limited);
+        affordable = fit .affordable;
+        bit-is = refl;
+        digit-is = refl;
+        index-below = omega arith;
+        row-held =
+            record {
+              costs-to-capacity = empty .costs-to-capacity;
+              keys-to-capacity = empty .keys-to-capacity;
+              small = λ w le.
+                  rw (empty .each-cost w le, empty .each-key w le) record { at-most-none = omega arith; real = omega arith; digits = omega arith };
+            };
+        costs-for-all = rw add-zero (fit .costs-for-all);
+        keys-for-all = rw add-zero (fit .keys-for-all);
+      }
+
+  -- at load u no item costs nothing
+  empty-row : (u : ℕ) → u ≤ capacity → rowOf emptyCosts emptyKeys u ≡ pair 0 0
+  unfolding rowOf
+  empty-row u le = rw (empty .each-cost u le, empty .each-key u le) (words-pair 0 0 (omega arith))
+
+  module _ {costs keys : List ℕ}
+      (filled : BranchFilled record { levels = levels; capacity = capacity } (allSets n) load cost emptyCosts emptyKeys costs₀ keys₀ costs keys) where
+    entry-of : (x : ℕ) → x < 2 ^ n →
+        Holds n (rowBefore levels (rowItem load cost) n 0 x (λ w. pair 0 0) capacity) (getD costs x 0) (getD keys x 0)
+    entry-of x under =
+        let at-last = filled-same levels capacity (rowItem load cost) empty-row filled in
+        rw (mul-one x, add-zero x, add-zero n) at (at-last .entries x under)
+
+    pub all-sets-tabled : length costs ≡ length costs₀ → length keys ≡ length keys₀ → (refusal : List ℕ) (must : List Bool) →
+        Tabled n (n * mostCost) (keyBase ^ n) (λ S. row levels (itemsOf load cost refusal must n) S capacity) costs keys
+    all-sets-tabled same-costs same-keys refusal must =
+        record {
+          costs-for-all = rw same-costs (fit .costs-for-all);
+          marks-for-all = rw same-keys (fit .keys-for-all);
+          holds = λ S e.
+              entry-of (setNumber n S) (setNumber-below n S) .is
+              ∙ ap (λ (f : ℕ → Value). f capacity) (rowBefore-set levels load cost refusal must n S e);
+          cost-bound = λ x under. omega (arith, entry-of x under .small .at-most-none);
+          key-bound = λ x under. entry-of x under .small .digits;
+        }
