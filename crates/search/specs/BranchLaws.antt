@@ -9,8 +9,8 @@ use Rattle.search.specs.Assignment.{Item}
 use Rattle.search.specs.Bounds.{keys-fit}
 use Rattle.search.specs.Branches.{NextFits, BranchFits, BranchFilled, nextItem, settled, withoutNext, withNext}
 use Rattle.search.specs.FilledTables.{Holds, filled-one, filled-same, filled-both}
-use Rattle.search.specs.Offered.{mostCapacity, mostItems, mostLevels, Affordable}
-use Rattle.search.specs.RelaxedItems.{rowItem, ItemBefore, RowWithItem}
+use Rattle.search.specs.Offered.{mostCapacity, mostItems, mostLevels, rowItem, Affordable}
+use Rattle.search.specs.RelaxedItems.{ItemBefore, RowWithItem}
 use Rattle.search.specs.Rows.{keyBase}
 use Rattle.search.specs.RowSteps.{withItem}
 use Rattle.search.specs.RowWords.{Small, RowHeld, rowOf, LeastAt, least-of-all-levels}

@@ -1,11 +1,10 @@
--- What filling a branch of the sets asks for, and how that holds of the two branches below it.
+-- What filling a branch of the sets asks for, and what it does.
 use Prim.Native.Nat.{ℕ, suc, _+_, _*_, _-_, _^_, _≤_, _<_}
 use mathlib.Core.Path.{_≡_}
 use mathlib.Core.List.{List}
 use lib.ListN.{length}
 use Rattle.search.specs.FilledTables.{Filled}
-use Rattle.search.specs.Offered.{mostItems, Affordable}
-use Rattle.search.specs.RelaxedItems.{rowItem}
+use Rattle.search.specs.Offered.{mostItems, rowItem, Affordable}
 use Rattle.search.specs.Rows.{keyBase}
 use Rattle.search.specs.RowWords.{RowHeld, rowOf}
 use Rattle.search.specs.declared.rows.Branch.{Branch}

@@ -1,5 +1,5 @@
 -- Tables filled with the rows of all sets that agree on their last items: `ahead` items are open, of the `places` others
--- a set is settled, whose number is `index`, and `bit` is the first open item's weight in a set's number.
+-- a set is settled, whose number is `index`, and `bit` is the last open item's weight in a set's number.
 use Prim.Native.Nat.{ℕ, suc, _+_, _*_, _/_, _%_, _^_, _≤_, _<_}
 use mathlib.Core.Path.{_≡_, refl, sym, ap, _∙_}
 use mathlib.Core.Logic.{_⊎_, inl, inr}

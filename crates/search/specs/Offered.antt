@@ -1,7 +1,7 @@
 -- What the code is offered: flat slices of loads and costs, eight levels to an item.
 use Prim.Native.Nat.{ℕ, _+_, _*_, _≤_, _<_}
 use mathlib.Core.Bool.{Bool, false}
-use mathlib.Core.List.{List}
+use mathlib.Core.List.{List, []}
 use lib.ListN.{length, getD}
 use Rattle.laws.specs.Lists.{listOf}
 use Rattle.search.specs.Assignment.{Item, Options}
@@ -32,6 +32,10 @@ itemAt load cost refusal must i =
       refusal = getD refusal i 0;
       must = getD must i false;
     }
+
+-- an item as rows see it: they ask nothing of refusals
+abbrev pub rowItem : List ℕ → List ℕ → ℕ → Item
+rowItem load cost = itemAt load cost [] []
 
 unfoldable pub itemsOf : (load cost refusal : List ℕ) (must : List Bool) → ℕ → List Item
 itemsOf load cost refusal must = listOf (itemAt load cost refusal must)

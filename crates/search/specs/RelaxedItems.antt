@@ -1,13 +1,12 @@
 -- A whole row relaxed by every level of an item.
 use Prim.Native.Nat.{ℕ, suc, _+_, _*_, _^_, _≤_, _<_}
 use mathlib.Core.Path.{_≡_}
-use mathlib.Core.List.{List, []}
+use mathlib.Core.List.{List}
 use native.Mathlib.Nat.{pow-suc, mul-le-mul-right}
 use native.Mathlib.Omega.{arith}
 use lib.ListN.{length, getD, replicate, length-replicate, getD-replicate}
-use Rattle.search.specs.Assignment.{Item}
 use Rattle.search.specs.Bounds.{keys-fit}
-use Rattle.search.specs.Offered.{mostItems, mostLevels, mostCapacity, entryOf, itemAt, Affordable}
+use Rattle.search.specs.Offered.{mostItems, mostLevels, mostCapacity, entryOf, itemAt, rowItem, Affordable}
 use Rattle.search.specs.RelaxedRows.{SumsFit}
 use Rattle.search.specs.Rows.{keyBase}
 use Rattle.search.specs.RowWords.{RowHeld, rowOf, Relaxed, LeastAt, least-of-no-level, least-of-one-more}
@@ -15,10 +14,6 @@ use Rattle.search.specs.Words.{noCost}
 use Rattle.search.specs.declared.row.Choice.{Choice}
 use Rattle.search.specs.declared.row.Core.{Core}
 use Rattle.search.specs.declared.row.Front.{Front}
-
--- an item as rows see it: they ask nothing of refusals
-abbrev pub rowItem : List ℕ → List ℕ → ℕ → Item
-rowItem load cost = itemAt load cost [] []
 
 abbrev pub choiceOf : List ℕ → List ℕ → Front → ℕ → Choice
 choiceOf load cost front level =
@@ -30,7 +25,7 @@ pub record ChoiceFits (load cost : List ℕ) (front : Front) (level : ℕ) : Typ
   pub cost-there : suc (front .item) * mostLevels ≤ length cost
   pub key-fits : mostLevels * front .digit < 2 ^ 64
 
--- the item is within the limits, and the row is one of its `places` items
+-- the item is within the limits, and the row is one of the `places` items behind it
 pub record ItemBefore (core : Core) (front : Front) (load cost costs keys : List ℕ) : Type 0 where
   pub affordable : Affordable (suc (front .item)) (core .levels) (core .capacity) load cost
   pub places-limited : front .places < mostItems
@@ -55,7 +50,8 @@ flat-row c k capacity le =
     }
 
 -- each entry is the least of the item's first l levels before the row
-pub record RowWithItem (core : Core) (front : Front) (load cost rowCosts rowKeys : List ℕ) (l : ℕ) (costs keys : List ℕ) : Type 0 where
+pub record RowWithItem (core : Core) (front : Front) (load cost rowCosts rowKeys : List ℕ) (l : ℕ) (costs keys : List ℕ) :
+    Type 0 where
   pub least : (w : ℕ) → w ≤ core .capacity →
       LeastAt (rowItem load cost (front .item)) (front .places) l (rowOf rowCosts rowKeys) w (getD costs w 0) (getD keys w 0)
 

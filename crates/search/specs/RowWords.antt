@@ -21,6 +21,7 @@ pub record Small (m cost key : ℕ) : Type 0 where
   pub real : cost < noCost → cost ≤ m * mostCost
   pub digits : key < keyBase ^ m
 
+-- a row of m items, up to the capacity
 pub record RowHeld (m capacity : ℕ) (costs keys : List ℕ) : Type 0 where
   pub costs-to-capacity : capacity < length costs
   pub keys-to-capacity : capacity < length keys

@@ -8,7 +8,7 @@ use native.Mathlib.Omega.{arith}
 use lib.ListN.{length}
 use Rattle.search.specs.Rows.{atLevel, row}
 use Rattle.search.specs.Values.{Value, pair}
-use Rattle.search.specs.Offered.{itemAt, itemsOf}
+use Rattle.search.specs.Offered.{itemAt, rowItem, itemsOf}
 use Rattle.search.specs.RowSteps.{withItem, hasLast, rowBefore, setBefore, rowBefore-row}
 use Rattle.search.specs.Sets.{setNumber}
 
@@ -50,14 +50,14 @@ set-of-number (suc n) (b ∷ S) e =
 
 -- rows ask nothing of refusals
 rowBefore-kept : (levels : ℕ) (load cost refusal : List ℕ) (must : List Bool) (ahead places k : ℕ) (rest : ℕ → Value) →
-    rowBefore levels (itemAt load cost [] []) ahead places k rest ≡ rowBefore levels (itemAt load cost refusal must) ahead places k rest
+    rowBefore levels (rowItem load cost) ahead places k rest ≡ rowBefore levels (itemAt load cost refusal must) ahead places k rest
 unfolding rowBefore withItem atLevel itemAt
 rowBefore-kept levels load cost refusal must zero places k rest = refl
 rowBefore-kept levels load cost refusal must (suc ahead) places k rest =
     rowBefore-kept levels load cost refusal must ahead (suc places) (k / 2) _
 
 pub rowBefore-set : (levels : ℕ) (load cost refusal : List ℕ) (must : List Bool) (n : ℕ) (S : List Bool) → length S ≡ n →
-    rowBefore levels (itemAt load cost [] []) n 0 (setNumber n S) (λ w. pair 0 0)
+    rowBefore levels (rowItem load cost) n 0 (setNumber n S) (λ w. pair 0 0)
     ≡ row levels (itemsOf load cost refusal must n) S
 unfolding row itemsOf
 rowBefore-set levels load cost refusal must n S e =

@@ -7,9 +7,9 @@ use native.Mathlib.Nat.{add-zero, mul-one}
 use native.Mathlib.Omega.{arith}
 use lib.ListN.{length, getD}
 use Rattle.search.specs.Branches.{BranchFits, BranchFilled}
-use Rattle.search.specs.Offered.{mostItems, mostCost, Affordable, itemsOf}
+use Rattle.search.specs.Offered.{mostItems, mostCost, Affordable, rowItem, itemsOf}
 use Rattle.search.specs.FilledTables.{Holds, filled-same}
-use Rattle.search.specs.RelaxedItems.{rowItem, FlatRow}
+use Rattle.search.specs.RelaxedItems.{FlatRow}
 use Rattle.search.specs.Rows.{keyBase, row}
 use Rattle.search.specs.RowSteps.{rowBefore}
 use Rattle.search.specs.RowWords.{rowOf}

@@ -4,13 +4,17 @@ use crate::value::Worth;
 ghost use mathlib.Core.Path.{_≡_};
 ghost use Prim.Native.Nat.{ℕ, _≤_, _<_};
 ghost use lib.ListN.{length, getD};
-ghost use Rattle.search.specs.RelaxedItems.{ChoiceFits, choiceOf, ItemBefore, FlatRow, RowWithItem, rowItem};
+ghost use Rattle.search.specs.Offered.{rowItem};
+ghost use Rattle.search.specs.RelaxedItems.{ChoiceFits, choiceOf, ItemBefore, FlatRow, RowWithItem};
 ghost use Rattle.search.specs.RelaxedRows.{SumsFit};
 ghost use Rattle.search.specs.RowWords.{LeastAt, Relaxed, rowOf};
 ghost use Rattle.search.specs.Words.{noCost};
 
 // From an item's levels to the next one's.
 const STRIDE: usize = 8;
+
+// One entry of a row for each load up to the largest capacity.
+pub(crate) const ENTRIES: usize = 4097;
 
 // A core's levels, and the most load that it takes.
 pub(crate) struct Core {
@@ -32,7 +36,8 @@ struct Choice {
     key: u64,
 }
 
-// Each entry of a row becomes that of the choice before another row, where that is cheaper.
+// Each entry of a row becomes that of the choice before another row, where that is cheaper. Levels are taken in ascending
+// order, so at equal costs the entry has the smaller key.
 fn relax_level(
     choice: Choice,
     capacity: usize,

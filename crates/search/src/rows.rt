@@ -1,5 +1,6 @@
 // The rows of all sets of items: each set's least value on one core.
 use crate::row::Core;
+use crate::row::ENTRIES;
 use crate::row::Front;
 use crate::row::entry;
 use crate::row::relax;
@@ -114,8 +115,8 @@ fn fill(
         store(with.index, last, costs, keys);
         return;
     }
-    let mut more_costs = [NO_COST; 4097];
-    let mut more_keys = [0u64; 4097];
+    let mut more_costs = [NO_COST; ENTRIES];
+    let mut more_keys = [0u64; ENTRIES];
     relax(
         core,
         front,
@@ -153,8 +154,8 @@ pub(crate) fn fill_rows(
         digit: 1,
         index: 0,
     };
-    let empty_costs = [0u64; 4097];
-    let empty_keys = [0u64; 4097];
+    let empty_costs = [0u64; ENTRIES];
+    let empty_keys = [0u64; ENTRIES];
     fill(
         core,
         all,

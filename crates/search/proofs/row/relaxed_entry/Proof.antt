@@ -6,7 +6,8 @@ use native.Mathlib.Numerals.{add-one}
 use native.Mathlib.Omega.{arith}
 use borrow.Author.Needs.{needs}
 use Rattle.search.specs.RowWords.{LeastAt, rowOf, least-of-no-level, no-room, no-cheaper, cheaper}
-use Rattle.search.specs.RelaxedItems.{rowItem, choice-fits, sums-fit, entry-of-one-more}
+use Rattle.search.specs.Offered.{rowItem}
+use Rattle.search.specs.RelaxedItems.{choice-fits, sums-fit, entry-of-one-more}
 use Rattle.search.proofs.row.relaxed_entry.Statement.{statement}
 use Rattle.search.proofs.row.relaxed_entry.Tie as tie
 

@@ -1,8 +1,6 @@
 -- The recursion ends with the items ahead. What the two branches below fill in is what their branch fills in.
-use mathlib.Core.Path.{refl, sym}
 use Rattle.search.specs.RelaxedItems.{flat-row}
-use mathlib.Core.Path.{refl}
-use mathlib.Core.Path.{_∙_}
+use mathlib.Core.Path.{refl, sym, _∙_}
 use native.Mathlib.Omega.{arith}
 use Rattle.search.specs.BranchLaws.{index-there, entry-filled, next-fits, item-before, without-fits, with-there, with-fits, last-filled, both-filled}
 use Prim.Native.Nat.{ℕ, _<_}
@@ -51,7 +49,9 @@ callees t = (
 )
 
 fill-entry-requires : (t : ℕ) → fill-lts.Need-entry-requires (callees t) (fill-at t) fill.Post
-fill-entry-requires t c κs = let held = c .before .before .before .before .before .before .before .before .pre .1 .row-held in (held .costs-to-capacity, held .keys-to-capacity)
+fill-entry-requires t c κs =
+    let held = c .before .before .before .before .before .before .before .before .pre .1 .row-held in
+    (held .costs-to-capacity, held .keys-to-capacity)
 
 fill-store-requires : (t : ℕ) → fill-lts.Need-store-requires (callees t) (fill-at t) fill.Post
 fill-store-requires t c κs = index-there (c .before .before .before .before .before .before .before .before .before .before .before .pre .1)
@@ -65,8 +65,10 @@ fill-same-length-2 t c = c .before .before .before .before .store .kept .1 .1 .1
 fill-returns : (t : ℕ) → fill-lts.Need-returns (callees t) (fill-at t) fill.Post
 fill-returns t c =
     let stored = c .before .before .before .before .store .ensures in
-    let read = c .before .before .before .before .before .before .before .entry .ensures in
-    rw (stored .0, stored .1) (entry-filled (c .before .before .before .before .before .before .before .before .before .before .before .before .before .before .before .before .pre .1) (c .before .before .before .before .before .before .before .before .if1 .taken) (read .0) (read .1))
+    let read = c .before .before .before .before .before .before .before in
+    let start = read .before .before .before .before .before .before .before .before .before in
+    rw (stored .0, stored .1)
+    (entry-filled (start .pre .1) (read .before .if1 .taken) (read .entry .ensures .0) (read .entry .ensures .1))
 
 fill-without-next-requires : (t : ℕ) → fill-lts.Need-without-next-requires (callees t) (fill-at t) fill.Post
 fill-without-next-requires t c κs = next-fits (c .before .before .before .before .before .before .before .before .pre .1) (c .if1 .left)
@@ -78,33 +80,57 @@ fill-fill-requires t c κs =
     rw (c .before .before .without-next .ensures) (omega arith, without-fits (pre .1) some)
 
 fill-next-item-requires : (t : ℕ) → fill-lts.Need-next-item-requires (callees t) (fill-at t) fill.Post
-fill-next-item-requires t c κs = next-fits (c .before .before .before .before .before .before .before .before .before .before .before .before .before .before .before .before .pre .1) (c .before .before .before .before .before .before .before .before .if1 .left)
+fill-next-item-requires t c κs =
+    let settling = c .before .before .before .before .before .before .before .before in
+    let start = settling .before .before .before .before .before .before .before .before in
+    next-fits (start .pre .1) (settling .if1 .left)
 
 fill-with-next-requires : (t : ℕ) → fill-lts.Need-with-next-requires (callees t) (fill-at t) fill.Post
-fill-with-next-requires t c κs = next-fits (c .before .before .before .before .before .before .before .before .before .before .before .before .before .before .before .before .before .pre .1) (c .before .before .before .before .before .before .before .before .before .if1 .left)
+fill-with-next-requires t c κs =
+    let settling = c .before .before .before .before .before .before .before .before .before in
+    let start = settling .before .before .before .before .before .before .before .before in
+    next-fits (start .pre .1) (settling .if1 .left)
 
 fill-relaxed-entry-requires : (t : ℕ) → fill-lts.Need-relaxed-entry-requires (callees t) (fill-at t) fill.Post
-fill-relaxed-entry-requires t c κs = rw (c .before .before .before .next-item .ensures) (item-before (c .before .before .before .before .before .before .before .before .before .before .before .before .before .before .before .before .before .before .before .before .pre .1) (c .before .before .before .before .before .before .before .before .before .before .before .before .if1 .left))
+fill-relaxed-entry-requires t c κs =
+    let settling = c .before .before .before .before .before .before .before .before .before .before .before .before in
+    let start = settling .before .before .before .before .before .before .before .before in
+    rw (c .before .before .before .next-item .ensures) (item-before (start .pre .1) (settling .if1 .left))
 
 fill-store-requires-2 : (t : ℕ) → fill-lts.Need-store-requires-2 (callees t) (fill-at t) fill.Post
 fill-store-requires-2 t c κs =
-    let called = c .before .before .before .before .before .before .before .before .before .before .before .fill in
+    let first = c .before .before .before .before .before .before .before .before .before .before .before in
+    let settling = first .before .before .before .before in
+    let start = settling .before .before .before .before .before .before .before .before in
+    let called = first .fill in
     rw (c .before .before .before .before .before .with-next .ensures)
-    (with-there (c .before .before .before .before .before .before .before .before .before .before .before .before .before .before .before .before .before .before .before .before .before .before .before .pre .1) (c .before .before .before .before .before .before .before .before .before .before .before .before .before .before .before .if1 .left) (called .last .1 .1 .1 .1 .1 .1 .0) (called .last .1 .1 .1 .1 .1 .1 .1 .0) (called .kept .1 .1 .1 .1 .1 .1 .0) (called .kept .1 .1 .1 .1 .1 .1 .1 .0))
+    (with-there (start .pre .1) (settling .if1 .left) (called .last .1 .1 .1 .1 .1 .1 .0) (called .last .1 .1 .1 .1 .1 .1 .1 .0)
+    (called .kept .1 .1 .1 .1 .1 .1 .0) (called .kept .1 .1 .1 .1 .1 .1 .1 .0))
 
 fill-same-length-3 : (t : ℕ) → fill-lts.Need-same-length-3 (callees t) (fill-at t) fill.Post
-fill-same-length-3 t c = c .before .before .before .before .store2 .kept .1 .1 .0 ∙ c .before .before .before .before .before .before .before .before .before .before .before .before .before .before .before .before .fill .kept .1 .1 .1 .1 .1 .1 .0
+fill-same-length-3 t c =
+    let called = c .before .before .before .before .before .before .before .before .before .before .before .before .before .before .before .before .fill in
+    c .before .before .before .before .store2 .kept .1 .1 .0 ∙ called .kept .1 .1 .1 .1 .1 .1 .0
 
 fill-same-length-4 : (t : ℕ) → fill-lts.Need-same-length-4 (callees t) (fill-at t) fill.Post
-fill-same-length-4 t c = c .before .before .before .before .store2 .kept .1 .1 .1 .0 ∙ c .before .before .before .before .before .before .before .before .before .before .before .before .before .before .before .before .fill .kept .1 .1 .1 .1 .1 .1 .1 .0
+fill-same-length-4 t c =
+    let called = c .before .before .before .before .before .before .before .before .before .before .before .before .before .before .before .before .fill in
+    c .before .before .before .before .store2 .kept .1 .1 .1 .0 ∙ called .kept .1 .1 .1 .1 .1 .1 .1 .0
 
 fill-returns-2 : (t : ℕ) → fill-lts.Need-returns-2 (callees t) (fill-at t) fill.Post
 fill-returns-2 t c =
     let stored = c .before .before .before .before .store2 .ensures in
-    let called = c .before .before .before .before .before .before .before .before .before .before .before .before .before .before .before .before .fill in
-    rw (stored .0, stored .1, c .before .before .before .before .before .before .before .before .before .before .with-next .ensures)
-    (last-filled (c .before .before .before .before .before .before .before .before .before .before .before .before .before .before .before .before .before .before .before .before .before .before .before .before .before .before .before .before .pre .1) (c .before .before .before .before .before .before .before .before .before .before .before .before .before .before .before .before .before .before .before .before .if1 .left) (called .kept .1 .1 .1 .1 .1 .1 .0) (called .kept .1 .1 .1 .1 .1 .1 .1 .0) (rw (c .before .before .before .before .before .before .before .before .before .before .before .before .before .before .before .before .before .before .before .without-next .ensures) at (called .ensures))
-    (c .before .before .before .before .before .before .before .before .if2 .taken) (rw (c .before .before .before .before .before .before .before .before .before .before .before .next-item .ensures) at (c .before .before .before .before .before .before .before .relaxed-entry .ensures)))
+    let last = c .before .before .before .before .before .before .before in
+    let item = last .before .before .before .before in
+    let first = item .before .before .before .before .before in
+    let settling = first .before .before .before .before in
+    let start = settling .before .before .before .before .before .before .before .before in
+    let called = first .fill in
+    rw (stored .0, stored .1, last .before .before .before .with-next .ensures)
+    (last-filled (start .pre .1) (settling .if1 .left) (called .kept .1 .1 .1 .1 .1 .1 .0) (called .kept .1 .1 .1 .1 .1 .1 .1 .0)
+    (rw (first .before .before .before .without-next .ensures) at (called .ensures))
+    (last .before .if2 .taken)
+    (rw (item .next-item .ensures) at (last .relaxed-entry .ensures)))
 
 fill-slice-aggregate-relax : (t : ℕ) → fill-lts.Need-slice-aggregate-relax (callees t) (fill-at t) fill.Post
 fill-slice-aggregate-relax t c = refl
@@ -114,8 +140,11 @@ fill-slice-aggregate-relax-2 t c = refl
 
 fill-relax-requires : (t : ℕ) → fill-lts.Need-relax-requires (callees t) (fill-at t) fill.Post
 fill-relax-requires t c κs =
-    let pre = c .before .before .before .before .before .before .before .before .before .before .before .before .before .before .before .before .before .before .before .before .before .before .pre .1 in
-    (rw (c .before .before .before .before .before .next-item .ensures) (item-before pre (c .before .before .before .before .before .before .before .before .before .before .before .before .before .before .if1 .left)), flat-row _ _ _ (pre .affordable .capacity-limited))
+    let settling = c .before .before .before .before .before .before .before .before .before .before .before .before .before .before in
+    let pre = settling .before .before .before .before .before .before .before .before .pre .1 in (
+      rw (c .before .before .before .before .before .next-item .ensures) (item-before pre (settling .if1 .left)),
+      flat-row _ _ _ (pre .affordable .capacity-limited),
+    )
 
 fill-slice-aggregate-fill : (t : ℕ) → fill-lts.Need-slice-aggregate-fill (callees t) (fill-at t) fill.Post
 fill-slice-aggregate-fill t c = sym (c .before .before .before .relax .kept .1 .1 .1 .1 .1 .1 .0)
@@ -125,28 +154,44 @@ fill-slice-aggregate-fill-2 t c = sym (c .before .before .before .before .relax 
 
 fill-fill-requires-2 : (t : ℕ) → fill-lts.Need-fill-requires-2 (callees t) (fill-at t) fill.Post
 fill-fill-requires-2 t c κs =
-    let pre = c .before .before .before .before .before .before .before .before .before .before .before .before .before .before .before .before .before .before .before .before .before .before .before .before .before .before .before .before .before .pre in
-    let some = c .before .before .before .before .before .before .before .before .before .before .before .before .before .before .before .before .before .before .before .before .before .if1 .left in
     let made = c .before .before .before .before .before .before .relax in
-    let called = c .before .before .before .before .before .before .before .before .before .before .before .before .before .before .before .before .before .fill in
+    let item = c .before .before .before .before .before .before .before .before .before .before .before .before in
+    let first = item .before .before .before .before .before in
+    let settling = first .before .before .before .before in
+    let pre = settling .before .before .before .before .before .before .before .before .pre in
+    let called = first .fill in
     rw (c .before .before .before .before .before .before .before .before .before .before .before .with-next .ensures) (
-      omega (arith, pre .0, some),
-      with-fits (pre .1) some (made .kept .1 .1 .1 .1 .1 .1 .0) (made .kept .1 .1 .1 .1 .1 .1 .1 .0) (rw (c .before .before .before .before .before .before .before .before .before .before .before .before .next-item .ensures) at (made .ensures)) (called .kept .1 .1 .1 .1 .1 .1 .0) (called .kept .1 .1 .1 .1 .1 .1 .1 .0),
+      omega (arith, pre .0, settling .if1 .left),
+      with-fits (pre .1) (settling .if1 .left) (made .kept .1 .1 .1 .1 .1 .1 .0) (made .kept .1 .1 .1 .1 .1 .1 .1 .0)
+          (rw (item .next-item .ensures) at (made .ensures))
+          (called .kept .1 .1 .1 .1 .1 .1 .0) (called .kept .1 .1 .1 .1 .1 .1 .1 .0),
     )
 
 fill-same-length-5 : (t : ℕ) → fill-lts.Need-same-length-5 (callees t) (fill-at t) fill.Post
-fill-same-length-5 t c = c .before .before .before .before .fill2 .kept .1 .1 .1 .1 .1 .1 .0 ∙ c .before .before .before .before .before .before .before .before .before .before .before .before .before .before .before .before .before .before .before .before .before .before .fill .kept .1 .1 .1 .1 .1 .1 .0
+fill-same-length-5 t c =
+    let second = c .before .before .before .before in
+    let first = second .before .before .before .before .before .before .before .before .before .before .before .before .before .before .before .before .before .before in
+    second .fill2 .kept .1 .1 .1 .1 .1 .1 .0 ∙ first .fill .kept .1 .1 .1 .1 .1 .1 .0
 
 fill-same-length-6 : (t : ℕ) → fill-lts.Need-same-length-6 (callees t) (fill-at t) fill.Post
-fill-same-length-6 t c = c .before .before .before .before .fill2 .kept .1 .1 .1 .1 .1 .1 .1 .0 ∙ c .before .before .before .before .before .before .before .before .before .before .before .before .before .before .before .before .before .before .before .before .before .before .fill .kept .1 .1 .1 .1 .1 .1 .1 .0
+fill-same-length-6 t c =
+    let second = c .before .before .before .before in
+    let first = second .before .before .before .before .before .before .before .before .before .before .before .before .before .before .before .before .before .before in
+    second .fill2 .kept .1 .1 .1 .1 .1 .1 .1 .0 ∙ first .fill .kept .1 .1 .1 .1 .1 .1 .1 .0
 
 fill-returns-3 : (t : ℕ) → fill-lts.Need-returns-3 (callees t) (fill-at t) fill.Post
 fill-returns-3 t c =
-    let made = c .before .before .before .before .before .before .before .before .before .before .before .relax in
-    let called = c .before .before .before .before .before .before .before .before .before .before .before .before .before .before .before .before .before .before .before .before .before .before .fill in
-    both-filled (c .before .before .before .before .before .before .before .before .before .before .before .before .before .before .before .before .before .before .before .before .before .before .before .before .before .before .before .before .before .before .before .before .before .before .pre .1) (c .before .before .before .before .before .before .before .before .before .before .before .before .before .before .before .before .before .before .before .before .before .before .before .before .before .before .if1 .left) (rw (c .before .before .before .before .before .before .before .before .before .before .before .before .before .before .before .before .before .before .before .before .before .before .before .before .before .without-next .ensures) at (called .ensures))
-    (rw (c .before .before .before .before .before .before .before .before .before .before .before .before .before .before .before .before .before .next-item .ensures) at (made .ensures))
-    (rw (c .before .before .before .before .before .before .before .before .before .before .before .before .before .before .before .before .with-next .ensures) at (c .before .before .before .before .fill2 .ensures))
+    let second = c .before .before .before .before in
+    let made = second .before .before .before .before .before .before .before .relax in
+    let with = second .before .before .before .before .before .before .before .before .before .before .before .before in
+    let item = with .before in
+    let first = item .before .before .before .before .before in
+    let settling = first .before .before .before .before in
+    let start = settling .before .before .before .before .before .before .before .before in
+    both-filled (start .pre .1) (settling .if1 .left)
+    (rw (first .before .before .before .without-next .ensures) at (first .fill .ensures))
+    (rw (item .next-item .ensures) at (made .ensures))
+    (rw (with .with-next .ensures) at (second .fill2 .ensures))
 
 pub +fill-spec : {M : Type 1} → statement M
 +fill-spec = close μ-fill λ t. fill-lts.spec (callees t)
