@@ -4,6 +4,7 @@ pub mod ValueLaws
 pub mod Words
 pub mod Worths
 pub mod Sets
+pub mod SetLaws
 pub mod Rows
 pub mod Partition
 pub mod Choice
@@ -27,3 +28,8 @@ pub mod FilledTables
 pub mod Branches
 pub mod BranchLaws
 pub mod TabledRows
+pub mod Splits
+pub mod SplitLaws
+pub mod LowerLaws
+pub mod Moves
+pub mod MoveLaws

@@ -147,3 +147,23 @@ least-unique {A} {Has} {worth} p q = atMost-antisym (ordered p (q .attained)) (o
     ordered : {s t : Value} → Least Has worth s → Attained Has worth t → AtMost s t
     ordered r (inl e) = rw e to-none
     ordered r (inr (a, h, e)) = rw e (r .below a h)
+
+-- the lesser is the greatest value that is at most both
+lesser-above : {u v w : Value} → AtMost w u → AtMost w v → AtMost w (lesser u v)
+lesser-above {u} {v} {w} p q = go (lesser u v) (picked u v)
+  where
+    go : (least : Value) → Picked u v least → AtMost w least
+    go least (first h) = p
+    go least (second h) = q
+
+pub lesser-assoc : (u v w : Value) → lesser (lesser u v) w ≡ lesser u (lesser v w)
+lesser-assoc u v w =
+    let left = lesser-first (lesser u v) w in
+    let right = lesser-second u (lesser v w) in
+    atMost-antisym
+    (lesser-above
+    (atMost-trans left (lesser-first u v))
+    (lesser-above (atMost-trans left (lesser-second u v)) (lesser-second (lesser u v) w)))
+    (lesser-above
+    (lesser-above (lesser-first u (lesser v w)) (atMost-trans right (lesser-first v w)))
+    (atMost-trans right (lesser-second v w)))

@@ -1,0 +1,66 @@
+-- What the partition's code does to its tables: every split of a set lowers the set's entry.
+use Prim.Native.Nat.{ℕ, _+_, _^_, _≤_, _<_}
+use mathlib.Core.Path.{_≡_}
+use mathlib.Core.Logic.{_⊎_, _≢_}
+use mathlib.Core.Bool.{Bool}
+use mathlib.Core.List.{List}
+use lib.ListN.{length, getD}
+use Rattle.search.specs.Values.{Value, lesser}
+use Rattle.search.specs.Words.{valueOf}
+use Rattle.search.specs.Sets.{setNumber}
+use Rattle.search.specs.Partition.{leastSplit}
+
+-- the value at x of a table
+unfoldable pub entryAt : List ℕ → List ℕ → ℕ → Value
+entryAt costs keys x = valueOf (getD costs x 0) (getD keys x 0)
+
+-- the sum of entry t of the one table and entry r of the other
+unfoldable pub sumAt : (tops topKeys rests restKeys : List ℕ) → ℕ → ℕ → Value
+sumAt tops topKeys rests restKeys t r =
+    valueOf (getD tops t 0 + getD rests r 0) (getD topKeys t 0 + getD restKeys r 0)
+
+-- the least sum over the splits of a set of k items, whose parts are added to the sets t and r of other items
+unfoldable pub leastFrom : ℕ → (ℕ → ℕ → Value) → ℕ → ℕ → List Bool → Value
+leastFrom k sum t r S = leastSplit S (λ T R. sum (t + setNumber k T) (r + setNumber k R))
+
+-- as numbers, no entry became dearer, nor got a larger key at the same cost
+pub record NoDearer (costs keys costs' keys' : List ℕ) : Type 0 where
+  pub at : (x : ℕ) →
+      (getD costs' x 0 < getD costs x 0) ⊎ ((getD costs' x 0 ≡ getD costs x 0) × (getD keys' x 0 ≤ getD keys x 0))
+
+-- entry x is as it was
+pub record Kept (costs keys costs' keys' : List ℕ) (x : ℕ) : Type 0 where
+  pub cost : getD costs' x 0 ≡ getD costs x 0
+  pub key : getD keys' x 0 ≡ getD keys x 0
+
+-- entry s was lowered to v, where v is the lesser
+pub record Lowered (s : ℕ) (v : Value) (costs keys costs' keys' : List ℕ) : Type 0 where
+  pub there : entryAt costs' keys' s ≡ lesser (entryAt costs keys s) v
+  pub elsewhere : (x : ℕ) → x ≢ s → Kept costs keys costs' keys' x
+  pub no-dearer : NoDearer costs keys costs' keys'
+
+-- the entries of the 2^k sets that add k items to the set s were lowered, each to its least split
+pub record LoweredFrom (k s t r : ℕ) (sum : ℕ → ℕ → Value) (costs keys costs' keys' : List ℕ) : Type 0 where
+  pub there : (S : List Bool) → length S ≡ k →
+      entryAt costs' keys' (s + setNumber k S) ≡ lesser (entryAt costs keys (s + setNumber k S)) (leastFrom k sum t r S)
+  pub elsewhere : (x : ℕ) → (x < s) ⊎ (s + 2 ^ k ≤ x) → Kept costs keys costs' keys' x
+  pub no-dearer : NoDearer costs keys costs' keys'
+
+-- a number of sets
+pub record PowerOfTwo (size : ℕ) : Type 0 where
+  pub exponent : ℕ
+  pub is-power : size ≡ 2 ^ exponent
+
+-- `size` entries from t on of the one slice and from r on of the other are there, and add up within 64 bits
+pub record SumsFit (size t r : ℕ) (tops rests : List ℕ) : Type 0 where
+  pub tops-long : t + size ≤ length tops
+  pub rests-long : r + size ≤ length rests
+  pub sums-fit : (x y : ℕ) → x < size → y < size → getD tops (t + x) 0 + getD rests (r + y) 0 < 2 ^ 64
+
+-- what lowering the entries of `size` sets asks
+pub record SplitsReady (size s t r : ℕ) (tops topKeys rests restKeys costs keys : List ℕ) : Type 0 where
+  pub sets : PowerOfTwo size
+  pub costs-fit : SumsFit size t r tops rests
+  pub keys-fit : SumsFit size t r topKeys restKeys
+  pub costs-long : s + size ≤ length costs
+  pub keys-long : s + size ≤ length keys

@@ -1,0 +1,132 @@
+// The least value of every set of the items on several cores, one core after the other. A set is a number below 2^items,
+// the first item its most significant digit; a table is a slice of costs and one of keys.
+ghost use mathlib.Core.Path.{_≡_};
+ghost use Prim.Native.Nat.{ℕ, _+_, _*_, _^_, _≤_, _<_};
+ghost use lib.ListN.{length, getD};
+ghost use Rattle.laws.specs.Lists.{listOf, onto};
+ghost use Rattle.search.specs.Moves.{WeightsBelow, MovesFit, movedKey};
+ghost use Rattle.search.specs.Words.{valueOf};
+ghost use Rattle.search.specs.Splits.{sumAt, Lowered, LoweredFrom, SplitsReady};
+
+// Lowers entry s of a table to a cost and a key, where these come first.
+fn lower(s: usize, cost: u64, key: u64, costs: &mut [u64], keys: &mut [u64])
+    requires { ⌜ s < length (now costs) ⌝ }
+    requires { ⌜ s < length (now keys) ⌝ }
+    ensures { λ _. ⌜ Lowered s (valueOf cost key) (now (costs .entry)) (now (keys .entry)) (now (costs .exit)) (now (keys .exit)) ⌝ }
+{
+    if cost < costs[s] {
+        costs[s] = cost;
+        keys[s] = key;
+        return;
+    }
+    if cost == costs[s] {
+        if key < keys[s] {
+            keys[s] = key;
+        }
+    }
+}
+
+// Lowers the entries of all sets that add some of the last items to the set s, each to its splits, whose parts add some of
+// those items to the sets t and r: t of the one table, r of the other. `size` is the number of these sets.
+fn lower_splits(
+    size: usize,
+    s: usize,
+    t: usize,
+    r: usize,
+    tops: &[u64],
+    topkeys: &[u64],
+    rests: &[u64],
+    restkeys: &[u64],
+    costs: &mut [u64],
+    keys: &mut [u64],
+)
+    requires { ⌜ SplitsReady size s t r (now tops) (now topkeys) (now rests) (now restkeys) (now costs) (now keys) ⌝ }
+    ensures { λ _. ⌜ ((k : ℕ) → size ≡ 2 ^ k →
+        LoweredFrom k s t r (sumAt (now (tops .entry)) (now (topkeys .entry)) (now (rests .entry)) (now (restkeys .entry)))
+        (now (costs .entry)) (now (keys .entry)) (now (costs .exit)) (now (keys .exit))) ⌝ }
+{
+    if size == 1 {
+        lower(s, tops[t] + rests[r], topkeys[t] + restkeys[r], costs, keys);
+        return;
+    }
+    let half = size / 2;
+    lower_splits(half, s, t, r, tops, topkeys, rests, restkeys, costs, keys);
+    lower_splits(
+        half,
+        s + half,
+        t + half,
+        r,
+        tops,
+        topkeys,
+        rests,
+        restkeys,
+        costs,
+        keys,
+    );
+    lower_splits(
+        half,
+        s + half,
+        t,
+        r + half,
+        tops,
+        topkeys,
+        rests,
+        restkeys,
+        costs,
+        keys,
+    );
+}
+
+// The number of sets of so many items.
+fn sets_of(items: usize) -> usize
+    requires { ⌜ items ≤ 12 ⌝ }
+    ensures { λ r. ⌜ r ≡ 2 ^ items ⌝ }
+{
+    1 << items
+}
+
+// The weight of each set: the key with a digit 1 for each of its items.
+fn fill_weights(items: usize, weights: &mut [u64])
+    requires { ⌜ items ≤ 12 ⌝ }
+    requires { ⌜ 2 ^ items ≤ length (now weights) ⌝ }
+    ensures { λ _. ⌜ WeightsBelow items (2 ^ items) (now (weights .exit)) ⌝ }
+{
+    let all = sets_of(items);
+    weights[0] = 0;
+    let mut x = 1;
+    while x < all {
+        weights[x] = weights[x / 2] * 33 + (x % 2) as u64;
+        x += 1;
+    }
+}
+
+// The keys of the rows on another core, where each choice is larger by `shift`.
+fn move_keys(items: usize, shift: u64, weights: &[u64], keys: &[u64], moved: &mut [u64])
+    requires { ⌜ items ≤ 12 ⌝ }
+    requires { ⌜ MovesFit items shift (now weights) (now keys) ⌝ }
+    requires { ⌜ 2 ^ items ≤ length (now moved) ⌝ }
+    ensures { λ _. ⌜ now (moved .exit)
+        ≡ onto (listOf (movedKey shift (now (weights .entry)) (now (keys .entry))) (2 ^ items)) (now (moved .entry)) ⌝ }
+{
+    let all = sets_of(items);
+    let mut x = 0;
+    while x < all {
+        moved[x] = keys[x] + shift * weights[x];
+        x += 1;
+    }
+}
+
+// Copies the entries of all sets.
+fn copy_entries(items: usize, from: &[u64], to: &mut [u64])
+    requires { ⌜ items ≤ 12 ⌝ }
+    requires { ⌜ 2 ^ items ≤ length (now from) ⌝ }
+    requires { ⌜ 2 ^ items ≤ length (now to) ⌝ }
+    ensures { λ _. ⌜ now (to .exit) ≡ onto (listOf (λ x. getD (now (from .entry)) x 0) (2 ^ items)) (now (to .entry)) ⌝ }
+{
+    let all = sets_of(items);
+    let mut x = 0;
+    while x < all {
+        to[x] = from[x];
+        x += 1;
+    }
+}
