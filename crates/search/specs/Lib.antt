@@ -33,3 +33,5 @@ pub mod SplitLaws
 pub mod LowerLaws
 pub mod Moves
 pub mod MoveLaws
+pub mod Cores
+pub mod CoreLaws

@@ -4,8 +4,9 @@ use mathlib.Core.Path.{_≡_, refl, sym, ap, _∙_}
 use mathlib.Core.Logic.{_⊎_, inl, inr}
 use mathlib.Core.Bool.{Bool, true, false, cond}
 use mathlib.Core.List.{List, [], _∷_}
-use native.Mathlib.Nat.{pow-zero, pow-suc, zero-mul, eq-or-lt-of-le}
+use native.Mathlib.Nat.{pow-zero, pow-suc, pow-succ', zero-mul, mul-zero, zero-add, mul-add, one-le-pow, eq-or-lt-of-le}
 use native.Mathlib.Omega.{arith}
+use lib.Arith.{digits-lt}
 use lib.ListN.{length, getD, set}
 use lib.Pow.{pow-pos}
 use lib.Seq.{getD-set-same, getD-set-other}
@@ -35,13 +36,15 @@ weight-is-digits (item ∷ items) [] = refl
 weight-is-digits (item ∷ items) (b ∷ S) =
     ap (λ (k : ℕ). cond b (keyBase ^ length items) 0 + k) (weight-is-digits items S)
 
--- n digits
-digits-below : (n : ℕ) (S : List Bool) → digitSum keyBase n S < keyBase ^ n
-unfolding digitSum keyBase
-digits-below zero S = omega (arith, pow-zero keyBase)
-digits-below (suc n) [] = omega (arith, pow-suc keyBase n, digits-below n [])
-digits-below (suc n) (true ∷ S) = omega (arith, pow-suc keyBase n, digits-below n S)
-digits-below (suc n) (false ∷ S) = omega (arith, pow-suc keyBase n, digits-below n S)
+-- n digits, none above `shift`
+pub digits-below : {shift : ℕ} → shift < keyBase → (n : ℕ) (S : List Bool) → shift * digitSum keyBase n S < keyBase ^ n
+unfolding digitSum
+digits-below {shift} small zero S = omega (arith, pow-zero keyBase, mul-zero shift)
+digits-below {shift} small (suc n) [] = rw mul-zero (one-le-pow (suc n) keyBase (omega arith))
+digits-below {shift} small (suc n) (true ∷ S) = rw (pow-succ', mul-add) (digits-lt small (digits-below small n S))
+digits-below {shift} small (suc n) (false ∷ S) =
+    let some-digit : 0 < keyBase = omega arith in
+    rw (pow-succ', zero-add) (omega (arith, digits-lt some-digit (digits-below small n S)))
 
 -- no item, no digit
 empty-weighs-nothing : (n : ℕ) (S : List Bool) → setNumber n S ≡ 0 → digitSum keyBase n S ≡ 0
@@ -113,10 +116,12 @@ module _ {n x : ℕ} {weights : List ℕ} (below : WeightsBelow n x weights) (so
       rw (sym (ap (λ (k : ℕ). getD weights k 0) (half .number)) ∙ at-half) (half .weighs)
 
   pub next-weight-fits : n ≤ 12 → x < 2 ^ n → getD weights (x / 2) 0 * 33 + x % 2 < 2 ^ 64
+  unfolding keyBase
   next-weight-fits few in-range =
       let s = numbered n x in-range in
       let is = next-weight (s .set) (s .of-items) (s .number) in
-      omega (arith, digits-below n (s .set), keys-fit few)
+      let one-digit : 1 < keyBase = omega arith in
+      omega (arith, digits-below one-digit n (s .set), keys-fit few)
 
   pub one-more-weight : x < length weights →
       WeightsBelow n (x + 1) (set weights x (getD weights (x / 2) 0 * 33 + x % 2))

@@ -1,9 +1,11 @@
 // The least value of every set of the items on several cores, one core after the other. A set is a number below 2^items,
 // the first item its most significant digit; a table is a slice of costs and one of keys.
+use crate::value::NO_COST;
 ghost use mathlib.Core.Path.{_≡_};
 ghost use Prim.Native.Nat.{ℕ, _+_, _*_, _^_, _≤_, _<_};
 ghost use lib.ListN.{length, getD};
 ghost use Rattle.laws.specs.Lists.{listOf, onto};
+ghost use Rattle.search.specs.Cores.{CoreReady, CoreAdded};
 ghost use Rattle.search.specs.Moves.{WeightsBelow, MovesFit, movedKey};
 ghost use Rattle.search.specs.Words.{valueOf};
 ghost use Rattle.search.specs.Splits.{sumAt, Lowered, LoweredFrom, SplitsReady};
@@ -129,4 +131,39 @@ fn copy_entries(items: usize, from: &[u64], to: &mut [u64])
         to[x] = from[x];
         x += 1;
     }
+}
+
+// One core more: the value of each set on some cores becomes that on these and one core, whose rows are moved by `shift`.
+fn add_core(
+    items: usize,
+    shift: u64,
+    weights: &[u64],
+    rows: &[u64],
+    rowkeys: &[u64],
+    costs: &mut [u64],
+    keys: &mut [u64],
+)
+    requires { ⌜ CoreReady items shift (now weights) (now rows) (now rowkeys) (now costs) (now keys) ⌝ }
+    ensures { λ _. ⌜ CoreAdded items shift (now (rows .entry)) (now (rowkeys .entry)) (now (costs .entry)) (now (keys .entry))
+        (now (costs .exit)) (now (keys .exit)) ⌝ }
+{
+    let mut moved = [0u64; 4096];
+    move_keys(items, shift, weights, rowkeys, &mut moved);
+    let mut next = [NO_COST; 4096];
+    let mut nextkeys = [0u64; 4096];
+    let all = sets_of(items);
+    lower_splits(
+        all,
+        0,
+        0,
+        0,
+        rows,
+        &moved,
+        costs,
+        keys,
+        &mut next,
+        &mut nextkeys,
+    );
+    copy_entries(items, &next, costs);
+    copy_entries(items, &nextkeys, keys);
 }
