@@ -35,3 +35,4 @@ pub mod Moves
 pub mod MoveLaws
 pub mod Cores
 pub mod CoreLaws
+pub mod BestTables
