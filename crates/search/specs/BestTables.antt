@@ -69,10 +69,21 @@ table-copied {n} {f} {costs} {keys} {costs'} {keys'} buffer keyBuffer table copi
     key-at x h = rw keys-copied (getD-onto-listOf (λ k. getD keys k 0) keyBuffer (2 ^ n) x 0 h)
 
 -- the numbers of a value that is not none are small where the value is
-real-entry : {n : ℕ} {f : List Bool → Value} {costs keys : List ℕ} → TableOf n f costs keys → (S : List Bool) → length S ≡ n →
+pub real-entry : {n : ℕ} {f : List Bool → Value} {costs keys : List ℕ} → TableOf n f costs keys → (S : List Bool) → length S ≡ n →
     Within (n * mostCost) (keyBase ^ n) (f S) → getD costs (setNumber n S) 0 < noCost →
     (getD costs (setNumber n S) 0 ≤ n * mostCost) × (getD keys (setNumber n S) 0 < keyBase ^ n)
 real-entry table S of-items within real = words-within _ _ real (rw (table .holds S of-items) within)
+
+module _ {o : Options} {n : ℕ} (given : Searchable o n) where
+  fewer-choices : (k : ℕ) → k ≤ o .cores → k * o .levels < keyBase
+  fewer-choices k h = omega (arith, given .few-choices, mul-le-mul-right (o .levels) h)
+
+  pub best-is-small : (k : ℕ) → suc k ≤ o .cores → (S : List Bool) → Within (n * mostCost) (keyBase ^ n) (best o k S)
+  best-is-small k h S = rw (given .items-counted) at (best-within o k S (fewer-choices (suc k) h) (given .cheap))
+
+  row-is-small : (S : List Bool) → Within (n * mostCost) (keyBase ^ n) (rowsOf o S)
+  unfolding best
+  row-is-small S = best-is-small 0 (given .some-core) S
 
 module _ {o : Options} {n : ℕ} (given : Searchable o n) {rows rowKeys : List ℕ} (rows-held : TableOf n (rowsOf o) rows rowKeys) where
   pub best-of-one-core : TableOf n (best o 0) rows rowKeys
@@ -80,23 +91,13 @@ module _ {o : Options} {n : ℕ} (given : Searchable o n) {rows rowKeys : List �
   best-of-one-core = rows-held
 
   module _ (c : ℕ) (more : suc c < o .cores) {costs keys : List ℕ} (held : TableOf n (best o c) costs keys) where
-    fewer-choices : (k : ℕ) → k ≤ o .cores → k * o .levels < keyBase
-    fewer-choices k h = omega (arith, given .few-choices, mul-le-mul-right (o .levels) h)
-
-    best-of : (k : ℕ) → suc k ≤ o .cores → (S : List Bool) → Within (n * mostCost) (keyBase ^ n) (best o k S)
-    best-of k h S = rw (given .items-counted) at (best-within o k S (fewer-choices (suc k) h) (given .cheap))
-
-    row-of : (S : List Bool) → Within (n * mostCost) (keyBase ^ n) (rowsOf o S)
-    unfolding best
-    row-of S = best-of 0 (omega arith) S
-
     -- no real sum comes near noCost
     sums-stay-real : (T R : List Bool) → length T ≡ n → length R ≡ n →
         getD rows (setNumber n T) 0 < noCost → getD costs (setNumber n R) 0 < noCost →
         getD rows (setNumber n T) 0 + getD costs (setNumber n R) 0 < noCost
     sums-stay-real T R t r p q =
         let few = given .few-items in
-        omega (arith, real-entry rows-held T t (row-of T) p, real-entry held R r (best-of c (omega arith) R) q)
+        omega (arith, real-entry rows-held T t (row-is-small given T) p, real-entry held R r (best-is-small given c (omega arith) R) q)
 
     split-value : (T R : List Bool) → length T ≡ n → length R ≡ n →
         splitSum n (suc c * o .levels) rows rowKeys costs keys T R ≡ add (movedRow o (suc c) T) (best o c R)
@@ -147,5 +148,5 @@ module _ {o : Options} {n : ℕ} (given : Searchable o n) {rows rowKeys : List �
             let s = numbered n x h in
             let value = rw (s .number) at (holds (s .set) (s .of-items)) in
             let within : Within (n * mostCost) (keyBase ^ n) (valueOf (getD costs' x 0) (getD keys' x 0)) =
-            rw value (best-of (suc c) more (s .set)) in
+            rw value (best-is-small given (suc c) more (s .set)) in
             words-within _ _ real within .1

@@ -36,3 +36,6 @@ pub mod MoveLaws
 pub mod Cores
 pub mod CoreLaws
 pub mod BestTables
+pub mod Holding
+pub mod HoldingLaws
+pub mod ChosenTables
