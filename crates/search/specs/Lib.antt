@@ -39,3 +39,4 @@ pub mod BestTables
 pub mod Holding
 pub mod HoldingLaws
 pub mod ChosenTables
+pub mod PlanLaws

@@ -4,7 +4,10 @@ use crate::value::lesser;
 ghost use mathlib.Core.Path.{_≡_};
 ghost use Prim.Native.Nat.{ℕ, _^_, _≤_, _<_};
 ghost use lib.ListN.{length};
+ghost use Rattle.laws.specs.Lists.{onto};
+ghost use Rattle.search.specs.Choice.{digits};
 ghost use Rattle.search.specs.Holding.{chosenFrom, HoldingReady};
+ghost use Rattle.search.specs.Rows.{keyBase};
 ghost use Rattle.search.specs.Worths.{worthOf};
 
 // The least value over the sets that add some of the items from i on to the set s, with every item that must be kept.
@@ -45,4 +48,36 @@ fn least_holding(
         keys,
     );
     lesser(without, kept)
+}
+
+// One more than the largest key of a plan for so many items.
+fn keys_of(items: usize) -> u64
+    requires { ⌜ items ≤ 12 ⌝ }
+    ensures { λ r. ⌜ r ≡ keyBase ^ items ⌝ }
+{
+    let mut power = 1;
+    let mut i = 0;
+    while i < items {
+        power = power * 33;
+        i += 1;
+    }
+    power
+}
+
+// Writes the plan that a key stands for.
+fn write_plan(items: usize, key: u64, plan: &mut [u32])
+    requires { ⌜ items ≤ 12 ⌝ }
+    requires { ⌜ key < keyBase ^ items ⌝ }
+    requires { ⌜ items ≤ length (now plan) ⌝ }
+    ensures { λ _. ⌜ now (plan .exit) ≡ onto (digits items key) (now (plan .entry)) ⌝ }
+{
+    let mut power = keys_of(items);
+    let mut rest = key;
+    let mut i = 0;
+    while i < items {
+        power = power / 33;
+        plan[i] = (rest / power) as u32;
+        rest = rest % power;
+        i += 1;
+    }
 }
