@@ -2,36 +2,21 @@
 use Prim.Native.Nat.{ℕ, zero, suc, pred, _+_, _*_, _^_, _≤_, _<_}
 use mathlib.Core.Path.{_≡_, refl, sym, ap, ap₂, _∙_}
 use mathlib.Core.Bool.{Bool, true, false, cond}
-use mathlib.Core.List.{List, [], _∷_, _++_}
-use native.Mathlib.Nat.{zero-add, add-zero, add-assoc, add-suc, suc-add}
+use mathlib.Core.List.{List, [], _∷_}
+use native.Mathlib.Nat.{zero-add, add-zero, add-assoc}
 use native.Mathlib.Omega.{arith}
 use lib.ListN.{length, getD}
-use Rattle.laws.specs.Lists.{listOf}
 use Rattle.search.specs.Assignment.{Item, Options}
 use Rattle.search.specs.Values.{Value, none, pair, add, lesser, Within}
 use Rattle.search.specs.Words.{noCost, valueOf, words-pair, words-add}
 use Rattle.search.specs.Rows.{keyBase}
 use Rattle.search.specs.Partition.{bestOf}
 use Rattle.search.specs.Choice.{leastHolding, refusals, chosen}
+use Rattle.search.specs.OfferedLaws.{listFrom, listOf-from}
 use Rattle.search.specs.Offered.{mostCost, itemAt, itemsOf}
 use Rattle.search.specs.Sets.{setNumber}
 use Rattle.search.specs.BestTables.{TableOf, Searchable, real-entry, best-is-small}
 use Rattle.search.specs.Holding.{chosenFrom}
-
--- f i, f (i + 1), .., f (i + n - 1)
-unfoldable listFrom : {A : Type 0} → (ℕ → A) → ℕ → ℕ → List A
-listFrom f i zero = []
-listFrom f i (suc n) = f i ∷ listFrom f (suc i) n
-
-listFrom-end : {A : Type 0} (f : ℕ → A) (i n : ℕ) → listFrom f i (suc n) ≡ listFrom f i n ++ (f (i + n) ∷ [])
-unfolding listFrom
-listFrom-end f i zero = rw add-zero
-listFrom-end f i (suc n) = ap (λ l. f i ∷ l) (listFrom-end f (suc i) n ∙ rw (suc-add, add-suc))
-
-listOf-from : {A : Type 0} (f : ℕ → A) (n : ℕ) → listOf f n ≡ listFrom f 0 n
-unfolding listOf listFrom
-listOf-from f zero = refl
-listOf-from f (suc n) = rw (listOf-from f n) (sym (listFrom-end f 0 n ∙ rw zero-add))
 
 leastHolding-same : {f g : List Bool → Value} (items : List Item) →
     ((S : List Bool) → length S ≡ length items → f S ≡ g S) → leastHolding items f ≡ leastHolding items g

@@ -36,7 +36,12 @@ pub mod MoveLaws
 pub mod Cores
 pub mod CoreLaws
 pub mod BestTables
+pub mod OfferedLaws
 pub mod Holding
 pub mod HoldingLaws
 pub mod ChosenTables
 pub mod PlanLaws
+pub mod Limits
+pub mod Found
+pub mod BestFilled
+pub mod FoundLaws

@@ -12,7 +12,7 @@ ghost use Rattle.search.specs.Worths.{worthOf};
 
 // The least value over the sets that add some of the items from i on to the set s, with every item that must be kept.
 // `size` is the number of sets without regard to must, and `refused` what refusing the items before i costs.
-fn least_holding(
+pub(crate) fn least_holding(
     size: usize,
     i: usize,
     s: usize,
@@ -65,7 +65,7 @@ fn keys_of(items: usize) -> u64
 }
 
 // Writes the plan that a key stands for.
-fn write_plan(items: usize, key: u64, plan: &mut [u32])
+pub(crate) fn write_plan(items: usize, key: u64, plan: &mut [u32])
     requires { ⌜ items ≤ 12 ⌝ }
     requires { ⌜ key < keyBase ^ items ⌝ }
     requires { ⌜ items ≤ length (now plan) ⌝ }

@@ -1,6 +1,60 @@
 // The exact search for the cheapest plan. It knows nothing of text, words or tables: only of loads, costs and a capacity.
+mod best;
 mod choice;
+mod limits;
 mod partition;
 mod row;
 mod rows;
 mod value;
+use best::fill_best;
+use choice::least_holding;
+use choice::write_plan;
+use limits::within_limits;
+use partition::sets_of;
+use value::NO_COST;
+ghost use Rattle.search.specs.Found.{Searched};
+
+// How many items there are, how many cores and levels for each, and the most load that a core takes.
+pub struct Shape {
+    pub items: usize,
+    pub cores: usize,
+    pub levels: usize,
+    pub capacity: usize,
+}
+
+pub enum Found {
+    // The cost of the best plan.
+    Cheapest(u64),
+    // No plan keeps every item that must be kept, with no core above the capacity.
+    NoPlan,
+    // The numbers are not within the limits of the search.
+    OutOfLimits,
+}
+
+// Finds the cheapest plan, of equally cheap ones the first, and writes its choices. Item i has at level l the load and the
+// cost at i * 8 + l of their slices.
+pub fn cheapest_plan(
+    shape: Shape,
+    load: &[u64],
+    cost: &[u64],
+    refusal: &[u64],
+    must: &[bool],
+    plan: &mut [u32],
+) -> Found
+    ensures { λ r. ⌜ Searched shape (now (load .entry)) (now (cost .entry)) (now (refusal .entry)) (now (must .entry))
+        (now (plan .entry)) (now (plan .exit)) r ⌝ }
+{
+    if !within_limits(shape, load, cost, refusal, must, plan) {
+        return Found::OutOfLimits;
+    }
+    let mut costs = [0u64; 4096];
+    let mut keys = [0u64; 4096];
+    fill_best(shape, load, cost, &mut costs, &mut keys);
+    let all = sets_of(shape.items);
+    let least = least_holding(all, 0, 0, 0, refusal, must, &costs, &keys);
+    if NO_COST <= least.cost {
+        return Found::NoPlan;
+    }
+    write_plan(shape.items, least.key, plan);
+    Found::Cheapest(least.cost)
+}

@@ -80,7 +80,7 @@ fn lower_splits(
 }
 
 // The number of sets of so many items.
-fn sets_of(items: usize) -> usize
+pub(crate) fn sets_of(items: usize) -> usize
     requires { ⌜ items ≤ 12 ⌝ }
     ensures { λ r. ⌜ r ≡ 2 ^ items ⌝ }
 {
@@ -88,7 +88,7 @@ fn sets_of(items: usize) -> usize
 }
 
 // The weight of each set: the key with a digit 1 for each of its items.
-fn fill_weights(items: usize, weights: &mut [u64])
+pub(crate) fn fill_weights(items: usize, weights: &mut [u64])
     requires { ⌜ items ≤ 12 ⌝ }
     requires { ⌜ 2 ^ items ≤ length (now weights) ⌝ }
     ensures { λ _. ⌜ WeightsBelow items (2 ^ items) (now (weights .exit)) ⌝ }
@@ -119,7 +119,7 @@ fn move_keys(items: usize, shift: u64, weights: &[u64], keys: &[u64], moved: &mu
 }
 
 // Copies the entries of all sets.
-fn copy_entries(items: usize, from: &[u64], to: &mut [u64])
+pub(crate) fn copy_entries(items: usize, from: &[u64], to: &mut [u64])
     requires { ⌜ items ≤ 12 ⌝ }
     requires { ⌜ 2 ^ items ≤ length (now from) ⌝ }
     requires { ⌜ 2 ^ items ≤ length (now to) ⌝ }
@@ -134,7 +134,7 @@ fn copy_entries(items: usize, from: &[u64], to: &mut [u64])
 }
 
 // One core more: the value of each set on some cores becomes that on these and one core, whose rows are moved by `shift`.
-fn add_core(
+pub(crate) fn add_core(
     items: usize,
     shift: u64,
     weights: &[u64],

@@ -1,0 +1,55 @@
+-- `within_limits` answers for each of its four tests.
+use Rattle.search.specs.Limits.{tells-no, tells-yes}
+use borrow.Author.Needs.{needs}
+use Rattle.search.proofs.limits.within_limits.Statement.{statement}
+use Rattle.search.proofs.limits.within_limits.Tie as tie
+
+shape-within-requires : tie.Need-shape-within-requires
+shape-within-requires c κs = search needs
+
+returns : tie.Need-returns
+returns c = λ limits. tells-no (c .before .shape-within .result) (c .if1 .taken) (c .before .shape-within .ensures) (limits .shape-limited)
+
+long-enough-requires : tie.Need-long-enough-requires
+long-enough-requires c κs = tells-yes (c .before .shape-within .result) (c .if1 .left) (c .before .shape-within .ensures) .items
+
+returns-2 : tie.Need-returns-2
+returns-2 c = λ limits. tells-no (c .before .long-enough .result) (c .if2 .taken) (c .before .long-enough .ensures) (limits .long-enough)
+
+costs-within-requires : tie.Need-costs-within-requires
+costs-within-requires c κs =
+    let shaped = tells-yes (c .before .before .before .shape-within .result) (c .before .before .if1 .left) (c .before .before .before .shape-within .ensures) in
+    let long = tells-yes (c .before .long-enough .result) (c .if2 .left) (c .before .long-enough .ensures) in
+    (shaped .levels, (long .loads-for-all, long .costs-for-all))
+
+returns-3 : tie.Need-returns-3
+returns-3 c = λ limits. tells-no (c .before .costs-within .result) (c .if3 .taken) (c .before .costs-within .ensures) (limits .costs-limited)
+
+refusals-within-requires : tie.Need-refusals-within-requires
+refusals-within-requires c κs = tells-yes (c .before .before .before .long-enough .result) (c .before .before .if2 .left) (c .before .before .before .long-enough .ensures) .refusals-for-all
+
+returns-4 : tie.Need-returns-4
+returns-4 c = λ limits. tells-no (c .before .refusals-within .result) (c .if4 .taken) (c .before .refusals-within .ensures) (limits .refusals-limited)
+
+returns-5 : tie.Need-returns-5
+returns-5 c =
+    record {
+      shape-limited = tells-yes (c .before .before .before .before .before .before .before .shape-within .result) (c .before .before .before .before .before .before .if1 .left) (c .before .before .before .before .before .before .before .shape-within .ensures);
+      long-enough = tells-yes (c .before .before .before .before .before .long-enough .result) (c .before .before .before .before .if2 .left) (c .before .before .before .before .before .long-enough .ensures);
+      costs-limited = tells-yes (c .before .before .before .costs-within .result) (c .before .before .if3 .left) (c .before .before .before .costs-within .ensures);
+      refusals-limited = tells-yes (c .before .refusals-within .result) (c .if4 .left) (c .before .refusals-within .ensures);
+    }
+
+pub within-limits-spec : {M : Type 1} → statement M
+within-limits-spec =
+    tie.close
+    (tie.spec
+    shape-within-requires
+    returns
+    long-enough-requires
+    returns-2
+    costs-within-requires
+    returns-3
+    refusals-within-requires
+    returns-4
+    returns-5)

@@ -1,0 +1,107 @@
+-- From the code's choice to the best plan.
+use Prim.Native.Nat.{ℕ, _^_, _≤_, _<_}
+use mathlib.Core.Path.{_≡_, refl, sym, _∙_}
+use mathlib.Core.Logic.{inl, inr}
+use mathlib.Core.Bool.{Bool}
+use mathlib.Core.List.{List}
+use native.Mathlib.Nat.{zero-add}
+use native.Mathlib.Omega.{arith}
+use lib.ListN.{length}
+use Rattle.search.specs.Assignment.{Options, totalCost, Allowed, Best}
+use Rattle.search.specs.Values.{pair, Attained}
+use Rattle.search.specs.Words.{noCost, valueOf, words-none, words-pair}
+use Rattle.search.specs.Rows.{keyBase}
+use Rattle.search.specs.Partition.{bestOf}
+use Rattle.search.specs.Choice.{chosen, digits}
+use Rattle.search.specs.ChoiceLaws.{kept-set, chosen-least}
+use Rattle.search.specs.Keeping.{planKey, planWorth}
+use Rattle.search.specs.KeyLaws.{keeps-in-base, key-below}
+use Rattle.search.specs.SearchTheorem.{BestAnswers, search-finds-best}
+use Rattle.search.specs.Offered.{Affordable, offered}
+use Rattle.search.specs.OfferedLaws.{offered-searchable}
+use Rattle.search.specs.CoreLaws.{room-for-sets}
+use Rattle.search.specs.BestTables.{TableOf, Searchable}
+use Rattle.search.specs.BestFilled.{BestFits}
+use Rattle.search.specs.Holding.{chosenFrom, HoldingReady}
+use Rattle.search.specs.ChosenTables.{chosen-of-table}
+use Rattle.search.specs.Limits.{WithinLimits}
+use Rattle.search.specs.Found.{optionsOf}
+use Rattle.search.specs.declared.Shape.{Shape}
+
+-- what a chosen pair of cost and key says
+module _ (o : Options) (n : ℕ) (given : Searchable o n) (cost key : ℕ) (is : valueOf cost key ≡ chosen o) where
+  answers : BestAnswers o (valueOf cost key)
+  answers = rw is (search-finds-best o (given .some-core) (given .few-choices))
+
+  pub none-allowed : noCost ≤ cost → (plan : List ℕ) → ¬ (Allowed o plan)
+  none-allowed dear = rw (words-none cost key dear) at answers
+
+  pub best-found : cost < noCost → Best o (digits n key) × (totalCost (o .levels) (o .items) (digits n key) ≡ cost)
+  best-found real = rw (words-pair cost key real, given .items-counted) at answers
+
+  pub key-of-plan : cost < noCost → key < keyBase ^ n
+  unfolding planWorth
+  key-of-plan real = go (chosen-least o (given .some-core) .attained)
+    where
+      real-pair : pair cost key ≡ chosen o
+      real-pair = sym (words-pair cost key real) ∙ is
+
+      go : Attained (Allowed o) (planWorth o) (chosen o) → key < keyBase ^ n
+      go (inl e) = let z : _≡_ {A = ℕ} 0 1 = cc real-pair in absurd (omega arith)
+      go (inr (plan, allowed, e)) =
+          let same : key ≡ planKey (o .items) plan = cc real-pair in
+          let below = key-below (keeps-in-base (given .few-choices) (kept-set (allowed .choices) .keeps)) in
+          rw same (rw (given .items-counted) at below)
+
+module _ {shape : Shape} {load cost refusal : List ℕ} {must : List Bool} {plan : List ℕ}
+    (limits : WithinLimits shape load cost refusal must plan) where
+  affordable : Affordable (shape .items) (shape .levels) (shape .capacity) load cost
+  affordable =
+      record {
+        levels-limited = limits .shape-limited .levels;
+        capacity-limited = limits .shape-limited .capacity;
+        loads-for-all = limits .long-enough .loads-for-all;
+        costs-for-all = limits .long-enough .costs-for-all;
+        cheap = λ i l h under fits. limits .costs-limited i h l under fits;
+      }
+
+  pub searchable : Searchable (optionsOf shape load cost refusal must) (shape .items)
+  unfolding optionsOf
+  searchable =
+      offered-searchable load cost refusal must (limits .shape-limited .items) (limits .shape-limited .some-core)
+      (limits .shape-limited .cores) affordable
+
+  pub best-fits : {costs keys : List ℕ} → length costs ≡ 4096 → length keys ≡ 4096 → BestFits shape load cost costs keys
+  best-fits as-long keys-as-long =
+      let room = room-for-sets (limits .shape-limited .items) in
+      record {
+        items-limited = limits .shape-limited .items;
+        some-core = limits .shape-limited .some-core;
+        cores-limited = limits .shape-limited .cores;
+        affordable = affordable;
+        costs-for-all = omega arith;
+        keys-for-all = omega arith;
+      }
+
+  module _ {costs keys : List ℕ} (held : TableOf (shape .items) (bestOf (optionsOf shape load cost refusal must)) costs keys) where
+    pub holding-ready : {size : ℕ} → size ≡ 2 ^ shape .items → HoldingReady size 0 0 0 refusal must costs keys
+    holding-ready {size} all =
+        record {
+          left = shape .items;
+          is-power = all;
+          refusals-long = omega (arith, limits .long-enough .refusals-for-all);
+          musts-long = omega (arith, limits .long-enough .musts-for-all);
+          costs-long = omega (arith, held .costs-for-all);
+          keys-long = omega (arith, held .marks-for-all);
+          cost-bound = λ x h.
+              let few = limits .shape-limited .items in
+              let under : x < 2 ^ shape .items = omega arith in
+              rw zero-add (omega (arith, held .cost-bound x under));
+          refusal-bound = λ j h. rw zero-add (limits .refusals-limited j h);
+          refused-bound = let few = limits .shape-limited .items in omega arith;
+        }
+
+    pub chosen-is : (w key : ℕ) → valueOf w key ≡ chosenFrom refusal must costs keys (shape .items) 0 0 0 →
+        valueOf w key ≡ chosen (optionsOf shape load cost refusal must)
+    unfolding optionsOf offered
+    chosen-is w key is = is ∙ chosen-of-table load cost refusal must searchable refl held (limits .refusals-limited)

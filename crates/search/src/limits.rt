@@ -1,0 +1,149 @@
+// Whether the numbers are within the limits of the search.
+use crate::Shape;
+ghost use Prim.Native.Nat.{ℕ, _+_, _*_, _≤_, _<_};
+ghost use lib.ListN.{length, getD};
+ghost use Rattle.search.specs.Limits.{LongEnough, ShapeLimited, Tells, WithinLimits};
+ghost use Rattle.search.specs.Offered.{mostCost};
+ghost use Rattle.search.specs.OfferedLaws.{CheapAt};
+
+// 2^55
+const MOST_COST: u64 = 0x80_0000_0000_0000;
+
+fn shape_within(shape: Shape) -> bool
+    ensures { λ r. ⌜ Tells r (ShapeLimited shape) ⌝ }
+{
+    if 12 < shape.items {
+        return false;
+    }
+    if shape.cores < 1 {
+        return false;
+    }
+    if 4 < shape.cores {
+        return false;
+    }
+    if shape.levels < 1 {
+        return false;
+    }
+    if 8 < shape.levels {
+        return false;
+    }
+    if 4096 < shape.capacity {
+        return false;
+    }
+    true
+}
+
+// The numbers are lengths of slices.
+fn long_enough(
+    items: usize,
+    loads: usize,
+    costs: usize,
+    refusals: usize,
+    musts: usize,
+    room: usize,
+) -> bool
+    requires { ⌜ items ≤ 12 ⌝ }
+    ensures { λ r. ⌜ Tells r (LongEnough items loads costs refusals musts room) ⌝ }
+{
+    if loads < items * 8 {
+        return false;
+    }
+    if costs < items * 8 {
+        return false;
+    }
+    if refusals < items {
+        return false;
+    }
+    if musts < items {
+        return false;
+    }
+    if room < items {
+        return false;
+    }
+    true
+}
+
+// No level of item i that fits costs too much.
+fn item_within(i: usize, levels: usize, capacity: usize, load: &[u64], cost: &[u64]) -> bool
+    requires { ⌜ levels ≤ 8 ⌝ }
+    requires { ⌜ i * 8 + 8 ≤ length (now load) ⌝ }
+    requires { ⌜ i * 8 + 8 ≤ length (now cost) ⌝ }
+    ensures { λ r. ⌜ Tells r (CheapAt levels capacity (now (load .entry)) (now (cost .entry)) i) ⌝ }
+{
+    let mut l = 0;
+    while l < levels {
+        let at = i * 8 + l;
+        if load[at] <= capacity as u64 {
+            if MOST_COST < cost[at] {
+                return false;
+            }
+        }
+        l += 1;
+    }
+    true
+}
+
+fn costs_within(shape: Shape, load: &[u64], cost: &[u64]) -> bool
+    requires { ⌜ shape .levels ≤ 8 ⌝ }
+    requires { ⌜ shape .items * 8 ≤ length (now load) ⌝ }
+    requires { ⌜ shape .items * 8 ≤ length (now cost) ⌝ }
+    ensures { λ r. ⌜ Tells r ((i : ℕ) → i < shape .items →
+        CheapAt (shape .levels) (shape .capacity) (now (load .entry)) (now (cost .entry)) i) ⌝ }
+{
+    let mut i = 0;
+    while i < shape.items {
+        if !item_within(i, shape.levels, shape.capacity, load, cost) {
+            return false;
+        }
+        i += 1;
+    }
+    true
+}
+
+fn refusals_within(items: usize, refusal: &[u64]) -> bool
+    requires { ⌜ items ≤ length (now refusal) ⌝ }
+    ensures { λ r. ⌜ Tells r ((i : ℕ) → i < items → getD (now (refusal .entry)) i 0 ≤ mostCost) ⌝ }
+{
+    let mut i = 0;
+    while i < items {
+        if MOST_COST < refusal[i] {
+            return false;
+        }
+        i += 1;
+    }
+    true
+}
+
+pub(crate) fn within_limits(
+    shape: Shape,
+    load: &[u64],
+    cost: &[u64],
+    refusal: &[u64],
+    must: &[bool],
+    plan: &[u32],
+) -> bool
+    ensures { λ r. ⌜ Tells r
+        (WithinLimits shape (now (load .entry)) (now (cost .entry)) (now (refusal .entry)) (now (must .entry)) (now (plan .entry))) ⌝ }
+{
+    if !shape_within(shape) {
+        return false;
+    }
+    let items = shape.items;
+    if !long_enough(
+        items,
+        load.len(),
+        cost.len(),
+        refusal.len(),
+        must.len(),
+        plan.len(),
+    ) {
+        return false;
+    }
+    if !costs_within(shape, load, cost) {
+        return false;
+    }
+    if !refusals_within(items, refusal) {
+        return false;
+    }
+    true
+}
