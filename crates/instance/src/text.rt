@@ -1,4 +1,5 @@
 // From text to words: numbers are taken from the text one after another.
+use crate::reader::next_number;
 use crate::refusal::Refusal;
 use crate::refusal::TextRead;
 ghost use mathlib.Core.Bool.{false};
@@ -93,7 +94,7 @@ fn count_words(text: &[u8]) -> TextRead
     let mut at = 0;
     let mut count = 0;
     loop {
-        match number_at(text, at) {
+        match next_number(text, at) {
             Token::Number(_, next) => {
                 at = next;
                 count += 1;
@@ -116,7 +117,7 @@ fn write_words(text: &[u8], words: &mut [u32])
     let mut at = 0;
     let mut written = 0;
     loop {
-        match number_at(text, at) {
+        match next_number(text, at) {
             Token::Number(word, next) => {
                 words[written] = word;
                 at = next;

@@ -21,13 +21,13 @@ taken :
     let text = c .before .before .before .before .before .before .args .text .now in
     let token = c .before .next .given .0 in
     NumberTaken text (c .before .before .before .before .loop .at) (token .0) (token .1 .0)
-taken c = token-says _ _ (sym (c .before .before .before .number-at .ensures) ∙ c .before .next .given .1)
+taken c = token-says _ _ (sym (c .before .before .before .next-number .ensures) ∙ c .before .next .given .1)
 
 loop-holds : tie.Need-loop-holds Inv-loop μ-loop
 loop-holds c = nothing-passed _
 
-number-at-requires : tie.Need-number-at-requires Inv-loop μ-loop
-number-at-requires c κs = search needs
+next-number-requires : tie.Need-next-number-requires Inv-loop μ-loop
+next-number-requires c κs = search needs
 
 enum-known-next : tie.Need-enum-known-next Inv-loop μ-loop
 enum-known-next c = search needs
@@ -46,7 +46,7 @@ enum-told c = search needs
 
 returns : tie.Need-returns Inv-loop μ-loop
 returns c =
-    let is-end = sym (c .before .before .number-at .ensures) ∙ c .enum-told .given .1 in
+    let is-end = sym (c .before .before .next-number .ensures) ∙ c .enum-told .given .1 in
     all-counted _ _ _ (c .before .before .before .loop .inv) (token-says _ _ is-end)
 
 enum-known-place : tie.Need-enum-known-place Inv-loop μ-loop
@@ -54,7 +54,7 @@ enum-known-place c = search needs
 
 returns-2 : tie.Need-returns-2 Inv-loop μ-loop
 returns-2 c =
-    let is-fault = sym (c .before .before .before .number-at .ensures) ∙ c .before .place .given .1 in
+    let is-fault = sym (c .before .before .before .next-number .ensures) ∙ c .before .place .given .1 in
     fault-is-first _ _ _ (c .before .before .before .before .loop .inv) _ (token-says _ _ is-fault)
 
 pub count-words-spec : {M : Type 1} → statement M
@@ -64,7 +64,7 @@ count-words-spec =
     Inv-loop
     μ-loop
     loop-holds
-    number-at-requires
+    next-number-requires
     enum-known-next
     add-count
     loop-less

@@ -20,13 +20,13 @@ taken :
     let text = c .before .before .before .before .before .before .before .args .text .now in
     let token = c .before .word .given .0 in
     NumberTaken text (c .before .before .before .before .loop .at) (token .0) (token .1 .0)
-taken c = token-says _ _ (sym (c .before .before .before .number-at .ensures) ∙ c .before .word .given .1)
+taken c = token-says _ _ (sym (c .before .before .before .next-number .ensures) ∙ c .before .word .given .1)
 
 loop-holds : tie.Need-loop-holds Inv-loop μ-loop
 loop-holds c = nothing-written _ _
 
-number-at-requires : tie.Need-number-at-requires Inv-loop μ-loop
-number-at-requires c κs = search needs
+next-number-requires : tie.Need-next-number-requires Inv-loop μ-loop
+next-number-requires c κs = search needs
 
 enum-known-word : tie.Need-enum-known-word Inv-loop μ-loop
 enum-known-word c = search needs
@@ -63,7 +63,7 @@ same-length c = search needs
 
 returns : tie.Need-returns Inv-loop μ-loop
 returns c =
-    let is-end = sym (c .before .before .number-at .ensures) ∙ c .enum-told .given .1 in
+    let is-end = sym (c .before .before .next-number .ensures) ∙ c .enum-told .given .1 in
     let writable = c .before .before .before .before .before .before .pre in
     all-written _ _ _ _ _ writable (c .before .before .before .loop .inv) (token-says _ _ is-end)
 
@@ -75,7 +75,7 @@ same-length-2 c = search needs
 
 returns-2 : tie.Need-returns-2 Inv-loop μ-loop
 returns-2 c =
-    let is-fault = sym (c .before .before .number-at .ensures) ∙ c .enum-told2 .given .1 in
+    let is-fault = sym (c .before .before .next-number .ensures) ∙ c .enum-told2 .given .1 in
     let writable = c .before .before .before .before .before .before .pre in
     absurd (no-fault-left _ _ _ _ _ writable (c .before .before .before .loop .inv) _ (token-says _ _ is-fault))
 
@@ -86,7 +86,7 @@ write-words-spec =
     Inv-loop
     μ-loop
     loop-holds
-    number-at-requires
+    next-number-requires
     enum-known-word
     mul-words
     slice-write-words
