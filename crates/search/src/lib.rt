@@ -6,6 +6,7 @@ mod partition;
 mod row;
 mod rows;
 mod value;
+
 use best::fill_best;
 use choice::least_holding;
 use choice::write_plan;
