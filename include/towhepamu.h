@@ -1,0 +1,141 @@
+/*
+ * Towhepamu: plans and slot tables for a node with clock levels, for a desk program in C.
+ *
+ * A site file says which cores and clock levels a node has and which tasks wait for them. Planning
+ * decides which task runs on which core at which level and which is refused, at the least cost, and
+ * draws the slot table of every core. Checking tells whether a given plan and table serve every
+ * job.
+ *
+ * A site file is text, numbers in base ten parted by spaces and line feeds:
+ *   3, energy weight 1 to 1,000, penalty weight 1 to 1,000, cores 1 to 4;
+ *   how many levels, 1 to 8; for each its speed and its power, 1 to 65,535, both rising strictly;
+ *   how many tasks, 0 to 12; for each its period in ticks, 1 to 4,096, its cycles a job, 1 to
+ *   100,000,000, and its penalty a job, 1 to 1,000,000, or 4,294,967,295 if it may not be refused.
+ *
+ * Link with libdesk.a. A call keeps nothing and prints nothing; several threads may call at once as
+ * long as they share no result buffer.
+ */
+#ifndef TOWHEPAMU_H
+#define TOWHEPAMU_H
+
+#include <stddef.h>
+#include <stdint.h>
+
+#ifdef __cplusplus
+extern "C" {
+#endif
+
+/* The longest site file that is read, in bytes. */
+#define TOWHEPAMU_MOST_TEXT_BYTES 4096
+
+/* The most tasks of a site: a plan buffer of this length is never too short. */
+#define TOWHEPAMU_MOST_TASKS 12
+
+/* Four cores of 4,096 slots: a table buffer of this length is never too short. */
+#define TOWHEPAMU_MOST_TABLE_BYTES (4 * 4096)
+
+/* The stack that a call must find free, in bytes. */
+#define TOWHEPAMU_STACK_BYTES (2 * 1024 * 1024)
+
+/* Why a call was refused, and what `place` then says. */
+enum towhepamu_refusal {
+    /* Not refused; the place is 0. */
+    TOWHEPAMU_ACCEPTED = 0,
+
+    /* The text has a byte other than a digit, a space or a line feed, a number above 4,294,967,295,
+       or a byte beyond the 4,096th. Place: the offset of that byte, or of the number's first digit;
+       the lowest of all. A number's digits count only up to the 4,096th byte. */
+    TOWHEPAMU_TEXT = 1,
+
+    /* The numbers end early, or some are left over. Place: the index of the first missing or the
+       first extra number, from 0. */
+    TOWHEPAMU_WORDS = 2,
+
+    /* A number, a count included, is outside its range, or a speed or power does not rise. Place:
+       its index, from 0. */
+    TOWHEPAMU_RANGE = 3,
+
+    /* A period brings the span, the least common multiple of the periods, over 4,096. Place: the
+       index of that period among the numbers, from 0. */
+    TOWHEPAMU_SPAN = 4,
+
+    /* No plan keeps every task that may not be refused with all cores fitting. Place: 0. */
+    TOWHEPAMU_NO_PLAN = 5,
+
+    /* A lent result buffer is too short. Place: the length that it needs, in bytes. */
+    TOWHEPAMU_BUFFER = 6,
+
+    /* The given plan has another length than there are tasks; or a choice is above cores x levels,
+       or is 0 for a task that may not be refused. Place: the smaller of the two lengths; or the
+       first such task's index, from 0. */
+    TOWHEPAMU_CHOICES = 7,
+
+    /* A core of a given plan does not fit. Neither call below returns this one. Place: the lowest
+       such core, from 1. */
+    TOWHEPAMU_OVERLOAD = 8,
+
+    /* The given table has another length than cores x span; or a slot other than 0 names no task
+       that the plan keeps on that slot's core. Place: the smaller of the two lengths; or the first
+       such slot's index, from 0. */
+    TOWHEPAMU_SLOTS = 9,
+
+    /* A job has more or fewer slots than its ticks between its release and its due tick. Place: the
+       number of the lowest such task, from 1. */
+    TOWHEPAMU_JOB = 10
+};
+
+/* What planning answers. Where it refuses, energy, penalty and cost are 0. */
+typedef struct {
+    uint64_t refusal; /* an enum towhepamu_refusal; 0 where there is a plan */
+    uint64_t place;   /* what the refusal says of it; 0 where there is a plan */
+    uint64_t energy;  /* of the kept tasks in one span, not weighted */
+    uint64_t penalty; /* of the refused tasks in one span, not weighted */
+    uint64_t cost;    /* energy weight x energy + penalty weight x penalty */
+} towhepamu_planned;
+
+/* What checking answers. */
+typedef struct {
+    uint64_t refusal; /* an enum towhepamu_refusal; 0 where plan and table pass */
+    uint64_t place;   /* what the refusal says of it; 0 where plan and table pass */
+} towhepamu_checked;
+
+/*
+ * For both calls. `text` is the site file, `text_len` bytes. `plan` has one byte a task: 0 where
+ * the task is refused, else (core - 1) x levels + level, cores and levels from 1. `table` has one
+ * byte a slot, the span's slots of core 1 first, then those of core 2 and so on: the task that runs
+ * in that tick, from 1, or 0 for an idle tick.
+ *
+ * Every pointer points to as many bytes as its length says and is not null, even where that is 0.
+ * A result buffer overlaps no other buffer of the call.
+ */
+
+/*
+ * Plans the site of `text`: the plan of least cost, among equal costs the one whose first differing
+ * choice is smaller, and its table, each core by earliest due tick and then lower task number.
+ *
+ * Tested in this order: TEXT; then, number by number, WORDS, RANGE and SPAN; BUFFER, the plan's
+ * before the table's; NO_PLAN. A refused call changes no byte of `plan` and `table`. An accepted
+ * one writes as many bytes of `plan` as there are tasks and cores x span bytes of `table`, each
+ * from the front, and no others. To learn one of these two lengths, lend that buffer empty and the
+ * other one at its most: BUFFER's place tells it. (With no task an empty plan is long enough.)
+ */
+towhepamu_planned towhepamu_plan(const uint8_t *text, size_t text_len, uint8_t *plan,
+                                 size_t plan_len, uint8_t *table, size_t table_len);
+
+/*
+ * Checks a given plan and table for the site of `text`, wherever they come from. They pass when
+ * every job of a kept task has exactly its ticks as slots of its core between its release and its
+ * due tick, and every other slot is 0. Rows need not run the earliest due first, nor need the plan
+ * be the cheapest.
+ *
+ * Tested in this order: TEXT; then, number by number, WORDS, RANGE and SPAN; CHOICES and SLOTS,
+ * each with the length first; JOB. It writes nothing.
+ */
+towhepamu_checked towhepamu_check(const uint8_t *text, size_t text_len, const uint8_t *plan,
+                                  size_t plan_len, const uint8_t *table, size_t table_len);
+
+#ifdef __cplusplus
+}
+#endif
+
+#endif
