@@ -1,0 +1,274 @@
+#include "generate.h"
+#include <string.h>
+
+static uint32_t between(generator *g, uint32_t least, uint32_t most) {
+    return (uint32_t)draw_between(g, least, most);
+}
+
+static uint32_t clamp(uint64_t number, uint32_t least, uint32_t most) {
+    return number < least ? least : number > most ? most : (uint32_t)number;
+}
+
+/* ---- Sites ---- */
+
+static void draw_levels(generator *g, reference_instance *in) {
+    static const reference_level xscale[] = {
+        {150, 80}, {400, 170}, {600, 400}, {800, 900}, {1000, 1600}};
+    bool proportional = one_in(g, 4), wide = one_in(g, 2), known = in->levels <= 5 && one_in(g, 4);
+    uint32_t step = wide && !proportional ? 65535 / in->levels : 3, factor = between(g, 1, 5);
+    reference_level below = {0, 0};
+    for (size_t l = 0; l < in->levels; l++) {
+        reference_level *level = &in->level[l];
+        level->speed = below.speed + between(g, 1, step);
+        level->power = below.power + between(g, 1, step);
+        if (proportional)
+            level->power = factor * level->speed;
+        if (known)
+            *level = xscale[l];
+        below = *level;
+    }
+}
+
+static uint32_t draw_span(generator *g, uint32_t most) {
+    static const uint32_t spans[] = {1,   2,   3,   4,    6,    8,    10,   12,   20,   24,
+                                     30,  36,  60,  64,   96,   100,  120,  180,  240,  360,
+                                     512, 720, 840, 1024, 1440, 2048, 2520, 3600, 4095, 4096};
+    size_t count = 0;
+    while (count < sizeof spans / sizeof spans[0] && spans[count] <= most)
+        count++;
+    return spans[draw(g, count)];
+}
+
+static uint32_t draw_divisor(generator *g, uint32_t number) {
+    if (one_in(g, 3))
+        return number;
+    uint32_t divisor = between(g, 1, number);
+    while (number % divisor != 0)
+        divisor++;
+    return divisor;
+}
+
+/* Cycles that take about that many ticks at a level, often exactly. */
+static uint32_t draw_cycles(generator *g, uint64_t ticks, uint32_t speed) {
+    return clamp(ticks * speed - (one_in(g, 2) ? 0 : draw(g, speed)), 1, 100000000);
+}
+
+/* Often just what keeping the task costs at some level, give or take one. */
+static uint32_t draw_penalty(generator *g, const reference_instance *in, uint32_t cycles) {
+    const reference_level *level = &in->level[draw(g, in->levels)];
+    uint64_t energy = (uint64_t)(cycles + level->speed - 1) / level->speed * level->power;
+    switch (draw(g, 6)) {
+    case 0:
+        return between(g, 1, 100);
+    case 1:
+        return one_in(g, 2) ? 1 : 1000000;
+    default:
+        energy = energy * in->energy_weight / in->penalty_weight;
+        return clamp(energy + draw(g, 3), 2, 1000001) - 1;
+    }
+}
+
+/* Tasks drawn one by one. `heavy` from 1 (light) to 8 (many fit at no level). */
+static void draw_tasks(generator *g, reference_instance *in, uint32_t heavy) {
+    uint32_t musts = between(g, 0, 4);
+    for (size_t i = 0; i < in->tasks; i++) {
+        reference_task *task = &in->task[i];
+        if (i > 0 && one_in(g, 4)) {
+            *task = in->task[draw(g, i)];
+            continue;
+        }
+        task->period = draw_divisor(g, in->span);
+        uint64_t ticks = draw_between(g, 1, 1 + (uint64_t)task->period * heavy / 4);
+        uint32_t speed = in->level[one_in(g, 2) ? in->levels - 1 : draw(g, in->levels)].speed;
+        task->cycles = draw_cycles(g, ticks, speed);
+        task->penalty = draw(g, 4) < musts ? MUST : draw_penalty(g, in, task->cycles);
+    }
+}
+
+/* Tasks that fill some cores to the last tick at top speed; sometimes one cycle too many. */
+static void draw_full_cores(generator *g, reference_instance *in) {
+    uint32_t room[MOST_CORES], top = in->level[in->levels - 1].speed;
+    for (size_t c = 0; c < in->cores; c++)
+        room[c] = in->span;
+    for (size_t i = 0; i < in->tasks; i++) {
+        reference_task *task = &in->task[i];
+        uint32_t *core = &room[draw(g, in->cores)];
+        task->period = draw_divisor(g, in->span);
+        uint32_t jobs = in->span / task->period, most = *core / jobs;
+        uint32_t ticks = most == 0 ? 1 : one_in(g, 2) ? most : between(g, 1, most);
+        *core -= most == 0 ? 0 : jobs * ticks;
+        task->cycles = clamp((uint64_t)ticks * top, 1, 100000000);
+        task->penalty = one_in(g, 8) ? draw_penalty(g, in, task->cycles) : MUST;
+    }
+    if (in->tasks > 0 && one_in(g, 3)) {
+        uint32_t *cycles = &in->task[draw(g, in->tasks)].cycles;
+        *cycles = clamp(*cycles + 1, 1, 100000000);
+    }
+}
+
+static size_t list_words(const reference_instance *in, uint32_t *words) {
+    size_t n = 0;
+    words[n++] = 3;
+    words[n++] = in->energy_weight;
+    words[n++] = in->penalty_weight;
+    words[n++] = in->cores;
+    words[n++] = in->levels;
+    for (size_t l = 0; l < in->levels; l++) {
+        words[n++] = in->level[l].speed;
+        words[n++] = in->level[l].power;
+    }
+    words[n++] = in->tasks;
+    for (size_t i = 0; i < in->tasks; i++) {
+        words[n++] = in->task[i].period;
+        words[n++] = in->task[i].cycles;
+        words[n++] = in->task[i].penalty;
+    }
+    return n;
+}
+
+size_t draw_site(generator *g, site_limits limits, uint32_t *words) {
+    reference_instance in;
+    bool weighted = one_in(g, 4);
+    in.energy_weight = weighted ? between(g, 1, 1000) : 1;
+    in.penalty_weight = weighted ? between(g, 1, 1000) : 1;
+    in.cores = between(g, 1, limits.most_cores);
+    in.levels = between(g, 1, limits.most_levels);
+    in.tasks = between(g, 0, limits.most_tasks);
+    in.span = draw_span(g, limits.most_span);
+    draw_levels(g, &in);
+    if (one_in(g, 4))
+        draw_full_cores(g, &in);
+    else
+        draw_tasks(g, &in, between(g, 1, 8));
+    return list_words(&in, words);
+}
+
+/* ---- Damage to words ---- */
+
+static void insert_word(uint32_t *words, size_t *count, size_t at, uint32_t word) {
+    memmove(words + at + 1, words + at, (*count - at) * sizeof *words);
+    words[at] = word;
+    ++*count;
+}
+
+/* A word at, or one beyond, some end of a range. */
+static uint32_t draw_edge(generator *g) {
+    static const uint32_t ends[] = {0,    1,    3,     4,       8,         12,
+                                    1000, 4096, 65535, 1000000, 100000000, UINT32_MAX};
+    return ends[draw(g, sizeof ends / sizeof ends[0])] + between(g, 0, 2) - 1;
+}
+
+void damage_words(generator *g, uint32_t *words, size_t *count) {
+    if (*count == 0)
+        return;
+    size_t at = draw(g, *count);
+    switch (draw(g, 8)) {
+    case 0:
+        *count = at;
+        break;
+    case 1:
+        insert_word(words, count, at, words[draw(g, *count)]);
+        break;
+    case 2:
+        memmove(words + at, words + at + 1, (--*count - at) * sizeof *words);
+        break;
+    case 3:
+        for (size_t n = one_in(g, 20) ? draw_between(g, 1, 2500) : draw_between(g, 1, 3); n > 0;
+             n--)
+            insert_word(words, count, *count, between(g, 0, 9));
+        break;
+    case 4:
+        words[at] = words[at < 2 ? at : at - 2]; /* a speed or power that does not rise */
+        break;
+    case 5:
+        words[at] = between(g, 1, 4096); /* as a period, mostly too much for the span */
+        break;
+    default:
+        words[at] = draw_edge(g);
+    }
+}
+
+/* ---- Text ---- */
+
+static size_t draw_blanks(generator *g, size_t least, uint8_t *text) {
+    size_t n = draw_between(g, least, one_in(g, 8) ? 8 : 2);
+    for (size_t i = 0; i < n; i++)
+        text[i] = one_in(g, 3) ? '\n' : ' ';
+    return n;
+}
+
+static size_t write_number(uint32_t number, uint8_t *text) {
+    size_t digits = number < 10 ? 0 : write_number(number / 10, text);
+    text[digits] = (uint8_t)('0' + number % 10);
+    return digits + 1;
+}
+
+size_t write_text(generator *g, const uint32_t *words, size_t count, bool odd, uint8_t *text) {
+    size_t n = odd ? draw_blanks(g, 0, text) : 0;
+    for (size_t i = 0; i < count; i++) {
+        if (i > 0 && odd)
+            n += draw_blanks(g, 1, text + n);
+        else if (i > 0)
+            text[n++] = ' ';
+        for (size_t zeros = odd && one_in(g, 4) ? draw(g, 6) : 0; zeros > 0; zeros--)
+            text[n++] = '0';
+        n += write_number(words[i], text + n);
+    }
+    return odd ? n + draw_blanks(g, 0, text + n) : n;
+}
+
+/* ---- Damage to text ---- */
+
+static void insert_bytes(uint8_t *text, size_t *text_len, size_t at, uint8_t byte, size_t n) {
+    memmove(text + at + n, text + at, *text_len - at);
+    memset(text + at, byte, n);
+    *text_len += n;
+}
+
+/* Mostly a blank, a digit or a byte next to these; else any byte. */
+static uint8_t draw_byte(generator *g) {
+    static const uint8_t near[] = " \n0123456789/:\t\r\v.-+,\0\x1f!";
+    return one_in(g, 4) ? (uint8_t)draw(g, 256) : near[draw(g, sizeof near)];
+}
+
+/* Lengthens the text to about the 4,096 bytes that are read. */
+static void pad_text(generator *g, uint8_t *text, size_t *text_len, size_t at) {
+    static const uint8_t padding[] = " \n09";
+    size_t wanted = one_in(g, 4) ? draw_between(g, 4000, 9000) : draw_between(g, 4093, 4099);
+    if (*text_len < wanted)
+        insert_bytes(text, text_len, at, padding[draw(g, 4)], wanted - *text_len);
+}
+
+void damage_text(generator *g, uint8_t *text, size_t *text_len) {
+    size_t at = draw(g, *text_len + 1);
+    switch (draw(g, 8)) {
+    case 0:
+        *text_len = at;
+        break;
+    case 1:
+        insert_bytes(text, text_len, at, draw_byte(g), 1);
+        break;
+    case 2:
+        insert_bytes(text, text_len, at, one_in(g, 2) ? '0' : '9', draw_between(g, 1, 30));
+        break;
+    case 3:
+        pad_text(g, text, text_len, one_in(g, 2) ? at : *text_len);
+        at = *text_len > 8 ? *text_len - draw(g, 8) : 0;
+        if (one_in(g, 2) && at < *text_len)
+            text[at] = draw_byte(g);
+        break;
+    case 4:
+        pad_text(g, text, text_len, one_in(g, 2) ? 0 : *text_len);
+        break;
+    case 5: { /* the first number that is too large, with or without leading zeros, or just not */
+        static const uint8_t limit[] = " 0004294967296 ";
+        insert_bytes(text, text_len, at, ' ', sizeof limit - 1);
+        memcpy(text + at, limit, sizeof limit - 1);
+        text[at + 13] = (uint8_t)draw_between(g, '4', '7');
+        break;
+    }
+    default:
+        if (at < *text_len)
+            text[at] = draw_byte(g);
+    }
+}

@@ -1,0 +1,30 @@
+/* Sites, texts and damage to them, for the comparisons. */
+#ifndef GENERATE_H
+#define GENERATE_H
+
+#include "draw.h"
+#include "reference.h"
+
+enum { MOST_DRAWN_WORDS = 3000, MOST_DRAWN_TEXT = 80000 };
+
+typedef struct {
+    uint32_t most_cores, most_levels, most_tasks, most_span;
+} site_limits;
+
+/*
+ * The words of a site within the limits, which reads without refusal. It is drawn to be close to
+ * the edges: ties between levels, cores and penalties, equal tasks, cores that are just full or
+ * just over, tasks that fit nowhere.
+ */
+size_t draw_site(generator *g, site_limits limits, uint32_t *words);
+
+/* One wrong, missing or extra word, or a few; MOST_DRAWN_WORDS at most. */
+void damage_words(generator *g, uint32_t *words, size_t *count);
+
+/* The words as text; where `odd` with leading zeros and any spaces and line feeds in between. */
+size_t write_text(generator *g, const uint32_t *words, size_t count, bool odd, uint8_t *text);
+
+/* Wrong bytes, too large numbers, cut or overlong text; MOST_DRAWN_TEXT bytes at most. */
+void damage_text(generator *g, uint8_t *text, size_t *text_len);
+
+#endif

@@ -1,0 +1,55 @@
+/* K1 to K13 of document 01, with what planning answers and the table that it draws. */
+#ifndef KNOWN_H
+#define KNOWN_H
+
+#include "towhepamu.h"
+
+typedef struct {
+    const char *name, *text;
+    size_t tasks, slots; /* how long plan and table must be; 0 where the text is refused */
+    towhepamu_planned answer;
+    const char *choices; /* a digit a task */
+    const char *table;   /* a digit a slot */
+} known_case;
+
+#define XSCALE " 5 150 80 400 170 600 400 800 900 1000 1600 "
+
+/* clang-format off */
+static const known_case known_cases[] = {
+    {"K1", "3 1 1 1" XSCALE "2 10 2400 5000 20 6000 3000", 2, 20,
+     {0, 0, 2040, 3000, 5040}, "20", "11111100001111110000"},
+    {"K2", "3 1 1 1" XSCALE "2 10 2400 5000 20 6000 4294967295", 2, 20,
+     {0, 0, 7200, 0, 7200}, "33", "11112222221111222200"},
+    {"K3", "3 1 1 2" XSCALE "2 10 2400 5000 20 6000 3000", 2, 40,
+     {0, 0, 4590, 0, 4590}, "27", "1111110000111111000022222222222222200000"},
+    {"K4", "3 1 1 1" XSCALE "1 10 2400 1020", 1, 10,
+     {0, 0, 0, 1020, 1020}, "0", "0000000000"},
+    {"K5", "3 1 1 1" XSCALE "1 10 2400 1021", 1, 10,
+     {0, 0, 1020, 0, 1020}, "2", "1111110000"},
+    {"K6", "3 1 1 2" XSCALE "0", 0, 2,
+     {0, 0, 0, 0, 0}, "", "00"},
+    {"K7", "3 1 1 1" XSCALE "1 10 10000 4294967295", 1, 10,
+     {0, 0, 16000, 0, 16000}, "5", "1111111111"},
+    {"K8", "3 1 1 1" XSCALE "1 10 10001 4294967295", 1, 10,
+     {5, 0, 0, 0, 0}, "", ""},
+    {"K9", "3 1 1 1" XSCALE "2 2 1000 4294967295 2 1000 4294967295", 2, 2,
+     {0, 0, 3200, 0, 3200}, "55", "12"},
+    {"K10", "3 1 1 1" XSCALE "2 2 1000 4294967295 2 1001 4294967295", 2, 2,
+     {5, 0, 0, 0, 0}, "", ""},
+    {"K11", "3 1 1 1  1 1 1  2 4095 1 1 2 1 1", 0, 0,
+     {4, 11, 0, 0, 0}, "", ""},
+    {"K12", "3 1 1 1  1 1 1  2 64 1 1 4096 1 1", 2, 4096,
+     {0, 0, 0, 65, 65}, "00", NULL}, /* refused at equal cost: 4,096 idle slots */
+    {"K13", "3 2 8 1" XSCALE "2 10 2400 5000 20 6000 3000", 2, 20,
+     {0, 0, 7200, 0, 14400}, "33", "11112222221111222200"},
+};
+/* clang-format on */
+
+enum { KNOWN_CASES = sizeof known_cases / sizeof known_cases[0] };
+
+/* The slot of a known table. */
+static inline uint8_t known_slot(const known_case *known, size_t slot) {
+    return known->table == NULL ? 0 : (uint8_t)(known->table[slot] - '0');
+}
+
+#endif

@@ -1,0 +1,72 @@
+/*
+ * Document 01 in plain C, written from the paper alone: what the archive is compared with and timed
+ * against. Choices and slots are bytes, as at the C interface.
+ */
+#ifndef REFERENCE_H
+#define REFERENCE_H
+
+#include "towhepamu.h"
+#include <stdbool.h>
+
+enum {
+    MOST_CORES = 4,
+    MOST_LEVELS = 8,
+    MOST_TASKS = TOWHEPAMU_MOST_TASKS,
+    MOST_SPAN = 4096,
+    MOST_WORDS = TOWHEPAMU_MOST_TEXT_BYTES / 2, /* of a text: a digit in every second byte */
+    MOST_INSTANCE_WORDS = 4 + (1 + 2 * MOST_LEVELS) + (1 + 3 * MOST_TASKS)
+};
+
+/* The penalty of a task that may not be refused. */
+#define MUST UINT32_MAX
+
+typedef struct {
+    uint32_t speed, power;
+} reference_level;
+
+typedef struct {
+    uint32_t period, cycles, penalty;
+} reference_task;
+
+typedef struct {
+    uint32_t energy_weight, penalty_weight, cores, levels, tasks, span;
+    reference_level level[MOST_LEVELS];
+    reference_task task[MOST_TASKS];
+} reference_instance;
+
+/* Text to words: refusals 1, 6. `count` is set where accepted. */
+towhepamu_checked reference_words(const uint8_t *text, size_t text_len, uint32_t *words,
+                                  size_t words_len, size_t *count);
+
+/* Words to instance: refusals 2, 3, 4. `instance` is whole only where accepted. */
+towhepamu_checked reference_read(const uint32_t *words, size_t count, reference_instance *instance);
+
+/* Jobs of a task in a span; ticks of a job at a level; both from 0. */
+uint64_t reference_jobs(const reference_instance *instance, size_t task);
+uint64_t reference_ticks(const reference_instance *instance, size_t task, size_t level);
+
+/* Energy, penalty and cost of a given plan: refusals 7, 8. */
+towhepamu_planned reference_price(const reference_instance *instance, const uint8_t *plan,
+                                  size_t plan_len);
+
+/* The table of a given plan: refusals 6, 7, 8. */
+towhepamu_checked reference_tabulate(const reference_instance *instance, const uint8_t *plan,
+                                     size_t plan_len, uint8_t *table, size_t table_len);
+
+/* The check of a given plan and table: refusals 7, 9, 10. */
+towhepamu_checked reference_check_table(const reference_instance *instance, const uint8_t *plan,
+                                        size_t plan_len, const uint8_t *table, size_t table_len);
+
+/* The best plan, by rows over subsets and by trying every plan; false where there is none. */
+bool reference_best(const reference_instance *instance, uint8_t plan[MOST_TASKS]);
+bool reference_best_exhaustive(const reference_instance *instance, uint8_t plan[MOST_TASKS]);
+
+/* towhepamu_plan and towhepamu_check; and planning again, for small sites, by trying every plan. */
+towhepamu_planned reference_plan(const uint8_t *text, size_t text_len, uint8_t *plan,
+                                 size_t plan_len, uint8_t *table, size_t table_len);
+towhepamu_planned reference_plan_exhaustive(const uint8_t *text, size_t text_len, uint8_t *plan,
+                                            size_t plan_len, uint8_t *table, size_t table_len);
+towhepamu_checked reference_check(const uint8_t *text, size_t text_len, const uint8_t *plan,
+                                  size_t plan_len, const uint8_t *table, size_t table_len);
+
+#endif
