@@ -133,7 +133,7 @@ size_t draw_site(generator *g, site_limits limits, uint32_t *words) {
     in.penalty_weight = weighted ? between(g, 1, 1000) : 1;
     in.cores = between(g, 1, limits.most_cores);
     in.levels = between(g, 1, limits.most_levels);
-    in.tasks = between(g, 0, limits.most_tasks);
+    in.tasks = between(g, limits.least_tasks, limits.most_tasks);
     in.span = draw_span(g, limits.most_span);
     draw_levels(g, &in);
     if (one_in(g, 4))
@@ -155,7 +155,8 @@ static void insert_word(uint32_t *words, size_t *count, size_t at, uint32_t word
 static uint32_t draw_edge(generator *g) {
     static const uint32_t ends[] = {0,    1,    3,     4,       8,         12,
                                     1000, 4096, 65535, 1000000, 100000000, UINT32_MAX};
-    return ends[draw(g, sizeof ends / sizeof ends[0])] + between(g, 0, 2) - 1;
+    uint32_t end = ends[draw(g, sizeof ends / sizeof ends[0])];
+    return end + between(g, 0, 2) - 1;
 }
 
 void damage_words(generator *g, uint32_t *words, size_t *count) {
@@ -240,7 +241,7 @@ static void pad_text(generator *g, uint8_t *text, size_t *text_len, size_t at) {
 }
 
 void damage_text(generator *g, uint8_t *text, size_t *text_len) {
-    size_t at = draw(g, *text_len + 1);
+    size_t at = draw(g, *text_len + 1), n;
     switch (draw(g, 8)) {
     case 0:
         *text_len = at;
@@ -249,7 +250,8 @@ void damage_text(generator *g, uint8_t *text, size_t *text_len) {
         insert_bytes(text, text_len, at, draw_byte(g), 1);
         break;
     case 2:
-        insert_bytes(text, text_len, at, one_in(g, 2) ? '0' : '9', draw_between(g, 1, 30));
+        n = draw_between(g, 1, 30);
+        insert_bytes(text, text_len, at, one_in(g, 2) ? '0' : '9', n);
         break;
     case 3:
         pad_text(g, text, text_len, one_in(g, 2) ? at : *text_len);

@@ -8,7 +8,7 @@
 enum { MOST_DRAWN_WORDS = 3000, MOST_DRAWN_TEXT = 80000 };
 
 typedef struct {
-    uint32_t most_cores, most_levels, most_tasks, most_span;
+    uint32_t most_cores, most_levels, least_tasks, most_tasks, most_span;
 } site_limits;
 
 /*

@@ -205,12 +205,16 @@ static void test_damaged_choice(const reference_instance *in, uint8_t *plan, con
 
 static void test_damage(generator *g, const reference_instance *in, uint8_t *plan, uint8_t *table) {
     size_t slots = in->cores * in->span;
-    for (size_t n = 0; n < 10; n++)
-        test_damaged_slot(in, plan, table, draw(g, slots),
-                          (uint8_t)(one_in(g, 4) ? draw(g, 256) : draw(g, in->tasks + 2)));
-    for (size_t n = 0; n < 5 && in->tasks > 0; n++)
-        test_damaged_choice(in, plan, table, draw(g, in->tasks),
-                            (uint8_t)draw(g, in->cores * in->levels + 2));
+    for (size_t n = 0; n < 10; n++) {
+        size_t slot = draw(g, slots);
+        uint64_t wrong = one_in(g, 4) ? draw(g, 256) : draw(g, in->tasks + 2);
+        test_damaged_slot(in, plan, table, slot, (uint8_t)wrong);
+    }
+    for (size_t n = 0; n < 5 && in->tasks > 0; n++) {
+        size_t task = draw(g, in->tasks);
+        uint64_t wrong = draw(g, in->cores * in->levels + 2);
+        test_damaged_choice(in, plan, table, task, (uint8_t)wrong);
+    }
     size_t other = draw(g, slots);
     expect(is(reference_check_table(in, plan, in->tasks, table, other), 9, other), "refused",
            "a shorter table");
@@ -230,7 +234,7 @@ static bool test_small_site(generator *g) {
     uint32_t words[MOST_INSTANCE_WORDS];
     reference_instance in;
     uint8_t plan[MOST_TASKS], other[MOST_TASKS], table[TOWHEPAMU_MOST_TABLE_BYTES];
-    size_t count = draw_site(g, (site_limits){4, 6, 8, 120}, words);
+    size_t count = draw_site(g, (site_limits){4, 6, 0, 8, 120}, words);
     expect(reference_read(words, count, &in).refusal == TOWHEPAMU_ACCEPTED, "reads", "a site");
     if (!few_plans(&in))
         return test_small_site(g);

@@ -1,0 +1,248 @@
+/*
+ * The archive against the reference, on sites and texts drawn from a fixed seed: the same answers,
+ * the same bytes in the lent buffers, and not a byte touched around them.
+ */
+#define _DEFAULT_SOURCE
+#include "generate.h"
+#include "known.h"
+#include "lent.h"
+#include <inttypes.h>
+
+enum {
+    SITES = 14000,
+    LARGE_SITES = 24,
+    MOST_REPORTED = 10,
+    REFUSALS = 11,
+    SLACK = 40,
+    MOST_GIVEN = TOWHEPAMU_MOST_TABLE_BYTES + SLACK
+};
+
+/* The text that is lent, the instance where it reads, and the buffers beside it. */
+static lent text, plan, table;
+static bool reads;
+static reference_instance in;
+
+static size_t compared, differ, planned[REFUSALS], checked[REFUSALS];
+
+/* ---- One comparison ---- */
+
+static bool report(const char *what) {
+    if (++differ > MOST_REPORTED)
+        return false;
+    printf("desk: %s; plan of %zu bytes, table of %zu, text of %zu:\n", what, plan.len, table.len,
+           text.len);
+    fwrite(text.bytes, 1, text.len, stdout);
+    printf("\n");
+    return true;
+}
+
+static void print_answer(const char *whose, towhepamu_planned answer) {
+    printf("%s: refusal %" PRIu64 " place %" PRIu64 " energy %" PRIu64 " penalty %" PRIu64
+           " cost %" PRIu64 "\n",
+           whose, answer.refusal, answer.place, answer.energy, answer.penalty, answer.cost);
+}
+
+static bool same_answers(const char *what, towhepamu_planned answer, towhepamu_planned expected) {
+    if (answer.refusal == expected.refusal && answer.place == expected.place &&
+        answer.energy == expected.energy && answer.penalty == expected.penalty &&
+        answer.cost == expected.cost)
+        return true;
+    if (report(what)) {
+        print_answer("  archive", answer);
+        print_answer("  reference", expected);
+    }
+    return false;
+}
+
+static size_t draw_tail(generator *g) {
+    return one_in(g, 2) ? 0 : GUARD;
+}
+
+/* Plans the lent text, and says whether it has a plan. Beyond what the reference wrote, every byte
+   must be as it was lent. */
+static bool compare_plan(generator *g, size_t plan_len, size_t table_len) {
+    static uint8_t choices[MOST_GIVEN], slots[MOST_GIVEN];
+    lend(&plan, plan_len, draw_tail(g));
+    lend(&table, table_len, draw_tail(g));
+    towhepamu_planned expected =
+        reference_plan(text.bytes, text.len, choices, plan_len, slots, table_len);
+    towhepamu_planned answer =
+        towhepamu_plan(text.bytes, text.len, plan.bytes, plan_len, table.bytes, table_len);
+    bool accepted = expected.refusal == TOWHEPAMU_ACCEPTED;
+    compared++;
+    planned[expected.refusal]++;
+    if (!same_answers("planning answers otherwise", answer, expected))
+        return accepted;
+    if (!still_has(&plan, choices, accepted ? in.tasks : 0))
+        report("planning leaves another plan buffer");
+    else if (!still_has(&table, slots, accepted ? in.cores * in.span : 0))
+        report("planning leaves another table buffer");
+    return accepted;
+}
+
+typedef struct {
+    uint8_t plan[MOST_GIVEN], table[MOST_GIVEN];
+    size_t plan_len, table_len;
+} drawing;
+
+/* Checks a drawing for the lent text. */
+static void compare_check(generator *g, const drawing *given) {
+    lend_copy(&plan, given->plan, given->plan_len, draw_tail(g));
+    lend_copy(&table, given->table, given->table_len, draw_tail(g));
+    towhepamu_checked expected =
+        reference_check(text.bytes, text.len, plan.bytes, plan.len, table.bytes, table.len);
+    towhepamu_checked answer =
+        towhepamu_check(text.bytes, text.len, plan.bytes, plan.len, table.bytes, table.len);
+    compared++;
+    checked[expected.refusal]++;
+    if (!same_answers("checking answers otherwise",
+                      (towhepamu_planned){answer.refusal, answer.place, 0, 0, 0},
+                      (towhepamu_planned){expected.refusal, expected.place, 0, 0, 0}))
+        return;
+    if (!still_has(&plan, given->plan, given->plan_len) ||
+        !still_has(&table, given->table, given->table_len))
+        report("checking writes");
+}
+
+/* ---- Drawings, sound and damaged ---- */
+
+static uint8_t draw_choice(generator *g) {
+    return (uint8_t)draw(g, in.cores * in.levels + (one_in(g, 4) ? 2 : 1));
+}
+
+static uint8_t draw_slot(generator *g) {
+    return (uint8_t)(one_in(g, 8) ? draw(g, 256) : draw(g, in.tasks + 1));
+}
+
+/* Any plan, with its table if its cores fit, else with any table. */
+static void draw_drawing(generator *g, drawing *given) {
+    given->plan_len = in.tasks;
+    given->table_len = in.cores * in.span;
+    for (size_t i = 0; i < given->plan_len; i++)
+        given->plan[i] = draw_choice(g);
+    for (size_t s = 0; s < given->table_len; s++)
+        given->table[s] = one_in(g, 2) ? 0 : draw_slot(g);
+    reference_tabulate(&in, given->plan, given->plan_len, given->table, given->table_len);
+}
+
+static void swap_slots(drawing *given, size_t a, size_t b) {
+    uint8_t slot = given->table[a];
+    given->table[a] = given->table[b];
+    given->table[b] = slot;
+}
+
+static void damage_drawing(generator *g, drawing *given) {
+    size_t slots = in.cores * in.span, at = draw(g, slots);
+    switch (draw(g, 8)) {
+    case 0:
+        given->plan_len = draw(g, in.tasks + 3);
+        break;
+    case 1:
+        given->table_len = one_in(g, 2) ? draw(g, slots) : slots + draw(g, SLACK);
+        break;
+    case 2: /* often a table that passes and does not run the earliest due first */
+        swap_slots(given, at, (at + 1) % slots);
+        break;
+    case 3:
+        swap_slots(given, at, draw(g, slots));
+        break;
+    case 4:
+        memset(given->table + at, 0, slots - at);
+        break;
+    case 5:
+    case 6:
+        at = draw(g, in.tasks + 1);
+        given->plan[at] = draw_choice(g); /* sometimes of no task */
+        break;
+    default:
+        given->table[at] = draw_slot(g);
+    }
+}
+
+/* ---- One text ---- */
+
+static void read_text(void) {
+    uint32_t words[MOST_WORDS];
+    size_t count = 0;
+    reads = reference_words(text.bytes, text.len, words, MOST_WORDS, &count).refusal == 0 &&
+            reference_read(words, count, &in).refusal == 0;
+    if (!reads) /* so that there are buffers to lend beside a text that is refused */
+        in = (reference_instance){
+            1, 1, 2, 2, 3, 60, {{1, 1}, {2, 2}}, {{60, 1, 1}, {1, 1, 1}, {2, 1, 1}}};
+}
+
+static void compare_checks(generator *g, bool accepted) {
+    static drawing given, damaged;
+    draw_drawing(g, &given);
+    compare_check(g, &given);
+    if (accepted) {
+        reference_plan(text.bytes, text.len, given.plan, in.tasks, given.table, given.table_len);
+        compare_check(g, &given);
+    }
+    for (size_t n = reads ? 5 : 1; n > 0; n--) {
+        damaged = given;
+        for (size_t times = draw_between(g, 1, 2); times > 0; times--)
+            damage_drawing(g, &damaged);
+        compare_check(g, &damaged);
+    }
+}
+
+static void compare_text(generator *g, const uint8_t *bytes, size_t len) {
+    lend_copy(&text, bytes, len, draw_tail(g));
+    read_text();
+    size_t tasks = in.tasks, slots = in.cores * in.span, slack = one_in(g, 2) ? 0 : SLACK;
+    bool accepted = compare_plan(g, tasks + slack, slots + slack);
+    size_t few = tasks > 0 ? draw(g, tasks) : 0;
+    compare_plan(g, few, one_in(g, 2) ? slots : draw(g, slots));
+    compare_plan(g, tasks, draw(g, slots));
+    compare_plan(g, 0, 0);
+    compare_checks(g, accepted);
+    if (!still_has(&text, bytes, len))
+        report("the text is written to");
+}
+
+/* ---- All texts ---- */
+
+static void compare_site(generator *g, site_limits limits) {
+    static uint32_t words[MOST_DRAWN_WORDS];
+    static uint8_t bytes[MOST_DRAWN_TEXT];
+    size_t count = draw_site(g, limits, words);
+    uint64_t harm = draw(g, 3); /* none, to the words, to the text */
+    for (size_t n = draw_between(g, 1, 2); harm == 1 && n > 0; n--)
+        damage_words(g, words, &count);
+    size_t len = write_text(g, words, count, one_in(g, 2), bytes);
+    for (size_t n = draw_between(g, 1, 2); harm == 2 && n > 0; n--)
+        damage_text(g, bytes, &len);
+    compare_text(g, bytes, len);
+}
+
+static bool print_seen(const char *call, const size_t *seen, const size_t *possible) {
+    bool all = true;
+    printf("desk: %s: accepted %zu", call, seen[0]);
+    for (size_t i = 0; possible[i] != 0; i++) {
+        printf(", refused %zu: %zu", possible[i], seen[possible[i]]);
+        all = all && seen[possible[i]] > 0;
+    }
+    printf("\n");
+    return all && seen[0] > 0;
+}
+
+int main(void) {
+    generator g = {20000101};
+    text = make_room();
+    plan = make_room();
+    table = make_room();
+    for (size_t k = 0; k < KNOWN_CASES; k++)
+        compare_text(&g, (const uint8_t *)known_cases[k].text, strlen(known_cases[k].text));
+    for (size_t n = 0; n < SITES; n++)
+        compare_site(&g, one_in(&g, 30)  ? (site_limits){4, 8, 9, 12, 120}
+                         : one_in(&g, 6) ? (site_limits){4, 8, 5, 8, 512}
+                                         : (site_limits){4, 8, 0, 5, 180});
+    for (size_t n = 0; n < LARGE_SITES; n++)
+        compare_site(&g, (site_limits){4, 8, 12, 12, 4096});
+
+    bool all_planned = print_seen("planning", planned, (size_t[]){1, 2, 3, 4, 5, 6, 0});
+    bool all_checked = print_seen("checking", checked, (size_t[]){1, 2, 3, 4, 7, 9, 10, 0});
+    printf("desk: %zu compared, %zu differ\n", compared, differ);
+    return differ > 0 || !all_planned || !all_checked;
+}
