@@ -106,7 +106,7 @@ static void draw_full_cores(generator *g, reference_instance *in) {
     }
 }
 
-static size_t list_words(const reference_instance *in, uint32_t *words) {
+size_t list_words(const reference_instance *in, uint32_t *words) {
     size_t n = 0;
     words[n++] = 3;
     words[n++] = in->energy_weight;

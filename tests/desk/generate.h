@@ -18,6 +18,9 @@ typedef struct {
  */
 size_t draw_site(generator *g, site_limits limits, uint32_t *words);
 
+/* The words of a site; the span is not among them. */
+size_t list_words(const reference_instance *site, uint32_t *words);
+
 /* One wrong, missing or extra word, or a few; MOST_DRAWN_WORDS at most. */
 void damage_words(generator *g, uint32_t *words, size_t *count);
 

@@ -161,7 +161,7 @@ static void try_from(const reference_instance *in, size_t task, uint8_t *plan, u
 }
 
 bool reference_best_exhaustive(const reference_instance *in, uint8_t plan[MOST_TASKS]) {
-    uint8_t tried[MOST_TASKS];
+    uint8_t tried[MOST_TASKS] = {0};
     uint64_t least = UINT64_MAX;
     try_from(in, 0, tried, &least, plan);
     return least < UINT64_MAX;

@@ -212,22 +212,21 @@ static bool runs_on(const reference_instance *in, const uint8_t *plan, size_t ta
     return plan[task] != 0 && core_of(in, plan[task]) == core;
 }
 
-/* The due tick of the job of `task` whose window has tick t. */
-static uint32_t due(const reference_instance *in, size_t task, uint32_t t) {
-    return (t / in->task[task].period + 1) * in->task[task].period;
-}
-
 /* One core's row, tick by tick: of the jobs released and not finished the earliest due runs. */
 static void draw_row(const reference_instance *in, const uint8_t *plan, size_t core, uint8_t *row) {
-    uint64_t left[MOST_TASKS] = {0};
+    uint64_t ticks[MOST_TASKS] = {0}, left[MOST_TASKS] = {0};
+    uint32_t due[MOST_TASKS] = {0};
+    for (size_t i = 0; i < in->tasks; i++)
+        if (runs_on(in, plan, i, core))
+            ticks[i] = reference_ticks(in, i, level_of(in, plan[i]));
     for (uint32_t t = 0; t < in->span; t++) {
         size_t runs = in->tasks;
         for (size_t i = 0; i < in->tasks; i++) {
-            if (!runs_on(in, plan, i, core))
-                continue;
-            if (t % in->task[i].period == 0)
-                left[i] = reference_ticks(in, i, level_of(in, plan[i]));
-            if (left[i] > 0 && (runs == in->tasks || due(in, i, t) < due(in, runs, t)))
+            if (t % in->task[i].period == 0) {
+                left[i] = ticks[i];
+                due[i] = t + in->task[i].period;
+            }
+            if (left[i] > 0 && (runs == in->tasks || due[i] < due[runs]))
                 runs = i;
         }
         row[t] = 0;

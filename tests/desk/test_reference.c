@@ -234,7 +234,7 @@ static bool test_small_site(generator *g) {
     uint32_t words[MOST_INSTANCE_WORDS];
     reference_instance in;
     uint8_t plan[MOST_TASKS], other[MOST_TASKS], table[TOWHEPAMU_MOST_TABLE_BYTES];
-    size_t count = draw_site(g, (site_limits){4, 6, 0, 8, 120}, words);
+    size_t count = draw_site(g, (site_limits){4, 6, 0, 12, 120}, words);
     expect(reference_read(words, count, &in).refusal == TOWHEPAMU_ACCEPTED, "reads", "a site");
     if (!few_plans(&in))
         return test_small_site(g);
