@@ -5,7 +5,8 @@
  *   bench [REPETITIONS]
  *
  * A time is the median of the repetitions of one text, and of these the median over the texts of a
- * family; `worst` is the slowest text's. Ends with 1 where the two answer differently.
+ * family; `worst` is the slowest text's. A ratio is archive to reference, taken in each repetition,
+ * and the medians of that. Ends with 1 where the two answer differently.
  */
 #define _POSIX_C_SOURCE 200809L
 #include "instances.h"
@@ -17,6 +18,7 @@
 
 enum { TEXTS = 5, MOST_REPETITIONS = 101 };
 
+/* What is timed, archive and reference in turn; and the ratio of each two. */
 enum call {
     ARCHIVE_PLAN,
     REFERENCE_PLAN,
@@ -27,6 +29,7 @@ enum call {
     REFERENCE_TABLE,
     CALLS
 };
+enum { PLAN_RATIO = CALLS, READ_RATIO, CHECK_RATIO, COLUMNS };
 
 /* One text, and its plan and table where it has one. */
 static uint8_t text[TOWHEPAMU_MOST_TEXT_BYTES];
@@ -35,7 +38,7 @@ static size_t text_len, tasks, slots;
 static bool planned;
 static reference_instance in;
 
-static void make_call(enum call call) {
+static void make_call(size_t call) {
     switch (call) {
     case ARCHIVE_PLAN:
         towhepamu_plan(text, text_len, plan, MOST_TASKS, table, sizeof table);
@@ -92,7 +95,7 @@ static double now(void) {
 }
 
 /* The time of a call that is made `times` times. */
-static double time_of(enum call call, size_t times) {
+static double time_of(size_t call, size_t times) {
     double start = now();
     for (size_t n = 0; n < times; n++)
         make_call(call);
@@ -109,41 +112,43 @@ static double median(double *times, size_t count) {
     return times[count / 2];
 }
 
-/* Each call's median for the text that is set; the calls take turns. */
-static void time_text(size_t repetitions, double medians[CALLS]) {
-    static double times[CALLS][MOST_REPETITIONS];
+/* The medians for the text that is set; the calls take turns. */
+static void time_text(size_t repetitions, double medians[COLUMNS]) {
+    static double times[COLUMNS][MOST_REPETITIONS];
     size_t calls_a_time[CALLS];
-    for (enum call c = 0; c < CALLS; c++) {
+    for (size_t c = 0; c < CALLS; c++) {
         double once = time_of(c, 1);
         calls_a_time[c] = once < 1000 ? (size_t)(1000 / (once + 0.1)) + 1 : 1;
     }
-    for (size_t r = 0; r < repetitions; r++)
-        for (enum call c = 0; c < CALLS; c++)
+    for (size_t r = 0; r < repetitions; r++) {
+        for (size_t c = 0; c < CALLS; c++)
             times[c][r] = time_of(c, calls_a_time[c]);
-    for (enum call c = 0; c < CALLS; c++)
+        for (size_t c = CALLS; c < COLUMNS; c++)
+            times[c][r] = times[2 * (c - CALLS)][r] / times[2 * (c - CALLS) + 1][r];
+    }
+    for (size_t c = 0; c < COLUMNS; c++)
         medians[c] = median(times[c], repetitions);
 }
 
 static bool time_family(size_t family, size_t repetitions) {
-    double of_text[CALLS][TEXTS], middle[CALLS], medians[CALLS];
+    double of_text[COLUMNS][TEXTS], medians[COLUMNS];
     bool same = true;
     for (size_t n = 0; n < TEXTS; n++) {
         same = set_text(family, n) && same;
         time_text(repetitions, medians);
-        for (enum call c = 0; c < CALLS; c++)
+        for (size_t c = 0; c < COLUMNS; c++)
             of_text[c][n] = medians[c];
     }
-    for (enum call c = 0; c < CALLS; c++)
-        middle[c] = median(of_text[c], TEXTS);
-    const char *name = family_name(family);
-    printf("%-26s %9.0f %9.0f %9.0f %9.0f %6.2f", name, middle[ARCHIVE_PLAN],
-           of_text[ARCHIVE_PLAN][TEXTS - 1], middle[REFERENCE_PLAN],
-           of_text[REFERENCE_PLAN][TEXTS - 1], middle[ARCHIVE_PLAN] / middle[REFERENCE_PLAN]);
-    printf(" %7.1f %7.1f %6.2f", middle[ARCHIVE_READ], middle[REFERENCE_READ],
-           middle[ARCHIVE_READ] / middle[REFERENCE_READ]);
+    for (size_t c = 0; c < COLUMNS; c++)
+        medians[c] = median(of_text[c], TEXTS);
+    printf("%-26s %9.0f %9.0f %9.0f %9.0f %6.2f", family_name(family), medians[ARCHIVE_PLAN],
+           of_text[ARCHIVE_PLAN][TEXTS - 1], medians[REFERENCE_PLAN],
+           of_text[REFERENCE_PLAN][TEXTS - 1], medians[PLAN_RATIO]);
+    printf(" %7.1f %7.1f %6.2f", medians[ARCHIVE_READ], medians[REFERENCE_READ],
+           medians[READ_RATIO]);
     if (planned)
-        printf(" %7.1f %7.1f %6.2f %7.1f", middle[ARCHIVE_CHECK], middle[REFERENCE_CHECK],
-               middle[ARCHIVE_CHECK] / middle[REFERENCE_CHECK], middle[REFERENCE_TABLE]);
+        printf(" %7.1f %7.1f %6.2f %7.1f", medians[ARCHIVE_CHECK], medians[REFERENCE_CHECK],
+               medians[CHECK_RATIO], medians[REFERENCE_TABLE]);
     else
         printf(" %7s %7s %6s %7s", "-", "-", "-", "-");
     printf("%s\n", same ? "" : "  DIFFERENT ANSWERS");
