@@ -18,3 +18,5 @@ pub mod BestDrawingLaws
 pub mod PlannedLaws
 pub mod ArithmeticLaws
 pub mod Demands
+pub mod OfferedOptions
+pub mod HeldOptions

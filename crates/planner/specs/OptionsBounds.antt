@@ -17,6 +17,7 @@ use Rattle.instance.specs.Valid.{InRange, Valid}
 use Rattle.instance.specs.declared.node.Task.{Task}
 use Rattle.instance.specs.declared.refusal.Verdict.the-variants.{Accepted}
 use Rattle.schedule.specs.Plans.{mostChoice, planPasses}
+use Rattle.schedule.specs.PriceBounds.{job-penalty-at-most}
 use Rattle.schedule.specs.QuantityBounds.{ticks-at-most, jobs-at-most}
 use Rattle.schedule.specs.Quantities.{choiceAt, jobs, cost}
 use Rattle.search.specs.Assignment.{choiceCost, choiceLoad, totalCost}
@@ -37,7 +38,7 @@ abbrev pub mostRefusalCost : ℕ
 mostRefusalCost = mostWeight * (mostSpan * mostPenalty)
 
 module _ {p : Problem} (v : Valid p) where
-  jobs-of-task-at-most : (i : ℕ) → i < taskCount p → jobsOf p (taskAt p i) ≤ mostSpan
+  pub jobs-of-task-at-most : (i : ℕ) → i < taskCount p → jobsOf p (taskAt p i) ≤ mostSpan
   unfolding jobs jobsOf
   jobs-of-task-at-most i h = jobs-at-most p v [] i h
 
@@ -79,6 +80,12 @@ module _ {p : Problem} (v : Valid p) where
   unfolding itemOf
   refusal-at-most i h may =
       mul-le-mul (v .penalty-weight .at-most) (mul-le-mul (jobs-of-task-at-most i h) (refusable-penalty i h may))
+
+  -- also where the task may not be refused
+  pub any-refusal-at-most : (i : ℕ) → i < taskCount p → itemOf p (taskAt p i) .refusal ≤ mostWeight * (mostSpan * mayNotBeRefused)
+  unfolding itemOf
+  any-refusal-at-most i h =
+      mul-le-mul (v .penalty-weight .at-most) (mul-le-mul (jobs-of-task-at-most i h) (job-penalty-at-most p v i h))
 
   -- choice c of task i: in range, no refusal of a must-task, and within the load that a core takes
   choice-cost-at-most : (i c : ℕ) → i < taskCount p → c ≤ mostChoice p → (taskAt p i .penalty ≡ mayNotBeRefused → c ≡ 0 → ⊥) →
