@@ -45,3 +45,4 @@ pub mod Limits
 pub mod Found
 pub mod BestFilled
 pub mod FoundLaws
+pub mod AlikeLaws
