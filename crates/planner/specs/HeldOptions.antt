@@ -1,9 +1,9 @@
 -- The options of a problem, from the fields of the struct that holds it.
 use Prim.Native.Nat.{ℕ, _*_, _/_, _≤_, _<_}
 use mathlib.Core.Path.{_≡_, ap, ap₂, _∙_}
+use native.Mathlib.Nat.{le-trans, le-of-eq, mul-le-mul}
 use lib.Dec.{eqb}
 use lib.ListN.{getD}
-use native.Mathlib.Nat.{le-trans, le-of-eq, mul-le-mul}
 use Rattle.instance.specs.Held.{problemIn, Sound, held-task, held-level, held-span}
 use Rattle.instance.specs.Limits.{mostPower, mostSpan, mayNotBeRefused}
 use Rattle.instance.specs.Node.{levelCount, taskCount, taskAt, noLevel, noTask}

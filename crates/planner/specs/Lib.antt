@@ -20,3 +20,7 @@ pub mod ArithmeticLaws
 pub mod Demands
 pub mod OfferedOptions
 pub mod HeldOptions
+pub mod BestChoices
+pub mod PlanLaws
+pub mod OfferedLaws
+pub mod BestChoiceLaws

@@ -5,10 +5,10 @@ use mathlib.Core.Bool.{Bool, false}
 use mathlib.Core.List.{List}
 use mathlib.Core.Logic.{_⊎_, inl, inr, ⊎-elim}
 use mathlib.Core.Path.{_≡_, _∙_}
+use native.Mathlib.Omega.{arith}
 use lib.ListN.{length, getD, set, length-set}
 use lib.Seq.{getD-set-same, getD-set-other}
 use borrow.Author.Count.{below-more}
-use native.Mathlib.Omega.{arith}
 use Rattle.laws.specs.Below.{lt-or-le}
 use Rattle.instance.specs.Limits.{mostLevels, mostTasks}
 use Rattle.instance.specs.Node.{Problem, levelCount, taskAt, span}
@@ -32,6 +32,18 @@ pub record OptionsOffered (p : Problem) (n : ℕ) (load cost refusal : List ℕ)
   pub must-length : length must ≡ mostTasks
   pub same-refusal : (i : ℕ) → i < n → getD refusal i 0 ≡ itemOf p (taskAt p i) .refusal
   pub same-must : (i : ℕ) → i < n → getD must i false ≡ itemOf p (taskAt p i) .must
+
+pub nothing-offered : (p : Problem) (load cost refusal : List ℕ) (must : List Bool) → length load ≡ mostTasks * mostLevels →
+    length cost ≡ mostTasks * mostLevels → length refusal ≡ mostTasks → length must ≡ mostTasks →
+    OptionsOffered p 0 load cost refusal must
+nothing-offered p load cost refusal must loads costs refusals musts =
+    record {
+      levels = record { load-length = loads; cost-length = costs; level = λ i l h none. absurd (omega arith) };
+      refusal-length = refusals;
+      must-length = musts;
+      same-refusal = λ i none. absurd (omega arith);
+      same-must = λ i none. absurd (omega arith);
+    }
 
 -- what an array holds below n, and one place more
 module _ {A : Type 0} (f : ℕ → A) (blank : A) where

@@ -80,12 +80,12 @@ module _ (p : Problem) (periodic : Periodic p) (plan table : List ℕ) where
           ) (refl, answered-is-best-drawing p periodic best e)
 
 module _ (words plan table : List ℕ) where
-  of-reading : {reading : _} → problemOf words ≡ reading → planOutcome words plan table ≡ planOutcomeOf reading plan table
+  pub of-reading : {reading : _} → problemOf words ≡ reading → planOutcome words plan table ≡ planOutcomeOf reading plan table
   unfolding planOutcome
   of-reading e = ap (λ r. planOutcomeOf r plan table) e
 
   module _ (p : Problem) (read : problemOf words ≡ accepted p) where
-    where-room : (v : Verdict) → room (taskCount p) plan andThen room (tableSize p) table ≡ v →
+    pub where-room : (v : Verdict) → room (taskCount p) plan andThen room (tableSize p) table ≡ v →
         planOutcome words plan table ≡ planWhere v p plan table
     where-room v e = of-reading read ∙ ap (λ (v : Verdict). planWhere v p plan table) e
 

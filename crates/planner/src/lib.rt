@@ -1,2 +1,6 @@
 // Planning: of all plans that an instance allows, the one of least cost, with its table.
+mod best;
 mod options;
+mod planning;
+
+pub use planning::plan;

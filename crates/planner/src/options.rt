@@ -3,8 +3,8 @@ use instance::Instance;
 use instance::MAY_NOT_BE_REFUSED;
 use schedule::jobs_in;
 use schedule::ticks_of;
-ghost use mathlib.Core.Path.{_≡_};
 ghost use Prim.Native.Nat.{_+_, _*_, _≤_, _<_};
+ghost use mathlib.Core.Path.{_≡_};
 ghost use Rattle.instance.specs.Held.{Sound, problemIn};
 ghost use Rattle.instance.specs.Node.{levelCount, span, taskAt, taskCount};
 ghost use Rattle.planner.specs.OfferedOptions.{LevelsOffered, OptionsOffered};
@@ -44,8 +44,8 @@ fn refusal_of(inst: Instance, i: usize) -> u64
     requires { ⌜ i < taskCount (problemIn inst) ⌝ }
     ensures { λ r. ⌜ r ≡ itemOf (problemIn inst) (taskAt (problemIn inst) i) .refusal ⌝ }
 {
-    let jobs = jobs_in(inst.span, inst.tasks[i].period);
-    inst.weights.penalty as u64 * (jobs as u64 * inst.tasks[i].penalty as u64)
+    let missed = jobs_in(inst.span, inst.tasks[i].period);
+    inst.weights.penalty as u64 * (missed as u64 * inst.tasks[i].penalty as u64)
 }
 
 // Whether task i may not be refused.

@@ -1,10 +1,10 @@
+use native.Mathlib.Omega.{arith}
+use borrow.Author.Needs.{needs}
+use Rattle.instance.specs.Held.{held-span}
 use Rattle.instance.specs.Held.{problemIn}
 use Rattle.instance.specs.Node.{taskAt}
 use Rattle.planner.specs.HeldOptions.{held-cost, held-power-at-most, held-energy-at-most}
-use Rattle.instance.specs.Held.{held-span}
 use Rattle.planner.specs.OptionsBounds.{kept-cost-at-most}
-use native.Mathlib.Omega.{arith}
-use borrow.Author.Needs.{needs}
 use Rattle.planner.proofs.options.cost_at.Statement.{statement}
 use Rattle.planner.proofs.options.cost_at.Tie as tie
 

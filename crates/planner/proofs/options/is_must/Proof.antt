@@ -1,5 +1,5 @@
-use Rattle.planner.specs.HeldOptions.{held-must}
 use borrow.Author.Needs.{needs}
+use Rattle.planner.specs.HeldOptions.{held-must}
 use Rattle.planner.proofs.options.is_must.Statement.{statement}
 use Rattle.planner.proofs.options.is_must.Tie as tie
 

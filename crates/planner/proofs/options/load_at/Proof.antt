@@ -1,7 +1,7 @@
-use Rattle.planner.specs.HeldOptions.{held-load}
-use Rattle.planner.specs.OptionsBounds.{load-at-most}
 use native.Mathlib.Omega.{arith}
 use borrow.Author.Needs.{needs}
+use Rattle.planner.specs.HeldOptions.{held-load}
+use Rattle.planner.specs.OptionsBounds.{load-at-most}
 use Rattle.planner.proofs.options.load_at.Statement.{statement}
 use Rattle.planner.proofs.options.load_at.Tie as tie
 

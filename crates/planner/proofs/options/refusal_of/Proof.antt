@@ -1,8 +1,8 @@
-use Rattle.planner.specs.HeldOptions.{held-refusal, held-penalty-product-at-most}
-use Rattle.schedule.specs.HeldPrices.{held-penalty-at-most}
-use Rattle.planner.specs.OptionsBounds.{any-refusal-at-most}
 use native.Mathlib.Omega.{arith}
 use borrow.Author.Needs.{needs}
+use Rattle.schedule.specs.HeldPrices.{held-penalty-at-most}
+use Rattle.planner.specs.HeldOptions.{held-refusal, held-penalty-product-at-most}
+use Rattle.planner.specs.OptionsBounds.{any-refusal-at-most}
 use Rattle.planner.proofs.options.refusal_of.Statement.{statement}
 use Rattle.planner.proofs.options.refusal_of.Tie as tie
 

@@ -1,0 +1,44 @@
+use borrow.Author.Needs.{needs}
+use Rattle.schedule.specs.ReadLaws.{accepted-read-holds-problem, refused-read-refuses-words}
+use Rattle.planner.specs.PlanLaws.{given-outcome-is-promised, refused-words-outcome}
+use Rattle.planner.proofs.planning.plan.Statement.{statement}
+use Rattle.planner.proofs.planning.plan.Tie as tie
+
+read-instance-requires : tie.Need-read-instance-requires
+read-instance-requires c κs = search needs
+
+enum-known-verdict : tie.Need-enum-known-verdict
+enum-known-verdict c = search needs
+
+enum-told : tie.Need-enum-told
+enum-told c = search needs
+
+plan-read-requires : tie.Need-plan-read-requires
+plan-read-requires c κs = accepted-read-holds-problem _ _ (c .before .before .before .before .before .read-instance .ensures) (c .before .before .enum-told .given .1)
+
+returns : tie.Need-returns
+returns c =
+    let refuses = refused-read-refuses-words _ _ (c .before .before .before .before .read-instance .ensures) (c .before .verdict .given .1) in
+    given-outcome-is-promised _ _ _ _ _ _ (refused-words-outcome _ _ _ refuses)
+
+same-length : tie.Need-same-length
+same-length c = search needs
+
+same-length-2 : tie.Need-same-length-2
+same-length-2 c = search needs
+
+returns-2 : tie.Need-returns-2
+returns-2 c = given-outcome-is-promised _ _ _ _ _ _ (c .before .before .before .before .plan-read .ensures)
+
+pub plan-spec : {M : Type 1} → statement M
+plan-spec =
+    tie.close
+    (tie.spec
+    read-instance-requires
+    enum-known-verdict
+    enum-told
+    plan-read-requires
+    returns
+    same-length
+    same-length-2
+    returns-2)
