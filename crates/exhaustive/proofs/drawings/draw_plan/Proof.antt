@@ -1,0 +1,33 @@
+use borrow.Author.Needs.{needs}
+use Prim.Native.Nat.{_-_}
+use Rattle.exhaustive.proofs.drawings.draw_plan.Statement.{statement}
+use Rattle.exhaustive.proofs.drawings.draw_plan.Tie as tie
+
+abbrev Inv-loop : tie.InvT-loop
+Inv-loop plan₀ n most state₀ i₀ plan state i = Unit {0}
+
+abbrev μ-loop : tie.MeasureT-loop
+μ-loop plan₀ n most state₀ i₀ plan state i = n - i
+
+loop-holds : tie.Need-loop-holds Inv-loop μ-loop
+loop-holds c = search needs
+
+draw-choice-requires : tie.Need-draw-choice-requires Inv-loop μ-loop
+draw-choice-requires c κs = search needs
+
+add-i : tie.Need-add-i Inv-loop μ-loop
+add-i c = search needs
+
+loop-less : tie.Need-loop-less Inv-loop μ-loop
+loop-less c = search needs
+
+loop-again : tie.Need-loop-again Inv-loop μ-loop
+loop-again c = search needs
+
+returns : tie.Need-returns Inv-loop μ-loop
+returns c = search needs
+
+pub draw-plan-spec : {M : Type 1} → statement M
+draw-plan-spec =
+    tie.close
+    (tie.spec Inv-loop μ-loop loop-holds draw-choice-requires add-i loop-less loop-again returns)

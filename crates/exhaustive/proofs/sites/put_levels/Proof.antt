@@ -1,0 +1,69 @@
+use borrow.Author.Needs.{needs}
+use Prim.Native.Nat.{_≤_, _-_}
+use Rattle.exhaustive.proofs.sites.put_levels.Statement.{statement}
+use Rattle.exhaustive.proofs.sites.put_levels.Tie as tie
+
+abbrev Inv-loop : tie.InvT-loop
+Inv-loop words₀ at count state₀ end₀ speed₀ power₀ l₀ words state end speed power l = l ≤ count
+
+abbrev μ-loop : tie.MeasureT-loop
+μ-loop words₀ at count state₀ end₀ speed₀ power₀ l₀ words state end speed power l = count - l
+
+loop-holds : tie.Need-loop-holds Inv-loop μ-loop
+loop-holds c = search needs
+
+below-requires : tie.Need-below-requires Inv-loop μ-loop
+below-requires c κs = search needs
+
+add-wrapping-add-u32 : tie.Need-add-wrapping-add-u32 Inv-loop μ-loop
+add-wrapping-add-u32 c = search needs
+
+wrapping-add-u32-requires : tie.Need-wrapping-add-u32-requires Inv-loop μ-loop
+wrapping-add-u32-requires c κs = search needs
+
+below-requires-2 : tie.Need-below-requires-2 Inv-loop μ-loop
+below-requires-2 c κs = search needs
+
+add-wrapping-add-u32-2 : tie.Need-add-wrapping-add-u32-2 Inv-loop μ-loop
+add-wrapping-add-u32-2 c = search needs
+
+wrapping-add-u32-requires-2 : tie.Need-wrapping-add-u32-requires-2 Inv-loop μ-loop
+wrapping-add-u32-requires-2 c κs = search needs
+
+put-requires : tie.Need-put-requires Inv-loop μ-loop
+put-requires c κs = search needs
+
+put-requires-2 : tie.Need-put-requires-2 Inv-loop μ-loop
+put-requires-2 c κs = search needs
+
+add-l : tie.Need-add-l Inv-loop μ-loop
+add-l c = search needs
+
+loop-less : tie.Need-loop-less Inv-loop μ-loop
+loop-less c = search needs
+
+loop-again : tie.Need-loop-again Inv-loop μ-loop
+loop-again c = search needs
+
+returns : tie.Need-returns Inv-loop μ-loop
+returns c = search needs
+
+pub put-levels-spec : {M : Type 1} → statement M
+put-levels-spec =
+    tie.close
+    (tie.spec
+    Inv-loop
+    μ-loop
+    loop-holds
+    below-requires
+    add-wrapping-add-u32
+    wrapping-add-u32-requires
+    below-requires-2
+    add-wrapping-add-u32-2
+    wrapping-add-u32-requires-2
+    put-requires
+    put-requires-2
+    add-l
+    loop-less
+    loop-again
+    returns)

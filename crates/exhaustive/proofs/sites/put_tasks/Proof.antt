@@ -1,0 +1,49 @@
+use borrow.Author.Needs.{needs}
+use Prim.Native.Nat.{_≤_, _-_}
+use Rattle.exhaustive.proofs.sites.put_tasks.Statement.{statement}
+use Rattle.exhaustive.proofs.sites.put_tasks.Tie as tie
+
+abbrev Inv-loop : tie.InvT-loop
+Inv-loop words₀ at count state₀ end₀ i₀ words state end i = i ≤ count
+
+abbrev μ-loop : tie.MeasureT-loop
+μ-loop words₀ at count state₀ end₀ i₀ words state end i = count - i
+
+loop-holds : tie.Need-loop-holds Inv-loop μ-loop
+loop-holds c = search needs
+
+once-in-requires : tie.Need-once-in-requires Inv-loop μ-loop
+once-in-requires c κs = search needs
+
+put-equal-task-requires : tie.Need-put-equal-task-requires Inv-loop μ-loop
+put-equal-task-requires c κs = search needs
+
+put-new-task-requires : tie.Need-put-new-task-requires Inv-loop μ-loop
+put-new-task-requires c κs = search needs
+
+add-i : tie.Need-add-i Inv-loop μ-loop
+add-i c = search needs
+
+loop-less : tie.Need-loop-less Inv-loop μ-loop
+loop-less c = search needs
+
+loop-again : tie.Need-loop-again Inv-loop μ-loop
+loop-again c = search needs
+
+returns : tie.Need-returns Inv-loop μ-loop
+returns c = search needs
+
+pub put-tasks-spec : {M : Type 1} → statement M
+put-tasks-spec =
+    tie.close
+    (tie.spec
+    Inv-loop
+    μ-loop
+    loop-holds
+    once-in-requires
+    put-equal-task-requires
+    put-new-task-requires
+    add-i
+    loop-less
+    loop-again
+    returns)

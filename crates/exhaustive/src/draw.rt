@@ -1,0 +1,19 @@
+// A fixed generator, so that every run draws the same instances: Lehmer's, whose state is the last number drawn.
+ghost use Prim.Native.Nat.{_<_};
+
+// The next number below n.
+pub(crate) fn below(state: &mut u32, n: u32) -> u32
+    requires { ⌜ 0 < n ⌝ }
+    ensures { λ r. ⌜ r < n ⌝ }
+{
+    let next = (*state as u64 * 48271 % 2147483647) as u32;
+    *state = next;
+    next % n
+}
+
+// Whether the next number below n is 0: once in n times.
+pub(crate) fn once_in(state: &mut u32, n: u32) -> bool
+    requires { ⌜ 0 < n ⌝ }
+{
+    below(state, n) == 0
+}
