@@ -18,6 +18,8 @@ pub mod ReadTasks
 pub mod SiteFileLaws
 pub mod SiteFileRefusals
 pub mod WordsLaws
+pub mod NumberCountLaws
+pub mod TextRefusals
 pub mod Decimal
 pub mod DecimalLaws
 pub mod SpelledLaws

@@ -1,0 +1,6 @@
+// What the listing program prints for a site's text.
+mod bytes;
+mod cores;
+mod lines;
+mod plans;
+mod tasks;
