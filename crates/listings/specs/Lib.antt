@@ -7,3 +7,6 @@ pub mod LineLaws
 pub mod HeldLines
 pub mod LineLengths
 pub mod ListingLength
+pub mod ListingLaws
+pub mod Outcomes
+pub mod OutcomeLaws

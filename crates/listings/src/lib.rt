@@ -3,4 +3,8 @@ mod bytes;
 mod cores;
 mod lines;
 mod plans;
+mod site;
 mod tasks;
+
+pub use site::Listed;
+pub use site::list_site;

@@ -1,0 +1,81 @@
+// The listing of a site's text: read, planned and put into lines.
+use crate::bytes::put_bytes;
+use crate::lines::put_refusal;
+use crate::plans::put_plan;
+use instance::Instance;
+use instance::Refusal;
+use instance::TextRead;
+use instance::Verdict;
+use instance::read_instance;
+use instance::words_of_text;
+use planner::plan;
+use schedule::Priced;
+ghost use mathlib.Core.Path.{_≡_};
+ghost use Rattle.instance.specs.SiteFile.{problemOf};
+ghost use Rattle.schedule.specs.ReadLaws.{HoldsProblemOf};
+ghost use Rattle.listings.specs.Listing.{listingOfProblem, listingOf};
+ghost use Rattle.listings.specs.Outcomes.{listOutcome};
+ghost use Rattle.listings.specs.Placing.{Room, Put};
+
+// How many bytes a listing has, or why it was not written.
+pub enum Listed {
+    Bytes(usize),
+    Refused(Refusal),
+}
+
+// Plans the instance that the words are, and puts its lines.
+fn put_best(out: &mut [u8], words: &[u32], inst: Instance) -> usize
+    requires { ⌜ HoldsProblemOf (now words) inst ⌝ }
+    requires { ⌜ Room (now out) 0 (listingOfProblem (problemOf (now words))) ⌝ }
+    ensures { λ r. ⌜ Put (now (out .entry)) 0 (listingOfProblem (problemOf (now (words .entry)))) (now (out .exit)) r ⌝ }
+{
+    let mut choices = [0u32; 12];
+    let mut table = [0u8; 16384];
+    match plan(words, &mut choices, &mut table) {
+        Priced::Refused(r) => put_refusal(out, 0, r),
+        Priced::Cost(price) => {
+            let n = inst.taskcount;
+            let size = inst.cores as usize * inst.span as usize;
+            put_plan(out, 0, inst, price, &choices[..n], &table[..size])
+        }
+    }
+}
+
+fn put_words(out: &mut [u8], words: &[u32]) -> usize
+    requires { ⌜ Room (now out) 0 (listingOfProblem (problemOf (now words))) ⌝ }
+    ensures { λ r. ⌜ Put (now (out .entry)) 0 (listingOfProblem (problemOf (now (words .entry)))) (now (out .exit)) r ⌝ }
+{
+    let read = read_instance(words);
+    let inst = read.instance;
+    let verdict = read.verdict;
+    match verdict {
+        Verdict::Refused(r) => put_refusal(out, 0, r),
+        Verdict::Accepted => put_best(out, words, inst),
+    }
+}
+
+fn put_listing(out: &mut [u8], text: &[u8]) -> usize
+    requires { ⌜ Room (now out) 0 (listingOf (now text)) ⌝ }
+    ensures { λ r. ⌜ Put (now (out .entry)) 0 (listingOf (now (text .entry))) (now (out .exit)) r ⌝ }
+{
+    let mut words = [0u32; 2048];
+    match words_of_text(text, &mut words) {
+        TextRead::Refused(r) => put_refusal(out, 0, r),
+        TextRead::Words(n) => put_words(out, &words[..n]),
+    }
+}
+
+// Writes what is printed for a text to the front of a lent buffer. It is made in a buffer of its own, which has room for
+// every listing, so that a buffer which is too short stays as it was.
+pub fn list_site(text: &[u8], out: &mut [u8]) -> Listed
+    ensures { λ r. ⌜ r ≡ listOutcome (now (text .entry)) (now (out .entry)) .answer ⌝ }
+    ensures { λ _. ⌜ now (out .exit) ≡ listOutcome (now (text .entry)) (now (out .entry)) .out ⌝ }
+{
+    let mut listing = [0u8; 51200];
+    let n = put_listing(&mut listing, text);
+    if out.len() < n {
+        return Listed::Refused(Refusal::ShortBuffer(n));
+    }
+    put_bytes(out, 0, &listing[..n]);
+    Listed::Bytes(n)
+}
