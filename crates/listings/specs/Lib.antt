@@ -10,3 +10,4 @@ pub mod ListingLength
 pub mod ListingLaws
 pub mod Outcomes
 pub mod OutcomeLaws
+pub mod LongTextLaws

@@ -8,7 +8,9 @@ use lib.ListN.{length, take}
 use lib.Seq.{take-at}
 use borrow.Author.Tests.{le-leb, lt-leb}
 use Rattle.laws.specs.Lists.{onto}
+use Rattle.laws.specs.OntoLaws.{length-onto}
 use Rattle.instance.specs.Refusals.{room}
+use Rattle.instance.specs.declared.refusal.Refusal.{Refusal}
 use Rattle.instance.specs.declared.refusal.Refusal.the-variants.{ShortBuffer}
 use Rattle.listings.specs.Listing.{listingOf}
 use Rattle.listings.specs.ListingLength.{mostListing, listing-at-most}
@@ -56,3 +58,31 @@ module _ (text own made : List ℕ) (n : ℕ) (put : Put own 0 (listingOf text) 
     copied-outcome enough =
         let fits = le-leb (length (listingOf text)) (length out) (omega (arith, length-is)) in
         rw (copied-is, ← length-is) (is-listed text out _ _ (rw fits))
+
+-- the first n bytes of a buffer are the text's listing
+pub record ListingAtFront (text : List ℕ) (n : ℕ) (buffer : List ℕ) : Type 0 where
+  pub within : n ≤ length buffer
+  pub listing : take n buffer ≡ listingOf text
+
+-- listing into a buffer with room for every listing
+module _ (text out : List ℕ) (answer : Listed) (after : List ℕ) (long : mostListing ≤ length out)
+    (listed : IsListed text out answer after) where
+  outcome-has-room : listOutcome text out ≡ record { answer = Bytes (length (listingOf text)); out = onto (listingOf text) out }
+  unfolding listOutcome room
+  outcome-has-room = rw (le-leb (length (listingOf text)) (length out) (omega (arith, listing-at-most text)))
+
+  pub never-short : {r : Refusal} → answer ≡ Refused r → ⊥
+  never-short said = let outcome = outcome-has-room in let z : _≡_ {A = ℕ} 0 1 = cc in absurd (omega arith)
+
+  pub listed-at-front : {n : ℕ} → answer ≡ Bytes n → ListingAtFront text n after
+  unfolding onto
+  listed-at-front {n} said =
+      let outcome = outcome-has-room in
+      let count : length (listingOf text) ≡ n = cc in
+      let written : after ≡ onto (listingOf text) out = cc in
+      let few = listing-at-most text in
+      rw written
+      (record {
+        within = omega (arith, length-onto (listingOf text) out (omega arith));
+        listing = take-at (listingOf text) _ n count;
+      })
