@@ -2,10 +2,11 @@
 use crate::show;
 
 pub(crate) fn lent() {
+    show::title(b"14, 12 and 11 bytes lent");
     let mut longer = [46u8; 14];
-    show::listing_into(b"14 bytes lent", b"", &mut longer);
+    show::listing_into(b"", &mut longer);
     let mut just = [46u8; 12];
-    show::listing_into(b"12 bytes lent", b"", &mut just);
+    show::listing_into(b"", &mut just);
     let mut short = [46u8; 11];
-    show::listing_into(b"11 bytes lent", b"", &mut short);
+    show::listing_into(b"", &mut short);
 }

@@ -1,4 +1,4 @@
-// Runs the listing on worked examples, and prints each listing under a line that names the example. What is expected was
+// Runs the listing on worked examples, and prints what each one gives, under lines that name them. What is expected was
 // worked out from the paper, by hand.
 mod accepted;
 mod buffers;

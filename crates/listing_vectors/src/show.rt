@@ -6,7 +6,7 @@ use libc::STDOUT_FILENO;
 use listings::Listed;
 use listings::list_site;
 
-pub(crate) fn print(bytes: &[u8]) {
+fn print(bytes: &[u8]) {
     io::write_all(STDOUT_FILENO, bytes);
 }
 
@@ -28,16 +28,15 @@ fn print_front(bytes: &[u8], n: usize) {
     }
 }
 
-fn print_title(title: &[u8]) {
+pub(crate) fn title(words: &[u8]) {
     print(b"-- ");
-    print(title);
+    print(words);
     print(b"\n");
 }
 
-// The listing of a text, in a buffer with room for every listing.
-pub(crate) fn listing(title: &[u8], text: &[u8]) {
-    print_title(title);
-    let mut out = [0u8; 51200];
+// The listing of a text, in a buffer with room for each of these examples.
+pub(crate) fn listing(text: &[u8]) {
+    let mut out = [0u8; 1024];
     match list_site(text, &mut out) {
         Listed::Bytes(n) => print_front(&out, n),
         Listed::Refused(r) => print_refusal(r),
@@ -45,8 +44,7 @@ pub(crate) fn listing(title: &[u8], text: &[u8]) {
 }
 
 // The listing of a text in a lent buffer: the answer, and what the buffer holds then.
-pub(crate) fn listing_into(title: &[u8], text: &[u8], out: &mut [u8]) {
-    print_title(title);
+pub(crate) fn listing_into(text: &[u8], out: &mut [u8]) {
     match list_site(text, out) {
         Listed::Bytes(n) => {
             print_number(n as u64);
