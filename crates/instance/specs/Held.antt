@@ -1,18 +1,14 @@
 -- The problem that an instance struct holds, for contracts of functions that take the struct.
 use Prim.Native.Nat.{ℕ, _<_, _≤_}
-use mathlib.Core.Path.{_≡_, refl, sym, ap, subst, _∙_}
-use mathlib.Core.List.{List}
-use lib.ListN.{length, take, getD}
+use mathlib.Core.Path.{_≡_, sym, ap}
+use lib.ListN.{take, getD}
 use lib.Seq.{getD-take}
 use native.Mathlib.Omega.{arith}
-use Rattle.laws.specs.Lists.{padded}
-use Rattle.laws.specs.PaddedLaws.{take-padded, length-padded}
+use Rattle.laws.specs.PaddedLaws.{take-padded}
 use Rattle.instance.specs.Limits.{mostLevels, mostTasks}
 use Rattle.instance.specs.Node.{Problem, levelCount, taskCount, levelAt, taskAt, noLevel, noTask, span, stored}
 use Rattle.instance.specs.Valid.{Valid}
 use Rattle.instance.specs.declared.node.Instance.{Instance}
-use Rattle.instance.specs.declared.node.Level.{Level}
-use Rattle.instance.specs.declared.node.Task.{Task}
 
 unfoldable pub problemIn : Instance → Problem
 problemIn inst =
@@ -23,7 +19,7 @@ problemIn inst =
       tasks = take (inst .taskcount) (inst .tasks);
     }
 
--- an instance that was read without refusal
+-- an instance as reading without refusal leaves it: it holds a valid problem, and nothing beside it
 pub record Sound (inst : Instance) : Type 0 where
   pub valid : Valid (problemIn inst)
   pub is-stored : inst ≡ stored (problemIn inst)
@@ -56,15 +52,6 @@ module _ (inst : Instance) (s : Sound inst) where
   pub held-levelcount : inst .levelcount ≡ levelCount (problemIn inst)
   unfolding stored
   held-levelcount = ap (λ (i : Instance). i .levelcount) (s .is-stored)
-
-  pub held-tasks-length : length (inst .tasks) ≡ mostTasks
-  unfolding stored
-  held-tasks-length = ap (λ (i : Instance). length (i .tasks)) (s .is-stored) ∙ length-padded mostTasks noTask (problemIn inst .tasks)
-
-  pub held-levels-length : length (inst .levels) ≡ mostLevels
-  unfolding stored
-  held-levels-length =
-      ap (λ (i : Instance). length (i .levels)) (s .is-stored) ∙ length-padded mostLevels noLevel (problemIn inst .levels)
 
   pub held-task : (i : ℕ) → i < taskCount (problemIn inst) → getD (inst .tasks) i noTask ≡ taskAt (problemIn inst) i
   unfolding problemIn

@@ -1,4 +1,4 @@
--- Every number of the paper's section 'Site file', once.
+-- The numbers of the paper's section 'Site file', each once, and the largest span.
 use Prim.Native.Nat.{ℕ}
 
 -- "As text it is at most 4,096 bytes"

@@ -36,7 +36,8 @@ levelAt p l = getD (p .levels) l noLevel
 abbrev pub taskAt : Problem → ℕ → Task
 taskAt p i = getD (p .tasks) i noTask
 
--- "Span L: least common multiple of the periods, 1 with no task": of `so-far` and the tasks' periods
+-- "Span L: least common multiple of the periods, 1 with no task", elsewhere called the hyperperiod: of `so-far` and the
+-- tasks' periods
 unfoldable pub spanFrom : ℕ → List Task → ℕ
 spanFrom so-far [] = so-far
 spanFrom so-far (t ∷ ts) = spanFrom (lcm so-far (t .period)) ts

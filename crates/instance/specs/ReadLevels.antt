@@ -6,7 +6,7 @@ use native.Mathlib.Nat.{le-of-suc-le-suc}
 use native.Mathlib.Omega.{arith}
 use lib.ListN.{length, getD}
 use Rattle.instance.specs.Limits
-use Rattle.instance.specs.Node.{Problem, noLevel, levelCount, levelAt}
+use Rattle.instance.specs.Node.{Problem, noLevel}
 use Rattle.instance.specs.SiteFile.{taken, word, levels}
 use Rattle.instance.specs.Valid.{InRange, Valid, wordsOfLevels}
 use Rattle.instance.specs.ReadWords.{continued, first-word, between-true, in-range-between, taken-same}
@@ -121,10 +121,3 @@ module _ {p : Problem} (v : Valid p) where
       (λ l below. v .level l below .power)
       (v .power-rises)
       (λ below. v .level 0 below .power .at-least)
-
-  -- not only from neighbour to neighbour
-  pub later-level-is-faster : (l m : ℕ) → l < m → m < levelCount p → levelAt p l .speed < levelAt p m .speed
-  later-level-is-faster = rising-rises valid-speeds
-
-  pub later-level-draws-more : (l m : ℕ) → l < m → m < levelCount p → levelAt p l .power < levelAt p m .power
-  later-level-draws-more = rising-rises valid-powers

@@ -1,11 +1,10 @@
 -- The span is the least common multiple of the periods: above 0, a multiple of each, and a divisor of whatever is a
 -- multiple of each.
 use Prim.Native.Nat.{ℕ, zero, suc, _≤_, _<_, _∣_}
-use mathlib.Core.Path.{_≡_, refl}
 use mathlib.Core.List.{List, [], _∷_}
 use native.Mathlib.Nat.{dvd-refl, dvd-trans, one-dvd, le-of-dvd, le-of-suc-le-suc}
 use native.Mathlib.Omega.{arith}
-use lib.ListN.{length, getD, take}
+use lib.ListN.{length, getD}
 use Rattle.laws.specs.Multiples.{lcm}
 use Rattle.laws.specs.MultiplesLaws.{left-divides-lcm, right-divides-lcm, lcm-above-zero, lcm-divides-common-multiple}
 use Rattle.instance.specs.Node.{Problem, taskCount, taskAt, noTask, spanFrom, span}
@@ -69,27 +68,6 @@ pub so-far-at-most-spanFrom : (s : ℕ) (ts : List Task) → 0 < s → EachPerio
 so-far-at-most-spanFrom s ts s-above periods =
     let h = spanFrom-is-span s ts s-above periods in le-of-dvd (h .above-zero) (h .so-far-divides)
 
-prefix-spanFrom-at-most : (k s : ℕ) (ts : List Task) → 0 < s → EachPeriod (λ p. 0 < p) ts →
-    spanFrom s (take k ts) ≤ spanFrom s ts
-unfolding spanFrom
-prefix-spanFrom-at-most zero s ts s-above periods = so-far-at-most-spanFrom s ts s-above periods
-prefix-spanFrom-at-most (suc k) s [] s-above periods = omega arith
-prefix-spanFrom-at-most (suc k) s (t ∷ ts) s-above periods =
-    prefix-spanFrom-at-most
-    k
-    (lcm s (t .period))
-    ts
-    (lcm-above-zero s (t .period) (periods 0 (omega arith)))
-    (λ i l. periods (suc i) (omega arith))
-
-pub span-of-no-task : (p : Problem) → taskCount p ≡ 0 → span p ≡ 1
-unfolding span spanFrom
-span-of-no-task p = go (p .tasks)
-  where
-    go : (ts : List Task) → length ts ≡ 0 → spanFrom 1 ts ≡ 1
-    go [] e = refl
-    go (t ∷ ts) e = absurd (omega arith)
-
 module _ {p : Problem} (v : Valid p) where
   periods-above-zero : EachPeriod (λ q. 0 < q) (p .tasks)
   periods-above-zero i l = v .task i l .period .at-least
@@ -106,7 +84,3 @@ module _ {p : Problem} (v : Valid p) where
 
   pub span-divides-common-multiple : (m : ℕ) → ((i : ℕ) → i < taskCount p → taskAt p i .period ∣ m) → span p ∣ m
   span-divides-common-multiple m = span-is-span .divides-common-multiple m (one-dvd m)
-
-  pub prefix-span-at-most : (k : ℕ) → spanFrom 1 (take k (p .tasks)) ≤ span p
-  unfolding span
-  prefix-span-at-most k = prefix-spanFrom-at-most k 1 (p .tasks) (omega arith) periods-above-zero

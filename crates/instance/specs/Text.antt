@@ -1,7 +1,7 @@
 -- The paper's section 'Site file', the text: "at most 4,096 bytes of digits, spaces and line feeds; numbers are taken
 -- from the text one after another, each a longest run of digits, leading zeros allowed."
-use Prim.Native.Nat.{ℕ, zero, suc, _+_, _-_, _*_}
-use mathlib.Core.Bool.{Bool, true, false, cond, not, _&&_, _||_}
+use Prim.Native.Nat.{ℕ, suc, _+_, _-_, _*_}
+use mathlib.Core.Bool.{Bool, false, cond, not, _&&_, _||_}
 use mathlib.Core.List.{List, [], _∷_}
 use lib.Dec.{leb, ltb, eqb}
 use lib.ListN.{length, take}

@@ -37,7 +37,7 @@ fn no_levels(why: Refusal) -> LevelsRead
     }
 }
 
-// The level at an index, faster and hungrier than the one before it.
+// The level at an index, of more speed and more power than the one before it.
 fn level_at(words: &[u32], at: usize, before: Level) -> LevelRead
     requires { ⌜ WithinLimits before ⌝ }
     ensures { λ r. ⌜ r ≡ levelRead (oneLevel before at (drop at (now (words .entry)))) ⌝ }

@@ -1,4 +1,4 @@
-// What a site's file says: from text to words, from words to an instance, and every refusal that these papers number.
+// What a site's file says: from text to words, from words to an instance, and the refusals 1 to 10 of document 01.
 mod levels;
 mod limits;
 mod multiples;
@@ -16,10 +16,6 @@ pub use node::Instance;
 pub use node::Level;
 pub use node::Task;
 pub use node::Weights;
-pub use reader::Reader;
-pub use reader::next;
-pub use reader::next_number;
-pub use reader::reader_at;
 pub use refusal::InstanceRead;
 pub use refusal::Refusal;
 pub use refusal::TextRead;
@@ -27,6 +23,4 @@ pub use refusal::Verdict;
 pub use refusal::refusal_number;
 pub use refusal::refusal_place;
 pub use site::read_instance;
-pub use text::Token;
-pub use text::number_at;
 pub use text::words_of_text;

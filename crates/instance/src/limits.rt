@@ -1,4 +1,4 @@
-// Every number of the paper's section 'Site file', once.
+// What words are tested against: the numbers of the paper's section 'Site file', each once, and the largest span.
 
 pub(crate) const SETTINGS_COUNT: u32 = 3;
 

@@ -4,25 +4,25 @@ use crate::text::number_at;
 ghost use mathlib.Core.Path.{_≡_};
 ghost use Rattle.instance.specs.Tokens.{tokenAt};
 
-pub struct Reader<'a> {
-    pub text: &'a [u8],
-    pub at: usize,
+pub(crate) struct Reader<'a> {
+    pub(crate) text: &'a [u8],
+    pub(crate) at: usize,
 }
 
-pub fn reader_at<'a>(text: &'a [u8], at: usize) -> Reader<'a>
+pub(crate) fn reader_at<'a>(text: &'a [u8], at: usize) -> Reader<'a>
     ensures { λ r. ⌜ (r .text ≡ text .entry) × (r .at ≡ at) ⌝ }
 {
     Reader { text, at }
 }
 
-pub fn next<'a>(reader: Reader<'a>) -> Token
+pub(crate) fn next<'a>(reader: Reader<'a>) -> Token
     ensures { λ r. ⌜ r ≡ tokenAt (now (reader .entry .text)) (reader .entry .at) ⌝ }
 {
     number_at(reader.text, reader.at)
 }
 
 // The step for whoever has the text and the position apart.
-pub fn next_number(text: &[u8], at: usize) -> Token
+pub(crate) fn next_number(text: &[u8], at: usize) -> Token
     ensures { λ r. ⌜ r ≡ tokenAt (now (text .entry)) at ⌝ }
 {
     next(reader_at(text, at))

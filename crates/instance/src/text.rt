@@ -21,7 +21,7 @@ const MOST_WORD: u64 = 4_294_967_295;
 
 // What stands in a text after a position: a number and the position after its last digit, the text's end, or the offset
 // of a fault.
-pub enum Token {
+pub(crate) enum Token {
     Number(u32, usize),
     End,
     Fault(usize),
@@ -74,7 +74,7 @@ fn number_from(text: &[u8], first: usize) -> Token
 }
 
 // The next number from `at` on: whoever reads on goes on at the position that comes with it.
-pub fn number_at(text: &[u8], at: usize) -> Token
+pub(crate) fn number_at(text: &[u8], at: usize) -> Token
     ensures { λ r. ⌜ r ≡ tokenAt (now (text .entry)) at ⌝ }
 {
     let first = after_blanks(text, at);
