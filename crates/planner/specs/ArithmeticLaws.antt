@@ -1,9 +1,10 @@
--- What demand 2 needs: ticks round up, a price is document 01's sums, and pricing, tabling and the check answer for an
--- instance that was read what the definitions say of it.
+-- What demand 2 needs: ticks round up, a price is document 01's sums, and pricing, tabling, the check and planning answer
+-- for an instance that was read what the definitions say of it.
 use Prim.Native.Nat.{ℕ, suc, _+_, _-_, _*_, _/_, _≤_, _<_}
 use mathlib.Core.Bool.{cond}
 use mathlib.Core.List.{List}
 use mathlib.Core.Logic.{_↔_}
+use mathlib.Core.Option.{Option, some}
 use mathlib.Core.Path.{_≡_, refl, ap, _∙_}
 use native.Mathlib.Nat.{div-lt-iff-lt-mul}
 use native.Mathlib.Omega.{arith}
@@ -14,15 +15,18 @@ use Rattle.instance.specs.Node.{Problem, taskCount, levelAt, taskAt}
 use Rattle.instance.specs.Refusals.{accepted, room}
 use Rattle.instance.specs.SiteFile.{problemOf}
 use Rattle.instance.specs.declared.refusal.Verdict.the-variants.{Accepted}
+use Rattle.schedule.specs.CheckLaws.{choices-pass}
 use Rattle.schedule.specs.Checks.{check}
 use Rattle.schedule.specs.Outcomes.{priceOutcome, priceOutcomeOf, pricedIf, tableOutcome, tableOutcomeOf, tableWhere, checkOutcome, checkOutcomeOf}
-use Rattle.schedule.specs.Plans.{planPasses}
+use Rattle.schedule.specs.Plans.{choicesPass, planPasses}
 use Rattle.schedule.specs.Quantities.{isRefused, levelOf, ticks, jobTicks, jobs, penalty, cost, priceOf}
 use Rattle.schedule.specs.Tables.{tableOf, tableSize}
 use Rattle.schedule.specs.VerdictLaws.{andThen-accepts}
 use Rattle.schedule.specs.declared.prices.Priced.the-variants as Priced
 use Rattle.planner.specs.CostLaws.{energy-of-kept-tasks}
-use Rattle.planner.specs.OptionsLaws.{passing-choices}
+use Rattle.planner.specs.Outcomes.{planAnswered, planOutcome}
+use Rattle.planner.specs.PlannedLaws.{where-room}
+use Rattle.planner.specs.Planning.{bestPlan}
 use Rattle.planner.specs.RoomLaws.{enough-room}
 
 -- the least number of ticks in which the cycles are done
@@ -35,11 +39,11 @@ ticks-round-up cycles speed n above =
     )
 
 module _ (p : Problem) (plan : List ℕ) where
-  pub priced-energy : planPasses p plan ≡ Accepted →
+  pub priced-energy : choicesPass p plan ≡ Accepted →
       priceOf p plan .energy
       ≡ sum (λ i. cond (isRefused plan i) 0 (jobs p i * jobTicks p plan i * levelAt p (levelOf p plan i) .power)) (taskCount p)
   unfolding priceOf
-  priced-energy passes = energy-of-kept-tasks p plan (passing-choices p plan passes)
+  priced-energy passes = energy-of-kept-tasks p plan (choices-pass p plan .0 passes)
 
   pub priced-penalty : priceOf p plan .penalty ≡ sum (λ i. cond (isRefused plan i) (jobs p i * taskAt p i .penalty) 0) (taskCount p)
   unfolding priceOf penalty
@@ -65,3 +69,9 @@ module _ (words : List ℕ) (p : Problem) (read : problemOf words ≡ accepted p
   pub checked-as-defined : (plan table : List ℕ) → checkOutcome words plan table ≡ check p plan table
   unfolding checkOutcome
   checked-as-defined plan table = ap (λ r. checkOutcomeOf r plan table) read
+
+  pub best-plan-is-written : (best plan table : List ℕ) → bestPlan p ≡ some best → taskCount p ≤ length plan →
+      tableSize p ≤ length table → planOutcome words plan table ≡ planAnswered p (some best) plan table
+  best-plan-is-written best plan table e plan-room table-room =
+      where-room words plan table p read Accepted (rw (enough-room (taskCount p) plan plan-room, enough-room (tableSize p) table table-room))
+      ∙ ap (λ (found : Option (List ℕ)). planAnswered p found plan table) e

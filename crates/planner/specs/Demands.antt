@@ -32,12 +32,12 @@ use Rattle.schedule.specs.Tables.{tableOf, tableSize}
 use Rattle.schedule.specs.WorkedOut.{WorkedOut}
 use Rattle.schedule.specs.WorkedOutLaws.{worked-out-is-table}
 use Rattle.schedule.specs.declared.prices.Priced.the-variants as Priced
-use Rattle.planner.specs.ArithmeticLaws.{ticks-round-up, priced-energy, priced-penalty, priced-cost, passing-plan-is-priced, passing-plan-is-tabled, checked-as-defined}
+use Rattle.planner.specs.ArithmeticLaws.{ticks-round-up, priced-energy, priced-penalty, priced-cost, passing-plan-is-priced, passing-plan-is-tabled, checked-as-defined, best-plan-is-written}
 use Rattle.planner.specs.BestDrawingLaws.{no-plan-iff-no-drawing, answered-is-best-drawing}
 use Rattle.planner.specs.EndingLaws.{text-ends, reading-ends, pricing-ends, tabling-ends, checking-ends, planning-ends}
 use Rattle.planner.specs.Endings.{lent, Ends, readThen, planFound, neededFor, textVerdict, priceVerdict}
 use Rattle.planner.specs.Outcomes.{planOutcome}
-use Rattle.planner.specs.Planned.{NoDrawing, BestDrawing, NobodyBeats, Planned}
+use Rattle.planner.specs.Planned.{NoDrawing, BestDrawing, NobodyBeats}
 use Rattle.planner.specs.PlannedLaws.{planOutcome-is-planned}
 use Rattle.planner.specs.Planning.{bestPlan}
 
@@ -120,8 +120,8 @@ pub record ArithmeticIsThePapers (words : List ℕ) (p : Problem) : Type 0 where
   -- "least common multiple of the periods"
   pub span-is-common-multiple : (i : ℕ) → i < taskCount p → taskAt p i .period ∣ span p
   pub span-is-least : (m : ℕ) → ((i : ℕ) → i < taskCount p → taskAt p i .period ∣ m) → span p ∣ m
-  -- "Energy of a kept task: jobs × ticks × P."
-  pub energy-of-kept-tasks : (plan : List ℕ) → planPasses p plan ≡ Accepted →
+  -- "Energy of a kept task: jobs × ticks × P.": of a plan that 7 lets pass
+  pub energy-of-kept-tasks : (plan : List ℕ) → choicesPass p plan ≡ Accepted →
       priceOf p plan .energy
       ≡ sum (λ i. cond (isRefused plan i) 0 (jobs p i * jobTicks p plan i * levelAt p (levelOf p plan i) .power)) (taskCount p)
   -- "Penalty of a refused one: jobs × its penalty."
@@ -130,12 +130,16 @@ pub record ArithmeticIsThePapers (words : List ℕ) (p : Problem) : Type 0 where
   -- "energy weight × all energy + penalty weight × all penalty"
   pub weighted-cost : (plan : List ℕ) →
       priceOf p plan .cost ≡ p .weights .energy * priceOf p plan .energy + p .weights .penalty * priceOf p plan .penalty
-  -- "among jobs released and not finished, the earliest due runs; of equal ones, the lower task number"
-  pub slot-table : (plan table : List ℕ) → WorkedOut p plan table ↔ (table ≡ tableOf p plan)
-  -- of a plan that 7 and 8 let pass
+  -- "among jobs released and not finished, the earliest due runs; of equal ones, the lower task number": of a plan that 7
+  -- and 8 let pass; of another no table is made
+  pub slot-table : (plan table : List ℕ) → planPasses p plan ≡ Accepted → WorkedOut p plan table ↔ (table ≡ tableOf p plan)
   pub price-returned : (plan : List ℕ) → planPasses p plan ≡ Accepted → priceOutcome words plan ≡ Priced.Cost (priceOf p plan)
   pub table-written : (plan table : List ℕ) → planPasses p plan ≡ Accepted → tableSize p ≤ length table →
       tableOutcome words plan table ≡ record { answer = Accepted; table = onto (tableOf p plan) table }
+  -- "Planning writes that plan and its table, and returns energy, penalty and cost."
+  pub plan-written : (best plan table : List ℕ) → bestPlan p ≡ some best → taskCount p ≤ length plan → tableSize p ≤ length table →
+      planOutcome words plan table
+      ≡ record { answer = Priced.Cost (priceOf p best); plan = onto best plan; table = onto (tableOf p best) table }
   -- of a plan that 7 lets pass
   pub check-passes : (plan table : List ℕ) → choicesPass p plan ≡ Accepted →
       (checkOutcome words plan table ≡ Accepted) ↔ DrawnTable p plan table
@@ -150,15 +154,16 @@ demand-2 words p read =
       energy-of-kept-tasks = priced-energy p;
       penalty-of-refused-tasks = priced-penalty p;
       weighted-cost = priced-cost p;
-      slot-table = worked-out-is-table p (valid-is-periodic valid);
+      slot-table = λ plan table passes. worked-out-is-table p (valid-is-periodic valid) plan table;
       price-returned = passing-plan-is-priced words p read;
       table-written = passing-plan-is-tabled words p read;
+      plan-written = best-plan-is-written words p read;
       check-passes = λ plan table passes.
           rw (checked-as-defined words p read plan table)
           (check-accepts-exactly-drawn-tables p (valid-is-periodic valid) plan table passes);
     }
 
--- Demand 3. "Nobody beats the plan. For every instance read without refusal: 'no plan' exactly when no drawing exists;
+-- Demand 3. "Nobody beats the plan. For every instance read without refusal: "no plan" exactly when no drawing exists;
 -- otherwise the plan with its table is a drawing, its cost is the one returned, and every drawing by anyone costs at least as
 -- much; and the table repeated for ever serves every job."
 pub record NobodyBeatsThePlan (words : List ℕ) (p : Problem) : Type 0 where
@@ -181,8 +186,3 @@ demand-3 words p read =
       drawings-pass-the-check = λ plan table.
           rw (checked-as-defined words p read plan table) (check-accepts-exactly-drawings p periodic plan table);
     }
-
--- Demand 3 with all that planning promises besides, refusals included, as a contract can cite it.
-pub planning-keeps-its-promise : (words plan table : List ℕ) →
-    let o = planOutcome words plan table in Planned words plan table (o .answer) (o .plan) (o .table)
-planning-keeps-its-promise = planOutcome-is-planned

@@ -1,7 +1,7 @@
 -- How large the options of a valid problem are, and the cost of a plan that passes: what 64-bit numbers have to hold.
 use Prim.Native.Nat.{ℕ, zero, suc, _*_, _/_, _%_, _^_, _≤_, _<_}
 use mathlib.Core.Bool.{true, false}
-use mathlib.Core.List.{List, [], _∷_, map}
+use mathlib.Core.List.{List, []}
 use mathlib.Core.Logic.{_⊎_, inl, inr}
 use mathlib.Core.Path.{_≡_, refl}
 use native.Mathlib.Nat.{le-trans, mul-le-mul, mod-lt}
@@ -21,7 +21,6 @@ use Rattle.schedule.specs.PriceBounds.{job-penalty-at-most}
 use Rattle.schedule.specs.QuantityBounds.{ticks-at-most, jobs-at-most}
 use Rattle.schedule.specs.Quantities.{choiceAt, jobs, cost}
 use Rattle.search.specs.Assignment.{choiceCost, choiceLoad, totalCost}
-use Rattle.search.specs.Bounds.{CostsAtMost, nothing, more}
 use Rattle.planner.specs.CostLaws.{core-of-choice, total-cost-by-task, cost-is-total}
 use Rattle.planner.specs.OptionsLaws.{core-load-by-task, passing-choices, passing-is-allowed}
 use Rattle.planner.specs.OptionsOf.{jobsOf, loadAt, itemOf, optionsOf}
@@ -54,14 +53,6 @@ module _ {p : Problem} (v : Valid p) where
   unfolding itemOf
   kept-cost-at-most t l h fits =
       mul-le-mul (v .energy-weight .at-most) (mul-le-mul (le-trans fits (v .span-at-most)) (v .level l h .power .at-most))
-
-  pub costs-at-most : CostsAtMost (levelCount p) (span p) mostKeptCost (optionsOf p .items)
-  unfolding optionsOf
-  costs-at-most = go (p .tasks)
-    where
-      go : (ts : List Task) → CostsAtMost (levelCount p) (span p) mostKeptCost (map (itemOf p) ts)
-      go [] = nothing
-      go (t ∷ ts) = more (kept-cost-at-most t) (go ts)
 
   must-penalty : (t : Task) → itemOf p t .must ≡ true → t .penalty ≡ mayNotBeRefused
   unfolding itemOf

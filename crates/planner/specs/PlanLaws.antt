@@ -6,7 +6,7 @@ use mathlib.Core.Path.{_≡_, refl, sym, ap, subst}
 use native.Mathlib.Omega.{arith}
 use lib.ListN.{length, take}
 use Rattle.instance.specs.Held.{problemIn, held-taskcount}
-use Rattle.instance.specs.Node.{Problem, taskCount}
+use Rattle.instance.specs.Node.{taskCount}
 use Rattle.instance.specs.Refusals.{refused, room}
 use Rattle.instance.specs.SiteFile.{problemOf}
 use Rattle.instance.specs.declared.node.Instance.{Instance}
@@ -15,15 +15,13 @@ use Rattle.instance.specs.declared.refusal.Refusal.{Refusal}
 use Rattle.instance.specs.declared.refusal.Verdict.the-variants.{Accepted, Refused}
 use Rattle.schedule.specs.HeldSlots.{held-table-size}
 use Rattle.schedule.specs.Outcomes.{priceOutcome, tableOutcome}
-use Rattle.schedule.specs.Plans.{planPasses}
 use Rattle.schedule.specs.ReadLaws.{HoldsProblemOf}
 use Rattle.schedule.specs.Tables.{tableSize}
 use Rattle.schedule.specs.declared.prices.Priced.{Priced}
 use Rattle.planner.specs.ArithmeticLaws.{passing-plan-is-priced, passing-plan-is-tabled}
 use Rattle.planner.specs.BestChoices.{chosenOf, chosenOnto}
-use Rattle.planner.specs.BestPlanLaws.{best-plan-is-best}
+use Rattle.planner.specs.BestPlanLaws.{best-plan-passes}
 use Rattle.planner.specs.EndingLaws.{best-plan-length}
-use Rattle.planner.specs.OptionsLaws.{passing-is-allowed}
 use Rattle.planner.specs.Outcomes.{PlanOutcome, planRefused, planAnswered, planOutcome}
 use Rattle.planner.specs.Planned.{Planned}
 use Rattle.planner.specs.PlannedLaws.{of-reading, where-room, planOutcome-is-planned}
@@ -58,9 +56,6 @@ given-outcome-is-promised words plan table answer planAfter tableAfter e = (
     ),
   ),
 )
-
-pub best-plan-passes : (p : Problem) {best : List ℕ} → bestPlan p ≡ some best → planPasses p best ≡ Accepted
-best-plan-passes p e = passing-is-allowed p _ .1 (best-plan-is-best p e .allowed)
 
 pub refused-words-outcome : (words plan table : List ℕ) {r : Refusal} → problemOf words ≡ refused r →
     planRefused r plan table ≡ planOutcome words plan table

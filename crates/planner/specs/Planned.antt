@@ -41,7 +41,7 @@ pub record BestDrawing (p : Problem) (plan table : List ℕ) : Type 0 where
 
 -- Demand 3 of an answer, and of the plan and the table that were written with it
 pub record NobodyBeats (p : Problem) (answer : Priced) (plan table : List ℕ) : Type 0 where
-  -- "'no plan' exactly when no drawing exists"
+  -- "no plan" exactly when no drawing exists
   pub no-plan : (answer ≡ Priced.Refused NoPlan) ↔ NoDrawing p
   -- "otherwise .. its cost is the one returned", with energy and penalty
   pub otherwise : (answer ≡ Priced.Refused NoPlan → ⊥) →

@@ -26,8 +26,8 @@ pub check-accepts-exactly-drawings : (p : Problem) → Periodic p → (plan tabl
 check-accepts-exactly-drawings p periodic plan table =
     Iff·trans (check-accepts p periodic plan table) (drawing-of-parts p plan table periodic, parts-of-drawing p plan table)
 
--- "each job of a kept task has exactly its ticks as slots between release and deadline on its core and every other slot
--- is 0"
+-- "the check passes exactly the tables in which each job of a kept task has its ticks between release and deadline on its
+-- core and every other slot is idle": such a table
 pub record DrawnTable (p : Problem) (plan table : List ℕ) : Type 0 where
   pub table-size : length table ≡ p .cores * span p
   pub jobs-served : (i j : ℕ) → i < taskCount p → (choiceAt plan i ≡ 0 → ⊥) → j < jobs p i →

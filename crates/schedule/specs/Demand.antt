@@ -57,9 +57,13 @@ QuietAfterDue slots core i j =
 abbrev pub repeated : ℕ → (ℕ → ℕ) → ℕ → ℕ
 repeated span slots t = slots (t % span)
 
--- the same kept tasks on two cores: the ticks of all tasks are equal, and of those that have ticks period and window
-pub record SameKeptTasks (core core₂ : CoreTasks) : Type 0 where
-  pub same-size : core .size ≡ core₂ .size
-  pub same-ticks : (i : ℕ) → i < core .size → core .ticks i ≡ core₂ .ticks i
-  pub same-period : (i : ℕ) → i < core .size → 0 < core .ticks i → core .period i ≡ core₂ .period i
-  pub same-window : (i : ℕ) → i < core .size → 0 < core .ticks i → core .window i ≡ core₂ .window i
+-- task i is the same on a second core
+pub record SameTask (core core₂ : CoreTasks) (i : ℕ) : Type 0 where
+  pub is-task : i < core₂ .size
+  pub same-period : core .period i ≡ core₂ .period i
+  pub same-window : core .window i ≡ core₂ .window i
+  pub same-ticks : core .ticks i ≡ core₂ .ticks i
+
+-- whatever is kept on the first core, that is, has ticks there, is the same on the second. Other tasks may be anything.
+pub record KeptAlsoBy (core₂ core : CoreTasks) : Type 0 where
+  pub kept-task : (i : ℕ) → i < core .size → 0 < core .ticks i → SameTask core core₂ i

@@ -1,5 +1,5 @@
--- The paper's "Drawings, as demand 3 means them". Nothing here is shared with the check, which is proved to pass exactly
--- the drawings.
+-- The paper's "Drawings, as demand 3 means them". The check, which is proved to pass exactly the drawings, reads choices,
+-- windows and slots by the same definitions; but it counts a job's slots, which are listed here.
 use Prim.Native.Nat.{ℕ, suc, _≤_, _<_, _*_}
 use mathlib.Core.Path.{_≡_}
 use mathlib.Core.Logic.{_↔_, _⊎_}

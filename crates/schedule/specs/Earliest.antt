@@ -3,7 +3,7 @@ use Prim.Native.Nat.{ℕ, zero, suc, pred, _≤_, _<_}
 use mathlib.Core.Bool.{Bool, true, false, cond}
 use mathlib.Core.Logic.{⊎-elim}
 use mathlib.Core.Path.{_≡_, refl, sym, _∙_}
-use native.Mathlib.Nat.{le-step, le-refl, le-of-lt, pos-of-ne-zero}
+use native.Mathlib.Nat.{le-step, le-refl, le-of-lt, pos-of-ne-zero, eq-zero-or-pos}
 use native.Mathlib.Omega.{arith}
 use lib.Dec.{eqb, ltb}
 use borrow.Author.Tests.{eqb-true, eqb-false, ltb-true, ltb-false, ne-eqb}
@@ -88,6 +88,25 @@ choice-same same (Choice.runs k l has first lower) =
     (rw (same k l) at has)
     (λ i m h. first i m (rw (same i m) h))
     (λ i m h. lower i m (rw (same i (omega arith)) h))
+
+-- each of the n tasks that has ticks left is among the n₂, with as many left and due at the same tick
+abbrev pub SameReady : (due left : ℕ → ℕ) → ℕ → (due₂ left₂ : ℕ → ℕ) → ℕ → Type 0
+SameReady due left n due₂ left₂ n₂ = (i : ℕ) → i < n → 0 < left i → (i < n₂) × (left i ≡ left₂ i) × (due i ≡ due₂ i)
+
+-- it depends on the tasks that have ticks left, however many others there are
+pub choice-among-same : {due left due₂ left₂ : ℕ → ℕ} {n n₂ number : ℕ} →
+    SameReady due left n due₂ left₂ n₂ → SameReady due₂ left₂ n₂ due left n →
+    Choice due left n number → Choice due₂ left₂ n₂ number
+choice-among-same {left₂ = left₂} to from (Choice.idle all) =
+    Choice.idle (λ i l. ⊎-elim (λ none. none) (λ some. let back = from i l some in absurd (omega (arith, all i (back .0)))) (eq-zero-or-pos (left₂ i)))
+choice-among-same {due} {left} {due₂} {left₂} to from (Choice.runs k l has first lower) =
+    let there = to k l has in
+    Choice.runs
+    k
+    (there .0)
+    (rw (there .1) at has)
+    (λ i m some. let back = from i m some in omega (arith, first i (back .0) (rw (back .1) at some)))
+    (λ i m some. let back = from i (omega arith) some in omega (arith, lower i m (rw (back .1) at some)))
 
 pub chosen-has-left : {due left : ℕ → ℕ} {n number : ℕ} (k : ℕ) → Choice due left n number → number ≡ suc k → 0 < left k
 chosen-has-left k (Choice.idle all) e = absurd (omega arith)

@@ -36,7 +36,7 @@ module _ (p : Problem) (periodic : Periodic p) (plan : List ℕ) (k : ℕ) where
   unfolding coreTasks
   periods-whole = record { span-above-0 = periodic .span-positive; period-divides = periodic .period-divides-span }
 
-  row-serves-core-tasks : (slots : ℕ → ℕ) → RowServes p plan k slots → Serves slots (span p) (coreTasks p plan k)
+  pub row-serves-core-tasks : (slots : ℕ → ℕ) → RowServes p plan k slots → Serves slots (span p) (coreTasks p plan k)
   unfolding coreTasks jobs
   row-serves-core-tasks slots serves = record { each-job = serves .each-job }
 

@@ -26,6 +26,7 @@ pub mod ServedLaws
 pub mod RepeatedRowLaws
 pub mod KeptTaskLaws
 pub mod SchedulingTheorems
+pub mod TableRowLaws
 pub mod WorkedOut
 pub mod WorkedOutLaws
 pub mod FitLaws

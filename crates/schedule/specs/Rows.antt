@@ -1,7 +1,7 @@
 -- A core's row: earliest deadline first in whole ticks. "The row of a core is worked out from tick 0: among jobs released
 -- and not finished, the earliest due runs; of equal ones, the lower task number."
 use Prim.Native.Nat.{ℕ, zero, suc, pred, _+_, _*_, _/_, _%_}
-use mathlib.Core.Bool.{Bool, cond}
+use mathlib.Core.Bool.{cond}
 use mathlib.Core.List.{List}
 use lib.Dec.{ltb, eqb}
 use lib.ListN.{getD, replicate}
@@ -12,7 +12,7 @@ use Rattle.laws.specs.Lists.{listOf}
 pub record CoreTasks : Type 0 where
   pub size : ℕ
   pub period : ℕ → ℕ
-  -- from a job's release tick to its due tick
+  -- from a job's release tick to its due tick: the relative deadline
   pub window : ℕ → ℕ
   -- of a job
   pub ticks : ℕ → ℕ
@@ -21,7 +21,9 @@ pub record CoreTasks : Type 0 where
 unfoldable pub dueAt : CoreTasks → ℕ → ℕ → ℕ
 dueAt core t i = t / core .period i * core .period i + core .window i
 
--- the ticks left of task i once the jobs of tick t are released, from those left before
+-- the ticks left of task i once the jobs of tick t are released, from those left before. A job that is unfinished when the
+-- next of its task is released is dropped, where the paper's rule would let both wait. That happens only on a core that
+-- does not fit (`SchedulingTheorems.edf-serves-every-job`), and for a plan with such a core no table is made: it is 8.
 unfoldable pub afterRelease : CoreTasks → ℕ → ℕ → ℕ → ℕ
 afterRelease core t i left = cond (eqb (t % core .period i) 0) (core .ticks i) left
 

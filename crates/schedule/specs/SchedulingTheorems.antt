@@ -4,7 +4,7 @@ use Prim.Native.Nat.{ℕ, _/_, _≤_, _<_}
 use mathlib.Core.Path.{_≡_, sym, _∙_}
 use mathlib.Core.Logic.{_⊎_}
 use Rattle.laws.specs.Sums.{sum}
-use Rattle.schedule.specs.Demand.{WellFormed, WholePeriods, Demand, Serves, QuietAfterDue, NamesTask, SameKeptTasks}
+use Rattle.schedule.specs.Demand.{WellFormed, WholePeriods, Demand, Serves, QuietAfterDue, NamesTask, KeptAlsoBy}
 use Rattle.schedule.specs.Demand.{slotsOfJob, loadOf, repeated}
 use Rattle.schedule.specs.EdfLaws.{slot-names-task, job-served, quiet-after-due}
 use Rattle.schedule.specs.KeptTaskLaws.{same-slots}
@@ -28,9 +28,11 @@ edf-is-quiet-after-due core wf demand i j l = quiet-after-due core wf demand i j
 pub edf-slots-name-tasks-with-ticks : (core : CoreTasks) (t : ℕ) → (slotOf core t ≡ 0) ⊎ NamesTask core (slotOf core t)
 edf-slots-name-tasks-with-ticks core t = slot-names-task core t
 
--- "A row depends on the span and that core's kept tasks only"
-pub row-depends-on-kept-tasks : (core core₂ : CoreTasks) → SameKeptTasks core core₂ → (t : ℕ) → slotOf core t ≡ slotOf core₂ t
-row-depends-on-kept-tasks core core₂ same t = same-slots core core₂ same t
+-- "A row depends on the span and that core's kept tasks only": two cores that keep the same tasks have the same slots,
+-- however many tasks they do not keep, and whatever these are
+pub row-depends-on-kept-tasks : (core core₂ : CoreTasks) → KeptAlsoBy core₂ core → KeptAlsoBy core core₂ →
+    (t : ℕ) → slotOf core t ≡ slotOf core₂ t
+row-depends-on-kept-tasks core core₂ also also₂ t = same-slots core core₂ also also₂ t
 
 -- Where each job is due at the next release, a load of at most the span is the demand condition.
 pub load-is-demand : (core : CoreTasks) (span : ℕ) → WholePeriods core span →

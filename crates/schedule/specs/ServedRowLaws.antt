@@ -1,10 +1,10 @@
 -- The tables whose rows all serve their cores are the drawings' tables.
-use Prim.Native.Nat.{ℕ, zero, suc, pred, _+_, _*_, _/_, _≤_, _<_}
+use Prim.Native.Nat.{ℕ, suc, _+_, _*_, _<_}
 use mathlib.Core.Bool.{Bool, true, false, cond}
 use mathlib.Core.List.{List, [], _∷_, List·Memᴰ, List·Memᴰ·not-nil}
 use mathlib.Core.Logic.{_⊎_, inl, inr, ⊎-elim}
 use mathlib.Core.Path.{_≡_, refl, sym, ap, _∙_, subst}
-use native.Mathlib.Nat.{div-lt-iff-lt-mul, zero-lt-suc}
+use native.Mathlib.Nat.{zero-lt-suc}
 use native.Mathlib.Omega.{arith}
 use lib.Dec.{eqb}
 use lib.ListN.{length}
@@ -18,24 +18,21 @@ use Rattle.schedule.specs.Checks.{jobSlots}
 use Rattle.schedule.specs.DrawingLaws.{drawing-of-parts, parts-of-drawing}
 use Rattle.schedule.specs.Drawings.{Drawing, JobSlot}
 use Rattle.schedule.specs.Periods.{Periodic, tick-of-job}
+use Rattle.schedule.specs.PlanLaws.{choice-in-range-names}
 use Rattle.schedule.specs.Quantities.{choiceAt, coreOf, keeps, jobs, jobTicks, ticksOn}
 use Rattle.schedule.specs.Tables.{releaseOf, window, slotAt}
 use Rattle.schedule.specs.ServedRows.{OwedSlot, RowServes}
-
-nonzero-up-to-product : (c m h : ℕ) → (c ≡ 0 → ⊥) → c ≤ m * h → pred c / h < m
-nonzero-up-to-product c m zero nonzero most = absurd (nonzero (omega arith))
-nonzero-up-to-product c m (suc h) nonzero most = div-lt-iff-lt-mul (zero-lt-suc h) .1 (omega arith)
 
 member-length : (t : ℕ) (xs : List ℕ) → List·Memᴰ t xs → 0 < length xs
 member-length t [] m = absurd (List·Memᴰ·not-nil m)
 member-length t (x ∷ xs) m = zero-lt-suc (length xs)
 
 module _ (p : Problem) (plan : List ℕ) where
-  ticks-where-kept : (k i : ℕ) → (choiceAt plan i ≡ 0 → ⊥) → coreOf p plan i ≡ k → ticksOn p plan k i ≡ jobTicks p plan i
+  pub ticks-where-kept : (k i : ℕ) → (choiceAt plan i ≡ 0 → ⊥) → coreOf p plan i ≡ k → ticksOn p plan k i ≡ jobTicks p plan i
   unfolding ticksOn
   ticks-where-kept k i kept core = rw (keeps-iff p plan k i .1 (kept, core))
 
-  kept-where-ticks : (k i : ℕ) → 0 < ticksOn p plan k i → keeps p plan k i ≡ true
+  pub kept-where-ticks : (k i : ℕ) → 0 < ticksOn p plan k i → keeps p plan k i ≡ true
   unfolding ticksOn
   kept-where-ticks k i = go (keeps p plan k i)
     where
@@ -48,9 +45,8 @@ module _ (p : Problem) (plan : List ℕ) where
       let kept = keeps-iff p plan k (s .task) .0 (kept-where-ticks k (s .task) (s .has-ticks)) in
       record { task = s .task; its-number = s .its-number; kept = kept .0; on-its-core = kept .1 }
 
-  -- a choice of at most M × H that is not 0 is on one of M cores
-  core-of-kept : AllowedPlan p plan → (i : ℕ) → i < taskCount p → (choiceAt plan i ≡ 0 → ⊥) → coreOf p plan i < p .cores
-  core-of-kept allowed i h kept = nonzero-up-to-product _ _ _ kept (allowed .choices-in-range i h)
+  pub core-of-kept : AllowedPlan p plan → (i : ℕ) → i < taskCount p → (choiceAt plan i ≡ 0 → ⊥) → coreOf p plan i < p .cores
+  core-of-kept allowed i h kept = choice-in-range-names p plan i kept (allowed .choices-in-range i h) .is-core
 
 module _ (p : Problem) (periodic : Periodic p) (plan : List ℕ) where
   -- only the span's ticks matter

@@ -1,5 +1,6 @@
 -- The table of a plan in the paper's words, with no dispatching: "The row of a core is worked out from tick 0: among jobs
--- released and not finished, the earliest due runs; of equal ones, the lower task number."
+-- released and not finished, the earliest due runs; of equal ones, the lower task number." On a core that fits, the jobs of
+-- a task before the one released last are finished, so that it alone is looked at.
 use Prim.Native.Nat.{ℕ, suc, _+_, _-_, _*_, _/_, _%_, _<_}
 use mathlib.Core.List.{List}
 use mathlib.Core.Path.{_≡_}

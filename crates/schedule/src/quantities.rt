@@ -1,7 +1,7 @@
 // Ticks, jobs and load of the tasks of a plan.
 use instance::Instance;
 ghost use mathlib.Core.Path.{_≡_};
-ghost use Prim.Native.Nat.{pred, _/_, _%_, _<_, _≤_};
+ghost use Prim.Native.Nat.{pred, _/_, _%_, _<_};
 ghost use lib.ListN.{length};
 ghost use Rattle.instance.specs.Held.{Sound, problemIn};
 ghost use Rattle.instance.specs.Node.{taskCount};
