@@ -46,3 +46,5 @@ pub mod Found
 pub mod BestFilled
 pub mod FoundLaws
 pub mod AlikeLaws
+pub mod CheapestChoices
+pub mod CheapestChoiceLaws
