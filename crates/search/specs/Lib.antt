@@ -48,3 +48,6 @@ pub mod FoundLaws
 pub mod AlikeLaws
 pub mod CheapestChoices
 pub mod CheapestChoiceLaws
+pub mod Picks
+pub mod Light
+pub mod LightLaws

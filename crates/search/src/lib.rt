@@ -1,6 +1,7 @@
 // The exact search for the cheapest plan. It knows nothing of text, words or tables: only of loads, costs and a capacity.
 mod best;
 mod choice;
+mod light;
 mod limits;
 mod partition;
 mod row;
@@ -10,6 +11,7 @@ mod value;
 use best::fill_best;
 use choice::least_holding;
 use choice::write_plan;
+use light::light_plan;
 use limits::within_limits;
 use partition::sets_of;
 use value::NO_COST;
@@ -47,6 +49,11 @@ pub fn cheapest_plan(
 {
     if !within_limits(shape, load, cost, refusal, must, plan) {
         return Found::OutOfLimits;
+    }
+    let light = light_plan(shape, load, cost, refusal, must);
+    if light.cost < NO_COST {
+        write_plan(shape.items, light.key, plan);
+        return Found::Cheapest(light.cost);
     }
     let mut costs = [0u64; 4096];
     let mut keys = [0u64; 4096];

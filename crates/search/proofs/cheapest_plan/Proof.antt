@@ -1,4 +1,5 @@
--- `cheapest_plan` answers what the chosen value says: the best plan, or that none is allowed.
+-- `cheapest_plan` answers the light plan, where there is one, or else what the chosen value says: the best plan, or that none
+-- is allowed.
 use mathlib.Core.Path.{_≡_, refl}
 use denote.Ref.{now}
 use Rattle.search.specs.Limits.{WithinLimits, tells-no, tells-yes}
@@ -19,23 +20,47 @@ same-length c = search needs
 returns : tie.Need-returns
 returns c = (tells-no (c .before .within-limits .result) (c .if1 .taken) (c .before .within-limits .ensures), refl)
 
-slice-aggregate-fill-best : tie.Need-slice-aggregate-fill-best
-slice-aggregate-fill-best c = search needs
-
-slice-aggregate-fill-best-2 : tie.Need-slice-aggregate-fill-best-2
-slice-aggregate-fill-best-2 c = search needs
-
 -- past the first test, the limits hold
 limits-hold : (c : tie.Else1) →
     let a = c .before .before .before .before .before .before .before .before .args in
     WithinLimits (a .shape) (now (a .load)) (now (a .cost)) (now (a .refusal)) (now (a .must)) (now (a .plan))
 limits-hold c = tells-yes (c .before .within-limits .result) (c .if1 .left) (c .before .within-limits .ensures)
 
+light-plan-requires : tie.Need-light-plan-requires
+light-plan-requires c κs = record { plan = _; limits = limits-hold c }
+
+write-plan-requires : tie.Need-write-plan-requires
+write-plan-requires c κs =
+    let limits = limits-hold (c .before .before .before .before) in
+    let light = c .before .before .before .light-plan .ensures (c .before .if2 .taken) in
+    (limits .shape-limited .items, (light .key-below, limits .long-enough .room-for-all))
+
+same-length-2 : tie.Need-same-length-2
+same-length-2 c = search needs
+
+returns-2 : tie.Need-returns-2
+returns-2 c =
+    let light = c .before .before .before .before .before .before .light-plan .ensures (c .before .before .before .before .if2 .taken) in (
+      limits-hold (c .before .before .before .before .before .before .before),
+      record {
+        plan = digits (c .before .before .before .before .before .before .before .before .before .before .before .before .before .before .before .args .shape .items) (c .before .before .before .before .before .before .light-plan .result .key);
+        is-best = light .is-best;
+        costs = light .costs;
+        written = c .before .before .write-plan .ensures;
+      },
+    )
+
+slice-aggregate-fill-best : tie.Need-slice-aggregate-fill-best
+slice-aggregate-fill-best c = search needs
+
+slice-aggregate-fill-best-2 : tie.Need-slice-aggregate-fill-best-2
+slice-aggregate-fill-best-2 c = search needs
+
 fill-best-requires : tie.Need-fill-best-requires
-fill-best-requires c κs = best-fits (limits-hold (c .before .before)) refl refl
+fill-best-requires c κs = best-fits (limits-hold (c .before .before .before .before .before)) refl refl
 
 sets-of-requires : tie.Need-sets-of-requires
-sets-of-requires c κs = limits-hold (c .before .before .before .before .before) .shape-limited .items
+sets-of-requires c κs = limits-hold (c .before .before .before .before .before .before .before .before) .shape-limited .items
 
 slice-aggregate-least-holding : tie.Need-slice-aggregate-least-holding
 slice-aggregate-least-holding c = search needs
@@ -45,50 +70,50 @@ slice-aggregate-least-holding-2 c = search needs
 
 least-holding-requires : tie.Need-least-holding-requires
 least-holding-requires c κs =
-    let a = c .before .before .before .before .before .before .before .before .before .before .before .before .before .before .before .before .args in
-    holding-ready (limits-hold (c .before .before .before .before .before .before .before .before)) (c .before .before .before .before .before .fill-best .ensures (now (a .refusal)) (now (a .must))) (c .before .before .sets-of .ensures)
-
-same-length-2 : tie.Need-same-length-2
-same-length-2 c = search needs
-
--- what `least_holding` answers is the chosen value
-least-is-chosen : (c : tie.After-least-holding) →
-    let a = c .before .before .before .before .before .before .before .before .before .before .before .before .before .before .before .before .before .args in
-    valueOf (c .least-holding .result .cost) (c .least-holding .result .key)
-    ≡ chosen (optionsOf (a .shape) (now (a .load)) (now (a .cost)) (now (a .refusal)) (now (a .must)))
-least-is-chosen c =
-    let a = c .before .before .before .before .before .before .before .before .before .before .before .before .before .before .before .before .before .args in
-    chosen-is (limits-hold (c .before .before .before .before .before .before .before .before .before)) (c .before .before .before .before .before .before .fill-best .ensures (now (a .refusal)) (now (a .must))) _ _
-    (c .least-holding .ensures (a .shape .items) (c .before .before .before .sets-of .ensures))
-
-returns-2 : tie.Need-returns-2
-returns-2 c =
-    let limits = limits-hold (c .before .before .before .before .before .before .before .before .before .before .before) in
-    let least = c .before .before .least-holding .result in
-    (limits, none-allowed _ _ (searchable limits) (least .cost) (least .key) (least-is-chosen (c .before .before)) (c .if2 .taken), refl)
-
-write-plan-requires : tie.Need-write-plan-requires
-write-plan-requires c κs =
-    let limits = limits-hold (c .before .before .before .before .before .before .before .before .before .before .before .before) in
-    let least = c .before .before .before .least-holding .result in (
-      limits .shape-limited .items,
-      (key-of-plan _ _ (searchable limits) (least .cost) (least .key) (least-is-chosen (c .before .before .before)) (c .before .if2 .left), limits .long-enough .room-for-all),
-    )
+    let a = c .before .before .before .before .before .before .before .before .before .before .before .before .before .before .before .before .before .before .before .args in
+    holding-ready (limits-hold (c .before .before .before .before .before .before .before .before .before .before .before)) (c .before .before .before .before .before .fill-best .ensures (now (a .refusal)) (now (a .must))) (c .before .before .sets-of .ensures)
 
 same-length-3 : tie.Need-same-length-3
 same-length-3 c = search needs
 
+-- what `least_holding` answers is the chosen value
+least-is-chosen : (c : tie.After-least-holding) →
+    let a = c .before .before .before .before .before .before .before .before .before .before .before .before .before .before .before .before .before .before .before .before .args in
+    valueOf (c .least-holding .result .cost) (c .least-holding .result .key)
+    ≡ chosen (optionsOf (a .shape) (now (a .load)) (now (a .cost)) (now (a .refusal)) (now (a .must)))
+least-is-chosen c =
+    let a = c .before .before .before .before .before .before .before .before .before .before .before .before .before .before .before .before .before .before .before .before .args in
+    chosen-is (limits-hold (c .before .before .before .before .before .before .before .before .before .before .before .before)) (c .before .before .before .before .before .before .fill-best .ensures (now (a .refusal)) (now (a .must))) _ _
+    (c .least-holding .ensures (a .shape .items) (c .before .before .before .sets-of .ensures))
+
 returns-3 : tie.Need-returns-3
 returns-3 c =
+    let limits = limits-hold (c .before .before .before .before .before .before .before .before .before .before .before .before .before .before) in
+    let least = c .before .before .least-holding .result in
+    (limits, none-allowed _ _ (searchable limits) (least .cost) (least .key) (least-is-chosen (c .before .before)) (c .if3 .taken), refl)
+
+write-plan-requires-2 : tie.Need-write-plan-requires-2
+write-plan-requires-2 c κs =
     let limits = limits-hold (c .before .before .before .before .before .before .before .before .before .before .before .before .before .before .before) in
+    let least = c .before .before .before .least-holding .result in (
+      limits .shape-limited .items,
+      (key-of-plan _ _ (searchable limits) (least .cost) (least .key) (least-is-chosen (c .before .before .before)) (c .before .if3 .left), limits .long-enough .room-for-all),
+    )
+
+same-length-4 : tie.Need-same-length-4
+same-length-4 c = search needs
+
+returns-4 : tie.Need-returns-4
+returns-4 c =
+    let limits = limits-hold (c .before .before .before .before .before .before .before .before .before .before .before .before .before .before .before .before .before .before) in
     let least = c .before .before .before .before .before .before .least-holding .result in
-    let found = best-found _ _ (searchable limits) (least .cost) (least .key) (least-is-chosen (c .before .before .before .before .before .before)) (c .before .before .before .before .if2 .left) in (
+    let found = best-found _ _ (searchable limits) (least .cost) (least .key) (least-is-chosen (c .before .before .before .before .before .before)) (c .before .before .before .before .if3 .left) in (
       limits,
       record {
-        plan = digits (c .before .before .before .before .before .before .before .before .before .before .before .before .before .before .before .before .before .before .before .before .before .before .before .args .shape .items) (least .key);
+        plan = digits (c .before .before .before .before .before .before .before .before .before .before .before .before .before .before .before .before .before .before .before .before .before .before .before .before .before .before .args .shape .items) (least .key);
         is-best = found .0;
         costs = found .1;
-        written = c .before .before .write-plan .ensures;
+        written = c .before .before .write-plan2 .ensures;
       },
     )
 
@@ -99,6 +124,10 @@ cheapest-plan-spec =
     within-limits-requires
     same-length
     returns
+    light-plan-requires
+    write-plan-requires
+    same-length-2
+    returns-2
     slice-aggregate-fill-best
     slice-aggregate-fill-best-2
     fill-best-requires
@@ -106,8 +135,8 @@ cheapest-plan-spec =
     slice-aggregate-least-holding
     slice-aggregate-least-holding-2
     least-holding-requires
-    same-length-2
-    returns-2
-    write-plan-requires
     same-length-3
-    returns-3)
+    returns-3
+    write-plan-requires-2
+    same-length-4
+    returns-4)

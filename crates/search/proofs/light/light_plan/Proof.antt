@@ -1,0 +1,91 @@
+-- `light_plan` adds the pick of one item a turn, as long as core 0 takes them.
+use Prim.Native.Nat.{_+_, _*_, _^_, _≤_, _<_, _-_}
+use mathlib.Core.Path.{_≡_}
+use native.Mathlib.Omega.{arith}
+use borrow.Author.Needs.{needs}
+use denote.Ref.{now}
+use Rattle.search.specs.Bounds.{keys-fit}
+use Rattle.search.specs.Light.{LightBelow}
+use Rattle.search.specs.LightLaws.{no-items, key-low, one-more-item, light-is-best}
+use Rattle.search.proofs.light.light_plan.Statement.{statement}
+use Rattle.search.proofs.light.light_plan.Tie as tie
+
+abbrev Inv-loop : tie.InvT-loop
+Inv-loop shape load cost refusal must levels capacity used₀ total₀ key₀ i₀ used total key i = (i ≤ shape .items) × LightBelow shape load cost refusal must i used total key
+
+abbrev μ-loop : tie.MeasureT-loop
+μ-loop shape load cost refusal must levels capacity used₀ total₀ key₀ i₀ used total key i = shape .items - i
+
+loop-holds : tie.Need-loop-holds Inv-loop μ-loop
+loop-holds c = (search needs, no-items _ _ _ _ _)
+
+first-cheapest-requires : tie.Need-first-cheapest-requires Inv-loop μ-loop
+first-cheapest-requires c κs =
+    let limits = c .before .before .before .before .before .before .before .pre .limits in
+    let long = limits .long-enough in (
+      limits .shape-limited .levels,
+      (limits .shape-limited .capacity, (omega (arith, long .loads-for-all), (omega (arith, long .costs-for-all), (omega (arith, long .refusals-for-all), omega (arith, long .musts-for-all))))),
+    )
+
+add-used : tie.Need-add-used Inv-loop μ-loop
+add-used c = omega (arith, c .before .before .before .before .loop .inv .1 .used-low, c .before .first-cheapest .ensures .load-low, c .before .before .before .before .before .before .before .before .before .pre .limits .shape-limited .capacity)
+
+returns : tie.Need-returns Inv-loop μ-loop
+returns c = λ real. absurd (omega arith)
+
+-- past the test, the item's pick is added
+added : (c : tie.After-struct-known3 Inv-loop μ-loop) →
+    let a = c .before .before .before .before .before .before .before .before .before .before .before .args in
+    let at = c .before .before .before .before .before .before .loop in
+    let pick = c .before .before .before .first-cheapest .result in
+    LightBelow (a .shape) (now (a .load)) (now (a .cost)) (now (a .refusal)) (now (a .must)) (at .i + 1) (at .used + pick .load) (at .total + pick .cost) (at .key * 33 + pick .choice)
+added c =
+    one-more-item (c .before .before .before .before .before .before .before .before .before .before .before .pre .limits) (c .before .before .before .before .before .before .loop .inv .1) (c .before .before .before .before .if1 .taken) (c .before .before .before .first-cheapest .ensures) (c .before .if2 .left)
+
+-- so its key is of few enough digits
+key-fits : (c : tie.After-struct-known3 Inv-loop μ-loop) → c .before .before .before .before .before .before .loop .key * 33 + c .before .before .before .first-cheapest .result .choice < 2 ^ 64
+key-fits c =
+    let few : c .before .before .before .before .before .before .loop .i + 1 ≤ 12 = omega (arith, c .before .before .before .before .before .before .before .before .before .before .before .pre .limits .shape-limited .items) in
+    omega (arith, key-low (c .before .before .before .before .before .before .before .before .before .before .before .pre .limits) (added c), keys-fit few)
+
+add-total : tie.Need-add-total Inv-loop μ-loop
+add-total c = omega (arith, added c .total-low, c .before .before .before .before .before .before .before .before .before .before .before .pre .limits .shape-limited .items)
+
+mul-key : tie.Need-mul-key Inv-loop μ-loop
+mul-key c = omega (arith, key-fits c)
+
+add-key : tie.Need-add-key Inv-loop μ-loop
+add-key c = omega (arith, key-fits (c .before))
+
+add-i : tie.Need-add-i Inv-loop μ-loop
+add-i c = search needs
+
+loop-less : tie.Need-loop-less Inv-loop μ-loop
+loop-less c = search needs
+
+loop-again : tie.Need-loop-again Inv-loop μ-loop
+loop-again c = (search needs, added (c .before))
+
+returns-2 : tie.Need-returns-2 Inv-loop μ-loop
+returns-2 c =
+    let at = c .before .before .loop in
+    let all : at .i ≡ c .before .before .before .before .before .before .before .args .shape .items = omega arith in
+    λ real. light-is-best (c .before .before .before .before .before .before .before .pre .limits) (rw all at (at .inv .1))
+
+pub light-plan-spec : {M : Type 1} → statement M
+light-plan-spec =
+    tie.close
+    (tie.spec
+    Inv-loop
+    μ-loop
+    loop-holds
+    first-cheapest-requires
+    add-used
+    returns
+    add-total
+    mul-key
+    add-key
+    add-i
+    loop-less
+    loop-again
+    returns-2)
