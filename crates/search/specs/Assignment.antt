@@ -1,12 +1,11 @@
 -- What is searched for: each item is refused, or put on one core at one level. Choices are numbered as in a plan: 0
 -- refuses, 1 + core × levels + level keeps, with cores and levels counted from 0.
-use Prim.Native.Nat.{ℕ, zero, suc, pred, _+_, _*_, _/_, _%_, _≤_, _<_}
+use Prim.Native.Nat.{ℕ, pred, _+_, _*_, _/_, _%_, _≤_, _<_}
 use mathlib.Core.Path.{_≡_}
 use mathlib.Core.Logic.{_⊎_}
 use mathlib.Core.Bool.{Bool, true, cond, not, _&&_}
 use mathlib.Core.List.{List, [], _∷_}
 use lib.Dec.{eqb}
-use lib.ListN.{length, getD}
 
 -- load and cost at a level, and the cost of refusing it, where it may be refused
 pub record Item : Type 0 where

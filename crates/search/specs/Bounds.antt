@@ -2,18 +2,16 @@
 use Prim.Native.Nat.{ℕ, suc, _*_, _/_, _%_, _^_, _≤_, _<_}
 use mathlib.Core.Path.{sym}
 use mathlib.Core.Logic.{inl, inr}
-use mathlib.Core.Bool.{Bool, true, false}
+use mathlib.Core.Bool.{Bool}
 use mathlib.Core.List.{List, [], _∷_}
-use native.Mathlib.Nat.{pow-zero, pow-succ', pow-le-pow-right, mod-lt, div-add-mod', div-lt-iff-lt-mul, one-mul, le-refl, one-le-pow}
+use native.Mathlib.Nat.{pow-le-pow-right, mod-lt, div-add-mod', div-lt-iff-lt-mul, le-refl}
 use native.Mathlib.Omega.{arith}
-use lib.Arith.{digits-lt}
 use lib.ListN.{length}
 use Rattle.search.specs.Assignment.{Item, Options, coreLoad}
 use Rattle.search.specs.Values.{Value, Attained, Within, absent, present}
-use Rattle.search.specs.Rows.{keyBase, row}
-use Rattle.search.specs.RowLaws.{row-least}
+use Rattle.search.specs.Rows.{keyBase}
 use Rattle.search.specs.KeepingLaws.{level-load, some-level}
-use Rattle.search.specs.Partition.{weight, best}
+use Rattle.search.specs.Partition.{best}
 use Rattle.search.specs.PartitionLaws.{best-least}
 use Rattle.search.specs.Keeping.{Keeps, done, refused, kept, Runs, keptChoiceCost, keptCost, keptWorth}
 use Rattle.search.specs.KeyLaws.{keeps-in-base, key-below}
@@ -51,28 +49,10 @@ runs-within small costs le (inr (plan, runs, e)) =
     let cost = runs-cost costs (runs .keeps) (λ k h. omega (arith, runs .cores-fit k h)) in
     rw e (present cost (key-below (keeps-in-base small (runs .keeps))))
 
-pub row-within : {levels capacity most : ℕ} {items : List Item} (T : List Bool) {w : ℕ} → levels < keyBase →
-    CostsAtMost levels capacity most items → w ≤ capacity →
-    Within (length items * most) (keyBase ^ length items) (row levels items T w)
-row-within {levels} {items = items} T {w} small costs le =
-    runs-within (rw one-mul small) costs le (row-least levels items T w .attained)
-
 pub best-within : (o : Options) (c : ℕ) (S : List Bool) {most : ℕ} → suc c * o .levels < keyBase →
     CostsAtMost (o .levels) (o .capacity) most (o .items) →
     Within (length (o .items) * most) (keyBase ^ length (o .items)) (best o c S)
 best-within o c S small costs = runs-within small costs (le-refl (o .capacity)) (best-least o c S .attained)
-
--- what moving a row adds to its key
-pub shift-below : {shift : ℕ} (items : List Item) (T : List Bool) → shift < keyBase →
-    shift * weight items T < keyBase ^ length items
-unfolding weight
-shift-below [] T small = rw pow-zero (omega arith)
-shift-below (item ∷ items) [] small = omega (arith, one-le-pow (suc (length items)) keyBase (omega arith))
-shift-below (item ∷ items) (true ∷ T) small =
-    rw pow-succ' (omega (arith, digits-lt small (shift-below items T small)))
-shift-below {shift} (item ∷ items) (false ∷ T) small =
-    let some-digit : 0 < keyBase = omega arith in
-    rw pow-succ' (omega (arith, digits-lt some-digit (shift-below items T small)))
 
 -- with at most twelve items, eight keys add up within 64 bits
 pub keys-fit : {n : ℕ} → n ≤ 12 → 8 * keyBase ^ n < 2 ^ 64

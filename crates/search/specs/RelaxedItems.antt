@@ -7,7 +7,7 @@ use native.Mathlib.Omega.{arith}
 use lib.ListN.{length, getD, replicate, length-replicate, getD-replicate}
 use Rattle.search.specs.Bounds.{keys-fit}
 use Rattle.search.specs.Offered.{mostItems, mostLevels, mostCapacity, entryOf, itemAt, rowItem, Affordable}
-use Rattle.search.specs.RelaxedRows.{SumsFit}
+use Rattle.search.specs.RelaxedRows.{RowSumsFit}
 use Rattle.search.specs.Rows.{keyBase}
 use Rattle.search.specs.RowWords.{RowHeld, rowOf, Relaxed, LeastAt, least-of-no-level, least-of-one-more}
 use Rattle.search.specs.Words.{noCost}
@@ -80,8 +80,8 @@ module _ {core : Core} {front : Front} {load cost rowCosts rowKeys : List ℕ}
       }
 
   module _ {choice : Choice} (chosen : choice ≡ choiceOf load cost front l) where
-    pub sums-fit : SumsFit (choice .load) (choice .cost) (choice .key) (core .capacity) rowCosts rowKeys
-    sums-fit =
+    pub row-sums-fit : RowSumsFit (choice .load) (choice .cost) (choice .key) (core .capacity) rowCosts rowKeys
+    row-sums-fit =
         let held = before .row-held in
         let few = before .affordable .levels-limited in
         rw chosen

@@ -11,7 +11,7 @@ use lib.Seq.{getD-set-same, getD-set-other}
 use Rattle.search.specs.RowWords.{Relaxed, no-room, no-cheaper, cheaper}
 
 -- the sums fit 64 bits
-pub record SumsFit (load cost key capacity : ℕ) (costs keys : List ℕ) : Type 0 where
+pub record RowSumsFit (load cost key capacity : ℕ) (costs keys : List ℕ) : Type 0 where
   pub costs-to-capacity : capacity < length costs
   pub keys-to-capacity : capacity < length keys
   pub cost-fits : (u : ℕ) → u + load ≤ capacity → cost + getD costs u 0 < 2 ^ 64

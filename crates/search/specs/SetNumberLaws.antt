@@ -3,7 +3,7 @@ use Prim.Native.Nat.{ℕ, zero, suc, _+_, _/_, _%_, _^_, _<_}
 use mathlib.Core.Path.{_≡_, refl, ap, _∙_}
 use mathlib.Core.Bool.{Bool, true, false, cond}
 use mathlib.Core.List.{List, [], _∷_, append-nil}
-use native.Mathlib.Nat.{zero-add, pow-suc, one-le-pow}
+use native.Mathlib.Nat.{zero-add, pow-suc}
 use native.Mathlib.Omega.{arith}
 use lib.ListN.{length}
 use Rattle.search.specs.Rows.{atLevel, row}
@@ -11,13 +11,7 @@ use Rattle.search.specs.Values.{Value, pair}
 use Rattle.search.specs.Offered.{itemAt, rowItem, itemsOf}
 use Rattle.search.specs.RowSteps.{withItem, hasLast, rowBefore, setBefore, rowBefore-row}
 use Rattle.search.specs.Sets.{setNumber}
-
-pub setNumber-below : (n : ℕ) (S : List Bool) → setNumber n S < 2 ^ n
-unfolding setNumber
-setNumber-below zero S = omega arith
-setNumber-below (suc n) [] = omega (arith, one-le-pow (suc n) 2 (omega arith))
-setNumber-below (suc n) (true ∷ S) = omega (arith, pow-suc 2 n, setNumber-below n S)
-setNumber-below (suc n) (false ∷ S) = omega (arith, pow-suc 2 n, setNumber-below n S)
+use Rattle.search.specs.SetLaws.{setNumber-below}
 
 -- the first item's bit stands above all others
 

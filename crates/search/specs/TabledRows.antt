@@ -13,7 +13,8 @@ use Rattle.search.specs.RelaxedItems.{FlatRow}
 use Rattle.search.specs.Rows.{keyBase, row}
 use Rattle.search.specs.RowSteps.{rowBefore}
 use Rattle.search.specs.RowWords.{rowOf}
-use Rattle.search.specs.SetNumberLaws.{setNumber-below, rowBefore-set}
+use Rattle.search.specs.SetLaws.{setNumber-below}
+use Rattle.search.specs.SetNumberLaws.{rowBefore-set}
 use Rattle.search.specs.Sets.{setNumber, Tabled}
 use Rattle.search.specs.Values.{Value, pair}
 use Rattle.search.specs.Words.{words-pair}

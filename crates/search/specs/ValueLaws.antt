@@ -7,7 +7,7 @@ use native.Mathlib.Nat.{le-refl, eq-or-lt-of-le}
 use native.Mathlib.Omega.{arith}
 use borrow.Author.Tests.{ltb-true, ltb-false, leb-true, leb-false, eqb-true, eqb-false}
 use lib.Dec.{eqb, leb, ltb}
-use Rattle.search.specs.Values.{Value, none, pair, add, isAtMost, lesser, leastBelow, AtMost, to-none, cheaper, tied, Attained, Least}
+use Rattle.search.specs.Values.{Value, none, pair, add, isAtMost, lesser, leastBelow, AtMost, to-none, cheaper, tied, Attained}
 
 pub atMost-refl : (u : Value) → AtMost u u
 atMost-refl none = to-none
@@ -138,15 +138,6 @@ leastBelow-attained (suc n) f = go (lesser-either _ _) (leastBelow-attained n f)
 
 pub none-above : {a x : ℕ} → ¬ (AtMost none (pair a x))
 none-above h = elim h [ ]
-
--- leasts of one set are equal
-pub least-unique : {A : Type 0} {Has : A → Type 0} {worth : A → Value} {u v : Value} →
-    Least Has worth u → Least Has worth v → u ≡ v
-least-unique {A} {Has} {worth} p q = atMost-antisym (ordered p (q .attained)) (ordered q (p .attained))
-  where
-    ordered : {s t : Value} → Least Has worth s → Attained Has worth t → AtMost s t
-    ordered r (inl e) = rw e to-none
-    ordered r (inr (a, h, e)) = rw e (r .below a h)
 
 -- the lesser is the greatest value that is at most both
 lesser-above : {u v w : Value} → AtMost w u → AtMost w v → AtMost w (lesser u v)

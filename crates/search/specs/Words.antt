@@ -1,7 +1,7 @@
 -- A value as the code holds it: two 64-bit numbers, a cost and a key. Every cost from `noCost` on stands for none, so that
 -- sums and comparisons of values are those of the numbers, with no test for none.
 use Prim.Native.Nat.{ℕ, _+_, _<_, _≤_}
-use mathlib.Core.Path.{_≡_, refl}
+use mathlib.Core.Path.{_≡_}
 use mathlib.Core.Logic.{_⊎_, inl, inr}
 use mathlib.Core.Bool.{cond}
 use native.Mathlib.Omega.{arith}

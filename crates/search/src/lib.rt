@@ -8,12 +8,10 @@ mod row;
 mod rows;
 mod value;
 
-use best::fill_best;
-use choice::least_holding;
+use best::least_plan;
 use choice::write_plan;
 use light::light_plan;
 use limits::within_limits;
-use partition::sets_of;
 use value::NO_COST;
 ghost use Rattle.search.specs.Found.{Searched};
 
@@ -55,11 +53,7 @@ pub fn cheapest_plan(
         write_plan(shape.items, light.key, plan);
         return Found::Cheapest(light.cost);
     }
-    let mut costs = [0u64; 4096];
-    let mut keys = [0u64; 4096];
-    fill_best(shape, load, cost, &mut costs, &mut keys);
-    let all = sets_of(shape.items);
-    let least = least_holding(all, 0, 0, 0, refusal, must, &costs, &keys);
+    let least = least_plan(shape, load, cost, refusal, must);
     if NO_COST <= least.cost {
         return Found::NoPlan;
     }

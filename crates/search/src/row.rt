@@ -6,7 +6,7 @@ ghost use Prim.Native.Nat.{ℕ, _≤_, _<_};
 ghost use lib.ListN.{length, getD};
 ghost use Rattle.search.specs.Offered.{rowItem};
 ghost use Rattle.search.specs.RelaxedItems.{ChoiceFits, choiceOf, ItemBefore, FlatRow, RowWithItem};
-ghost use Rattle.search.specs.RelaxedRows.{SumsFit};
+ghost use Rattle.search.specs.RelaxedRows.{RowSumsFit};
 ghost use Rattle.search.specs.RowWords.{LeastAt, Relaxed, rowOf};
 ghost use Rattle.search.specs.Words.{noCost};
 
@@ -46,7 +46,7 @@ fn relax_level(
     costs: &mut [u64],
     keys: &mut [u64],
 )
-    requires { ⌜ SumsFit (choice .load) (choice .cost) (choice .key) capacity (now «row_costs») (now «row_keys») ⌝ }
+    requires { ⌜ RowSumsFit (choice .load) (choice .cost) (choice .key) capacity (now «row_costs») (now «row_keys») ⌝ }
     requires { ⌜ (capacity < length (now costs)) × (capacity < length (now keys)) ⌝ }
     ensures { λ _. ⌜ ((w : ℕ) → w ≤ capacity →
         Relaxed (choice .load) (choice .cost) (choice .key) (now («row_costs» .entry)) (now («row_keys» .entry)) w

@@ -154,16 +154,7 @@ pub(crate) fn fill_rows(
         digit: 1,
         index: 0,
     };
-    let empty_costs = [0u64; ENTRIES];
-    let empty_keys = [0u64; ENTRIES];
-    fill(
-        core,
-        all,
-        load,
-        cost,
-        &empty_costs,
-        &empty_keys,
-        costs,
-        keys,
-    );
+    // No item costs 0, with key 0.
+    let empty = [0u64; ENTRIES];
+    fill(core, all, load, cost, &empty, &empty, costs, keys);
 }

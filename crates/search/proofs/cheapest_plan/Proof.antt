@@ -1,12 +1,10 @@
 -- `cheapest_plan` answers the light plan, where there is one, or else what the chosen value says: the best plan, or that none
 -- is allowed.
-use mathlib.Core.Path.{_≡_, refl}
+use mathlib.Core.Path.{refl}
 use denote.Ref.{now}
 use Rattle.search.specs.Limits.{WithinLimits, tells-no, tells-yes}
-use Rattle.search.specs.Found.{optionsOf}
-use Rattle.search.specs.Words.{valueOf}
-use Rattle.search.specs.Choice.{chosen, digits}
-use Rattle.search.specs.FoundLaws.{searchable, best-fits, holding-ready, chosen-is, none-allowed, best-found, key-of-plan}
+use Rattle.search.specs.Choice.{digits}
+use Rattle.search.specs.FoundLaws.{searchable, none-allowed, best-found, key-of-plan}
 use borrow.Author.Needs.{needs}
 use Rattle.search.proofs.cheapest_plan.Statement.{statement}
 use Rattle.search.proofs.cheapest_plan.Tie as tie
@@ -50,54 +48,24 @@ returns-2 c =
       },
     )
 
-slice-aggregate-fill-best : tie.Need-slice-aggregate-fill-best
-slice-aggregate-fill-best c = search needs
-
-slice-aggregate-fill-best-2 : tie.Need-slice-aggregate-fill-best-2
-slice-aggregate-fill-best-2 c = search needs
-
-fill-best-requires : tie.Need-fill-best-requires
-fill-best-requires c κs = best-fits (limits-hold (c .before .before .before .before .before)) refl refl
-
-sets-of-requires : tie.Need-sets-of-requires
-sets-of-requires c κs = limits-hold (c .before .before .before .before .before .before .before .before) .shape-limited .items
-
-slice-aggregate-least-holding : tie.Need-slice-aggregate-least-holding
-slice-aggregate-least-holding c = search needs
-
-slice-aggregate-least-holding-2 : tie.Need-slice-aggregate-least-holding-2
-slice-aggregate-least-holding-2 c = search needs
-
-least-holding-requires : tie.Need-least-holding-requires
-least-holding-requires c κs =
-    let a = c .before .before .before .before .before .before .before .before .before .before .before .before .before .before .before .before .before .before .before .args in
-    holding-ready (limits-hold (c .before .before .before .before .before .before .before .before .before .before .before)) (c .before .before .before .before .before .fill-best .ensures (now (a .refusal)) (now (a .must))) (c .before .before .sets-of .ensures)
+least-plan-requires : tie.Need-least-plan-requires
+least-plan-requires c κs = (now (c .before .before .before .before .before .before .before .before .before .before .before .args .plan), limits-hold (c .before .before .before))
 
 same-length-3 : tie.Need-same-length-3
 same-length-3 c = search needs
 
--- what `least_holding` answers is the chosen value
-least-is-chosen : (c : tie.After-least-holding) →
-    let a = c .before .before .before .before .before .before .before .before .before .before .before .before .before .before .before .before .before .before .before .before .args in
-    valueOf (c .least-holding .result .cost) (c .least-holding .result .key)
-    ≡ chosen (optionsOf (a .shape) (now (a .load)) (now (a .cost)) (now (a .refusal)) (now (a .must)))
-least-is-chosen c =
-    let a = c .before .before .before .before .before .before .before .before .before .before .before .before .before .before .before .before .before .before .before .before .args in
-    chosen-is (limits-hold (c .before .before .before .before .before .before .before .before .before .before .before .before)) (c .before .before .before .before .before .before .fill-best .ensures (now (a .refusal)) (now (a .must))) _ _
-    (c .least-holding .ensures (a .shape .items) (c .before .before .before .sets-of .ensures))
-
 returns-3 : tie.Need-returns-3
 returns-3 c =
-    let limits = limits-hold (c .before .before .before .before .before .before .before .before .before .before .before .before .before .before) in
-    let least = c .before .before .least-holding .result in
-    (limits, none-allowed _ _ (searchable limits) (least .cost) (least .key) (least-is-chosen (c .before .before)) (c .if3 .taken), refl)
+    let limits = limits-hold (c .before .before .before .before .before .before) in
+    let least = c .before .before .least-plan in
+    (limits, none-allowed _ _ (searchable limits) (least .result .cost) (least .result .key) (least .ensures) (c .if3 .taken), refl)
 
 write-plan-requires-2 : tie.Need-write-plan-requires-2
 write-plan-requires-2 c κs =
-    let limits = limits-hold (c .before .before .before .before .before .before .before .before .before .before .before .before .before .before .before) in
-    let least = c .before .before .before .least-holding .result in (
+    let limits = limits-hold (c .before .before .before .before .before .before .before) in
+    let least = c .before .before .before .least-plan in (
       limits .shape-limited .items,
-      (key-of-plan _ _ (searchable limits) (least .cost) (least .key) (least-is-chosen (c .before .before .before)) (c .before .if3 .left), limits .long-enough .room-for-all),
+      (key-of-plan _ _ (searchable limits) (least .result .cost) (least .result .key) (least .ensures) (c .before .if3 .left), limits .long-enough .room-for-all),
     )
 
 same-length-4 : tie.Need-same-length-4
@@ -105,12 +73,12 @@ same-length-4 c = search needs
 
 returns-4 : tie.Need-returns-4
 returns-4 c =
-    let limits = limits-hold (c .before .before .before .before .before .before .before .before .before .before .before .before .before .before .before .before .before .before) in
-    let least = c .before .before .before .before .before .before .least-holding .result in
-    let found = best-found _ _ (searchable limits) (least .cost) (least .key) (least-is-chosen (c .before .before .before .before .before .before)) (c .before .before .before .before .if3 .left) in (
+    let limits = limits-hold (c .before .before .before .before .before .before .before .before .before .before) in
+    let least = c .before .before .before .before .before .before .least-plan in
+    let found = best-found _ _ (searchable limits) (least .result .cost) (least .result .key) (least .ensures) (c .before .before .before .before .if3 .left) in (
       limits,
       record {
-        plan = digits (c .before .before .before .before .before .before .before .before .before .before .before .before .before .before .before .before .before .before .before .before .before .before .before .before .before .before .args .shape .items) (least .key);
+        plan = digits (c .before .before .before .before .before .before .before .before .before .before .before .before .before .before .before .before .before .before .args .shape .items) (least .result .key);
         is-best = found .0;
         costs = found .1;
         written = c .before .before .write-plan2 .ensures;
@@ -128,13 +96,7 @@ cheapest-plan-spec =
     write-plan-requires
     same-length-2
     returns-2
-    slice-aggregate-fill-best
-    slice-aggregate-fill-best-2
-    fill-best-requires
-    sets-of-requires
-    slice-aggregate-least-holding
-    slice-aggregate-least-holding-2
-    least-holding-requires
+    least-plan-requires
     same-length-3
     returns-3
     write-plan-requires-2

@@ -5,7 +5,7 @@ use native.Mathlib.Numerals.{add-one}
 use native.Mathlib.Omega.{arith}
 use borrow.Author.Needs.{needs}
 use lib.ListN.{length}
-use Rattle.search.specs.RelaxedItems.{RowWithItem, row-of-no-level, row-of-one-more, choice-fits, sums-fit}
+use Rattle.search.specs.RelaxedItems.{RowWithItem, row-of-no-level, row-of-one-more, choice-fits, row-sums-fit}
 use Rattle.search.proofs.row.relax.Statement.{statement}
 use Rattle.search.proofs.row.relax.Tie as tie
 
@@ -27,7 +27,7 @@ relax-level-requires : tie.Need-relax-level-requires Inv-loop μ-loop
 relax-level-requires c κs =
     let pre = c .before .before .before .before .before .before .before .before .before .before .before .before .pre in
     let at = c .before .before .before .before .before .loop in (
-      sums-fit (pre .0) (c .before .before .before .if1 .taken) (c .before .before .choice-at .ensures),
+      row-sums-fit (pre .0) (c .before .before .before .if1 .taken) (c .before .before .choice-at .ensures),
       (omega (arith, pre, at .inv), omega (arith, pre, at .inv)),
     )
 

@@ -7,7 +7,7 @@ use native.Mathlib.Omega.{arith}
 use borrow.Author.Needs.{needs}
 use Rattle.search.specs.RowWords.{LeastAt, rowOf, least-of-no-level, no-room, no-cheaper, cheaper}
 use Rattle.search.specs.Offered.{rowItem}
-use Rattle.search.specs.RelaxedItems.{choice-fits, sums-fit, entry-of-one-more}
+use Rattle.search.specs.RelaxedItems.{choice-fits, row-sums-fit, entry-of-one-more}
 use Rattle.search.proofs.row.relaxed_entry.Statement.{statement}
 use Rattle.search.proofs.row.relaxed_entry.Tie as tie
 
@@ -35,7 +35,7 @@ add-sum : tie.Need-add-sum Inv-loop μ-loop
 add-sum c =
     record {
       fits =
-          sums-fit (c .before .before .before .before .before .before .before .before .before .before .before .before .before .before .before .pre) (c .before .before .before .before .before .before .before .before .if1 .taken) (c .before .before .before .before .before .before .before .choice-at .ensures) .cost-fits _ (omega (arith, c .before .before .before .before .if2 .taken));
+          row-sums-fit (c .before .before .before .before .before .before .before .before .before .before .before .before .before .before .before .pre) (c .before .before .before .before .before .before .before .before .if1 .taken) (c .before .before .before .before .before .before .before .choice-at .ensures) .cost-fits _ (omega (arith, c .before .before .before .before .if2 .taken));
     }
 
 mul-key : tie.Need-mul-key Inv-loop μ-loop
@@ -48,7 +48,7 @@ add-key : tie.Need-add-key Inv-loop μ-loop
 add-key c =
     record {
       fits =
-          sums-fit (c .before .before .before .before .before .before .before .before .before .before .before .before .before .before .before .before .before .before .pre) (c .before .before .before .before .before .before .before .before .before .before .before .if1 .taken) (c .before .before .before .before .before .before .before .before .before .before .choice-at .ensures) .key-fits _ (omega (arith, c .before .before .before .before .before .before .before .if2 .taken));
+          row-sums-fit (c .before .before .before .before .before .before .before .before .before .before .before .before .before .before .before .before .before .before .pre) (c .before .before .before .before .before .before .before .before .before .before .before .if1 .taken) (c .before .before .before .before .before .before .before .before .before .before .choice-at .ensures) .key-fits _ (omega (arith, c .before .before .before .before .before .before .before .if2 .taken));
     }
 
 add-l : tie.Need-add-l Inv-loop μ-loop
