@@ -19,7 +19,7 @@ use Rattle.search.specs.declared.rows.Branch.{Branch}
 use Rattle.search.specs.declared.row.Core.{Core}
 
 -- a row of fewer items is within the limits of more
-small-for-more : {m c k : ℕ} → Small m c k → Small (suc m) c k
+pub small-for-more : {m c k : ℕ} → Small m c k → Small (suc m) c k
 unfolding keyBase
 small-for-more {m} small =
     record {
@@ -39,7 +39,7 @@ affordable-without-last a =
       cheap = λ i l under. a .cheap i l (omega arith);
     }
 
-least-holds : {levels m w c k : ℕ} {item : Item} {rest : ℕ → Value} → levels ≤ mostLevels →
+pub least-holds : {levels m w c k : ℕ} {item : Item} {rest : ℕ → Value} → levels ≤ mostLevels →
     LeastAt item m levels rest w c k → Holds (suc m) (withItem levels item m rest w) c k
 unfolding withItem
 least-holds few least = record { is = least .value; small = least-of-all-levels few least }

@@ -21,12 +21,14 @@ pub mod Bounds
 pub mod Offered
 pub mod RowSteps
 pub mod SetNumberLaws
+pub mod FrontRows
 pub mod RowWords
 pub mod RelaxedRows
 pub mod RelaxedItems
 pub mod FilledTables
 pub mod Branches
 pub mod BranchLaws
+pub mod FrontFits
 pub mod TabledRows
 pub mod Splits
 pub mod SplitLaws

@@ -1,7 +1,7 @@
 -- A row as the code holds it, an entry of two numbers for each load up to the capacity, and how one level of an item is
 -- taken into account in it.
 use Prim.Native.Nat.{ℕ, suc, _+_, _*_, _-_, _^_, _≤_, _<_, suc-le-suc}
-use mathlib.Core.Path.{_≡_, sym}
+use mathlib.Core.Path.{_≡_, refl, sym}
 use mathlib.Core.Logic.{_⊎_, inl, inr}
 use mathlib.Core.List.{List}
 use native.Mathlib.Nat.{pow-suc, one-le-pow, eq-or-lt-of-le, suc-mul, mul-le-mul-right}
@@ -55,70 +55,64 @@ least-of-no-level item m rest w =
       digits = omega (arith, one-le-pow m keyBase (omega arith));
     }
 
--- the lesser of an entry and a level, by what becomes of the entry
+-- The least of one level more, by what becomes of the entry: the level finds no room, or stands before something in the rest
+-- that is worth (d, j), and is then no cheaper or cheaper.
 
-module _ (item : Item) (m l w c k : ℕ) (costs keys : List ℕ) where
-  no-room-value : w < item .load l → lesser (valueOf c k) (atLevel item m (rowOf costs keys) w l) ≡ valueOf c k
-  unfolding atLevel
-  no-room-value h = rw (lt-leb (item .load l) w h) (lesser-is-first to-none)
+module _ {item : Item} {m l w c k : ℕ} {rest : ℕ → Value} (least : LeastAt item m l rest w c k) where
+  pub least-without-room : w < item .load l → LeastAt item m (suc l) rest w c k
+  unfolding leastBelow atLevel
+  least-without-room h =
+      record {
+        value = rw (← least .value, lt-leb (item .load l) w h) (sym (lesser-is-first to-none));
+        at-most-none = least .at-most-none;
+        real = least .real;
+        digits = omega (arith, suc-mul (suc l) (keyBase ^ m));
+      }
 
-  module _ (few : m ≤ mostItems) (fits : item .load l ≤ w) (cheap : item .cost l ≤ mostCost)
-      (small : Small m (getD costs (w - item .load l) 0) (getD keys (w - item .load l) 0)) where
-    level-value : atLevel item m (rowOf costs keys) w l
-        ≡ valueOf (item .cost l + getD costs (w - item .load l) 0) (suc l * keyBase ^ m + getD keys (w - item .load l) 0)
-    unfolding atLevel rowOf
+  module _ (few : m ≤ mostItems) (fits : item .load l ≤ w) (cheap : item .cost l ≤ mostCost) {d j : ℕ} (small : Small m d j)
+      (worth : valueOf d j ≡ rest (w - item .load l)) where
+    level-value : atLevel item m rest w l ≡ valueOf (item .cost l + d) (suc l * keyBase ^ m + j)
+    unfolding atLevel
     level-value =
-        rw (le-leb (item .load l) w fits, ← words-pair (item .cost l) (suc l * keyBase ^ m) (omega arith))
+        rw (le-leb (item .load l) w fits, ← worth, ← words-pair (item .cost l) (suc l * keyBase ^ m) (omega arith))
         (words-add _ _ _ _ (λ p q. omega (arith, small .real q)))
 
-    no-cheaper-value : c ≤ item .cost l + getD costs (w - item .load l) 0 → k < suc l * keyBase ^ m →
-        lesser (valueOf c k) (atLevel item m (rowOf costs keys) w l) ≡ valueOf c k
-    no-cheaper-value dear lower = rw level-value (words-lesser-first _ _ _ _ (go (eq-or-lt-of-le dear)))
+    pub least-no-cheaper : c ≤ item .cost l + d → LeastAt item m (suc l) rest w c k
+    unfolding leastBelow
+    least-no-cheaper dear =
+        record {
+          value = rw (← least .value, level-value) (sym (words-lesser-first _ _ _ _ (go (eq-or-lt-of-le dear))));
+          at-most-none = least .at-most-none;
+          real = least .real;
+          digits = omega (arith, suc-mul (suc l) (keyBase ^ m));
+        }
       where
-        sum : ℕ
-        sum = item .cost l + getD costs (w - item .load l) 0
-
-        go : (c ≡ sum) ⊎ (c < sum) →
-            (c < sum) ⊎ ((c ≡ sum) × (k ≤ suc l * keyBase ^ m + getD keys (w - item .load l) 0))
-        go (inl e) = inr (e, omega arith)
+        go : (c ≡ item .cost l + d) ⊎ (c < item .cost l + d) →
+            (c < item .cost l + d) ⊎ ((c ≡ item .cost l + d) × (k ≤ suc l * keyBase ^ m + j))
+        go (inl e) = inr (e, omega (arith, least .digits))
         go (inr h) = inl h
 
-    cheaper-value : item .cost l + getD costs (w - item .load l) 0 < c →
-        lesser (valueOf c k) (atLevel item m (rowOf costs keys) w l)
-        ≡ valueOf (item .cost l + getD costs (w - item .load l) 0) (suc l * keyBase ^ m + getD keys (w - item .load l) 0)
-    cheaper-value less = rw level-value (words-lesser-second _ _ _ _ (inl less))
+    pub least-cheaper : item .cost l + d < c → LeastAt item m (suc l) rest w (item .cost l + d) (suc l * keyBase ^ m + j)
+    unfolding leastBelow
+    least-cheaper less =
+        record {
+          value = rw (← least .value, level-value) (sym (words-lesser-second _ _ _ _ (inl less)));
+          at-most-none = omega (arith, least .at-most-none);
+          real = λ h. omega (arith, small .real (omega arith));
+          digits = omega (arith, suc-mul (suc l) (keyBase ^ m), small .digits);
+        }
 
 pub least-of-one-more : {item : Item} {m l w c k d j : ℕ} {costs keys : List ℕ} → m ≤ mostItems →
     (item .load l ≤ w → item .cost l ≤ mostCost) → ((u : ℕ) → u ≤ w → Small m (getD costs u 0) (getD keys u 0)) →
     LeastAt item m l (rowOf costs keys) w c k →
     Relaxed (item .load l) (item .cost l) (suc l * keyBase ^ m) costs keys w c k d j →
     LeastAt item m (suc l) (rowOf costs keys) w d j
-unfolding leastBelow
-least-of-one-more {item} {m} {l} {w} {c} {k} {costs = costs} {keys} few cheap small least (no-room h) =
-    record {
-      value = rw (← least .value) (sym (no-room-value item m l w c k costs keys h));
-      at-most-none = least .at-most-none;
-      real = least .real;
-      digits = omega (arith, suc-mul (suc l) (keyBase ^ m));
-    }
-least-of-one-more {item} {m} {l} {w} {c} {k} {costs = costs} {keys} few cheap small least (no-cheaper fits dear) =
-    let entry = small (w - item .load l) (omega arith) in
-    record {
-      value =
-          rw (← least .value)
-          (sym (no-cheaper-value item m l w c k costs keys few fits (cheap fits) entry dear (least .digits)));
-      at-most-none = least .at-most-none;
-      real = least .real;
-      digits = omega (arith, suc-mul (suc l) (keyBase ^ m));
-    }
-least-of-one-more {item} {m} {l} {w} {c} {k} {costs = costs} {keys} few cheap small least (cheaper fits less) =
-    let entry = small (w - item .load l) (omega arith) in
-    record {
-      value = rw (← least .value) (sym (cheaper-value item m l w c k costs keys few fits (cheap fits) entry less));
-      at-most-none = omega arith;
-      real = λ h. omega (arith, entry .real (omega arith), cheap fits);
-      digits = omega (arith, suc-mul (suc l) (keyBase ^ m));
-    }
+unfolding rowOf
+least-of-one-more few cheap small least (no-room h) = least-without-room least h
+least-of-one-more few cheap small least (no-cheaper fits dear) =
+    least-no-cheaper least few fits (cheap fits) (small _ (omega arith)) refl dear
+least-of-one-more few cheap small least (cheaper fits less) =
+    least-cheaper least few fits (cheap fits) (small _ (omega arith)) refl less
 
 pub least-of-all-levels : {item : Item} {m levels w c k : ℕ} {rest : ℕ → Value} → levels ≤ mostLevels →
     LeastAt item m levels rest w c k → Small (suc m) c k

@@ -15,11 +15,11 @@ use Rattle.search.specs.SetLaws.{setNumber-below}
 
 -- the first item's bit stands above all others
 
-half-number : (b : Bool) (n r : ℕ) → (cond b (2 ^ suc n) 0 + r) / 2 ≡ cond b (2 ^ n) 0 + r / 2
+pub half-number : (b : Bool) (n r : ℕ) → (cond b (2 ^ suc n) 0 + r) / 2 ≡ cond b (2 ^ n) 0 + r / 2
 half-number true n r = omega (arith, pow-suc 2 n)
 half-number false n r = omega arith
 
-last-of-number : (b : Bool) (n r : ℕ) → hasLast (cond b (2 ^ suc n) 0 + r) ≡ hasLast r
+pub last-of-number : (b : Bool) (n r : ℕ) → hasLast (cond b (2 ^ suc n) 0 + r) ≡ hasLast r
 unfolding hasLast
 last-of-number true n r =
     let same : (2 ^ suc n + r) % 2 ≡ r % 2 = omega (arith, pow-suc 2 n) in

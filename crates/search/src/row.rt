@@ -30,10 +30,10 @@ pub(crate) struct Front {
 }
 
 // An item at a level: its load and cost there, and what it adds to a key.
-struct Choice {
-    load: usize,
-    cost: u64,
-    key: u64,
+pub(crate) struct Choice {
+    pub(crate) load: usize,
+    pub(crate) cost: u64,
+    pub(crate) key: u64,
 }
 
 // Each entry of a row becomes that of the choice before another row, where that is cheaper. Levels are taken in ascending
@@ -66,7 +66,7 @@ fn relax_level(
     }
 }
 
-fn choice_at(load: &[u64], cost: &[u64], front: Front, level: usize) -> Choice
+pub(crate) fn choice_at(load: &[u64], cost: &[u64], front: Front, level: usize) -> Choice
     requires { ⌜ ChoiceFits (now load) (now cost) front level ⌝ }
     ensures { λ r. ⌜ r ≡ choiceOf (now (load .entry)) (now (cost .entry)) front level ⌝ }
 {
