@@ -2,13 +2,13 @@
 use Prim.Native.Nat.{ℕ, suc, _+_, _*_, _-_, _^_, _≤_, _<_}
 use mathlib.Core.Path.{_≡_, refl, sym, ap, _∙_}
 use mathlib.Core.List.{List}
-use native.Mathlib.Nat.{pow-suc, pow-le-pow-right, le-refl}
+use native.Mathlib.Nat.{pow-suc, pow-le-pow-right}
 use native.Mathlib.Omega.{arith}
-use lib.ListN.{length, getD, set}
+use lib.ListN.{length}
 use Rattle.search.specs.Assignment.{Item}
 use Rattle.search.specs.Bounds.{keys-fit}
 use Rattle.search.specs.Branches.{NextFits, BranchFits, BranchFilled, nextItem, settled, withoutNext, withNext}
-use Rattle.search.specs.FilledTables.{Holds, filled-one, filled-same, filled-both}
+use Rattle.search.specs.FilledTables.{Holds, filled-same, filled-both}
 use Rattle.search.specs.Offered.{mostCapacity, mostItems, mostLevels, rowItem, Affordable}
 use Rattle.search.specs.RelaxedItems.{ItemBefore, RowWithItem}
 use Rattle.search.specs.Rows.{keyBase}
@@ -52,25 +52,10 @@ held-for-more held =
       small = λ w le. small-for-more (held .small w le);
     }
 
-pub index-there : {core : Core} {branch : Branch} {load cost rowCosts rowKeys costs keys : List ℕ} →
-    BranchFits core branch load cost rowCosts rowKeys costs keys → (branch .index < length costs) × (branch .index < length keys)
-index-there {branch = branch} fits =
-    let some-digit : 0 < 2 = omega arith in
-    let more : 2 ^ branch .places ≤ 2 ^ (branch .ahead + branch .places) = pow-le-pow-right some-digit (omega arith) in
-    (omega (arith, fits), omega (arith, fits))
-
 module _ {core : Core} {branch : Branch} {load cost rowCosts rowKeys costs keys : List ℕ}
     (fits : BranchFits core branch load cost rowCosts rowKeys costs keys) where
   bit-above-0 : 0 < branch .bit
   bit-above-0 = omega (arith, fits .index-below)
-
-  pub entry-filled : {c k : ℕ} → branch .ahead ≡ 0 → c ≡ getD rowCosts (core .capacity) 0 → k ≡ getD rowKeys (core .capacity) 0 →
-      BranchFilled core branch load cost rowCosts rowKeys costs keys (set costs (branch .index) c) (set keys (branch .index) k)
-  unfolding rowOf
-  entry-filled none is-cost is-key =
-      rw (none, is-cost, is-key)
-      (filled-one (core .levels) (core .capacity) (rowItem load cost) (index-there fits .0) (index-there fits .1)
-      record { is = refl; small = fits .row-held .small (core .capacity) (le-refl _) })
 
   module _ (some : branch .ahead ≡ 0 → ⊥) where
     one-ahead : branch .ahead ≡ suc (branch .ahead - 1)
@@ -123,12 +108,6 @@ module _ {core : Core} {branch : Branch} {load cost rowCosts rowKeys costs keys 
     pub without-fits : BranchFits core (withoutNext branch) load cost rowCosts rowKeys costs keys
     without-fits = settled-fits (omega (arith, fits .index-below)) (held-for-more (fits .row-held)) refl refl
 
-    pub with-there : (costs₁ keys₁ : List ℕ) → length costs₁ ≡ length costs → length keys₁ ≡ length keys →
-        (branch .index + branch .bit < length costs₁) × (branch .index + branch .bit < length keys₁)
-    with-there costs₁ keys₁ same-costs same-keys =
-        let below : branch .index + branch .bit < branch .bit * 2 = omega (arith, fits .index-below) in
-        index-there {costs = costs₁} {keys = keys₁} (settled-fits below (held-for-more (fits .row-held)) same-costs same-keys)
-
     pub with-fits : {moreCosts moreKeys costs₁ keys₁ : List ℕ} → length moreCosts ≡ suc mostCapacity →
         length moreKeys ≡ suc mostCapacity →
         RowWithItem core (nextItem branch) load cost rowCosts rowKeys (core .levels) moreCosts moreKeys →
@@ -142,20 +121,6 @@ module _ {core : Core} {branch : Branch} {load cost rowCosts rowKeys costs keys 
           small = λ w le. least-of-all-levels (fits .affordable .levels-limited) (more .least w le);
         }
         same-costs same-keys
-
-    pub last-filled : {costs₁ keys₁ : List ℕ} {c k : ℕ} → length costs₁ ≡ length costs → length keys₁ ≡ length keys →
-        BranchFilled core (withoutNext branch) load cost rowCosts rowKeys costs keys costs₁ keys₁ → branch .ahead ≡ 1 →
-        LeastAt (rowItem load cost (branch .ahead - 1)) (branch .places) (core .levels) (rowOf rowCosts rowKeys) (core .capacity) c k →
-        BranchFilled core branch load cost rowCosts rowKeys costs keys
-        (set costs₁ (branch .index + branch .bit) c) (set keys₁ (branch .index + branch .bit) k)
-    last-filled {costs₁} {keys₁} same-costs same-keys without one least =
-        let there = with-there costs₁ keys₁ same-costs same-keys in
-        let none : branch .ahead - 1 ≡ 0 = omega arith in
-        rw one-ahead
-        (filled-both (core .levels) (core .capacity) (rowItem load cost) bit-above-0 without
-        (rw none
-        (filled-one (core .levels) (core .capacity) (rowItem load cost) (there .0) (there .1)
-        (rw none at (least-holds (fits .affordable .levels-limited) least)))))
 
     pub both-filled : {costs₁ keys₁ moreCosts moreKeys costs₂ keys₂ : List ℕ} →
         BranchFilled core (withoutNext branch) load cost rowCosts rowKeys costs keys costs₁ keys₁ →

@@ -5,7 +5,7 @@ use mathlib.Core.Path.{_≡_, refl, sym, ap, _∙_}
 use mathlib.Core.Logic.{_⊎_, inl, inr}
 use mathlib.Core.Bool.{Bool, true, false}
 use mathlib.Core.List.{List}
-use native.Mathlib.Nat.{pow-suc, zero-mul, zero-add, suc-mul, mul-le-mul-right}
+use native.Mathlib.Nat.{pow-suc, suc-mul, mul-le-mul-right}
 use native.Mathlib.Omega.{arith}
 use borrow.Author.Tests.{eqb-true, eqb-false}
 use lib.ListN.{length, getD, set}
@@ -23,7 +23,7 @@ pub record Holds (m : ℕ) (value : Value) (c k : ℕ) : Type 0 where
   pub small : Small m c k
 
 -- entry x is that of no set that is filled in
-abbrev Elsewhere : (bit index x : ℕ) → Type 0
+abbrev pub Elsewhere : (bit index x : ℕ) → Type 0
 Elsewhere bit index x = (k : ℕ) → x ≡ k * bit + index → ⊥
 
 -- the entries of the sets without the next item, and of those with it
@@ -48,31 +48,49 @@ elsewhere-with : (bit index : ℕ) {x : ℕ} → Elsewhere bit index x → Elsew
 elsewhere-with bit index apart q e = apart (q * 2 + 1) (e ∙ sym (with-place q bit index))
 
 module _ (levels capacity : ℕ) (item : ℕ → Item) where
-  pub record Filled (ahead places bit index : ℕ) (rest : ℕ → Value) (costs₀ keys₀ costs keys : List ℕ) : Type 0 where
-    pub entries : (k : ℕ) → k < 2 ^ ahead →
+  -- the entries of the first n sets are filled in
+  pub record FilledTo (n ahead places bit index : ℕ) (rest : ℕ → Value) (costs₀ keys₀ costs keys : List ℕ) : Type 0 where
+    pub entries : (k : ℕ) → k < n →
         Holds (ahead + places) (rowBefore levels item ahead places k rest capacity) (getD costs (k * bit + index) 0) (getD keys (k * bit + index) 0)
     pub other-costs : (x : ℕ) → Elsewhere bit index x → getD costs x 0 ≡ getD costs₀ x 0
     pub other-keys : (x : ℕ) → Elsewhere bit index x → getD keys x 0 ≡ getD keys₀ x 0
 
-  -- where no item is open, one entry is filled in
-  pub filled-one : {places bit index c k : ℕ} {rest : ℕ → Value} {costs keys : List ℕ} → index < length costs → index < length keys →
-      Holds places (rest capacity) c k → Filled 0 places bit index rest costs keys (set costs index c) (set keys index k)
-  unfolding rowBefore
-  filled-one {places} {bit} {index} {c} {k} {rest} {costs} {keys} in-costs in-keys holds =
+  abbrev pub Filled : (ahead places bit index : ℕ) (rest : ℕ → Value) (costs₀ keys₀ costs keys : List ℕ) → Type 0
+  Filled ahead = FilledTo (2 ^ ahead) ahead
+
+  pub none-filled : {ahead places bit index : ℕ} {rest : ℕ → Value} {costs keys : List ℕ} →
+      FilledTo 0 ahead places bit index rest costs keys costs keys
+  none-filled =
+      record { entries = λ k none. absurd (omega arith); other-costs = λ x apart. refl; other-keys = λ x apart. refl }
+
+  -- the entry of one set more
+  pub one-more-filled : {n ahead places bit index c j : ℕ} {rest : ℕ → Value} {costs₀ keys₀ costs keys : List ℕ} → 0 < bit →
+      n * bit + index < length costs → n * bit + index < length keys →
+      FilledTo n ahead places bit index rest costs₀ keys₀ costs keys →
+      Holds (ahead + places) (rowBefore levels item ahead places n rest capacity) c j →
+      FilledTo (suc n) ahead places bit index rest costs₀ keys₀ (set costs (n * bit + index) c) (set keys (n * bit + index) j)
+  one-more-filled {n} {ahead} {places} {bit} {index} {c} {j} {rest} {costs = costs} {keys} some in-costs in-keys filled holds =
       record {
-        entries = λ j small.
-            let none : j ≡ 0 = omega arith in
-            rw (
-              none,
-              zero-mul bit,
-              zero-add index,
-              getD-set-same costs index c 0 in-costs,
-              getD-set-same keys index k 0 in-keys,
-              zero-add places,
-            ) holds;
-        other-costs = λ x apart. getD-set-other costs index x c 0 (λ e. apart 0 (omega arith));
-        other-keys = λ x apart. getD-set-other keys index x k 0 (λ e. apart 0 (omega arith));
+        entries = λ k under. go k under (lt-or-le k n);
+        other-costs = λ x apart. getD-set-other costs _ x c 0 (λ e. apart n e) ∙ filled .other-costs x apart;
+        other-keys = λ x apart. getD-set-other keys _ x j 0 (λ e. apart n e) ∙ filled .other-keys x apart;
       }
+    where
+      place : ℕ
+      place = n * bit + index
+
+      before : (k : ℕ) → k < n → k * bit + index ≡ place → ⊥
+      before k less e = omega (arith, suc-mul k bit, mul-le-mul-right bit less)
+
+      go : (k : ℕ) → k < suc n → (k < n) ⊎ (n ≤ k) →
+          Holds (ahead + places) (rowBefore levels item ahead places k rest capacity)
+          (getD (set costs place c) (k * bit + index) 0) (getD (set keys place j) (k * bit + index) 0)
+      go k under (inl less) =
+          rw (getD-set-other costs place (k * bit + index) c 0 (before k less), getD-set-other keys place (k * bit + index) j 0 (before k less))
+          (filled .entries k less)
+      go k under (inr le) =
+          let last : k ≡ n = omega arith in
+          rw (last, getD-set-same costs place c 0 in-costs, getD-set-same keys place j 0 in-keys) holds
 
   -- rows that agree up to the capacity fill in the same
   pub filled-same : {ahead places bit index : ℕ} {f g : ℕ → Value} {costs₀ keys₀ costs keys : List ℕ} →

@@ -3,21 +3,23 @@ use Prim.Native.Nat.{ℕ, suc, _+_, _*_, _-_, _/_, _^_, _≤_, _<_}
 use mathlib.Core.Path.{_≡_, refl, sym, ap, _∙_}
 use mathlib.Core.Bool.{true, false}
 use mathlib.Core.List.{List}
-use native.Mathlib.Nat.{pow-suc, zero-add, add-zero, mul-le-mul-right}
+use native.Mathlib.Nat.{le-refl, pow-suc, pow-le-pow-right, zero-add, add-zero, suc-mul, mul-le-mul-right}
 use native.Mathlib.Omega.{arith}
-use lib.ListN.{getD}
+use lib.Pow.{pow-add}
+use lib.ListN.{length, getD, set}
 use Rattle.search.specs.Bounds.{keys-fit}
 use Rattle.search.specs.BranchLaws.{small-for-more, least-holds}
-use Rattle.search.specs.FilledTables.{Holds}
+use Rattle.search.specs.Branches.{BranchFits}
+use Rattle.search.specs.FilledTables.{Holds, FilledTo, one-more-filled}
 use Rattle.search.specs.FrontRows.{rowBefore-first, rowBefore-items}
 use Rattle.search.specs.Offered.{mostItems, mostLevels, mostCost, entryOf, itemAt, rowItem, Affordable}
 use Rattle.search.specs.RelaxedItems.{choiceOf, ChoiceFits}
 use Rattle.search.specs.Rows.{keyBase}
 use Rattle.search.specs.RowSteps.{withItem, rowBefore}
-use Rattle.search.specs.RowWords.{Small, RowHeld, rowOf, LeastAt, least-without-room, least-no-cheaper, least-cheaper}
+use Rattle.search.specs.RowWords.{RowHeld, rowOf, LeastAt, least-without-room, least-no-cheaper, least-cheaper}
 use Rattle.search.specs.Values.{Value}
-use Rattle.search.specs.Words.{noCost, valueOf}
 use Rattle.search.specs.declared.front.Ahead.{Ahead}
+use Rattle.search.specs.declared.rows.Branch.{Branch}
 use Rattle.search.specs.declared.row.Choice.{Choice}
 use Rattle.search.specs.declared.row.Core.{Core}
 use Rattle.search.specs.declared.row.Front.{Front}
@@ -217,3 +219,57 @@ module _ {core : Core} {ahead : Ahead} {k w : ℕ} {load cost rowCosts rowKeys :
               Taken best choice other next →
               LeastAt (rowItem load cost (ahead .first)) (ahead .count - 1 + ahead .places) (suc l) rest w (next .cost) (next .key)
           with-choice room held taken = taken-is-least (rw chosen at room) (rw chosen at held) (rw chosen at taken)
+
+-- all items that a branch has ahead
+abbrev pub aheadOf : Branch → Ahead
+aheadOf branch =
+    record { first = 0; count = branch .ahead; places = branch .places; power = keyBase ^ (branch .ahead + branch .places) }
+
+-- the entries of the first n sets of a branch hold their rows
+abbrev pub FilledFirst : Core → Branch → (load cost rowCosts rowKeys costs₀ keys₀ : List ℕ) (n : ℕ) (costs keys : List ℕ) → Type 0
+FilledFirst core branch load cost rowCosts rowKeys costs₀ keys₀ n =
+    FilledTo (core .levels) (core .capacity) (rowItem load cost) n (branch .ahead) (branch .places) (branch .bit) (branch .index)
+    (rowOf rowCosts rowKeys) costs₀ keys₀
+
+module _ {core : Core} {branch : Branch} {load cost rowCosts rowKeys costs₀ keys₀ : List ℕ}
+    (fits : BranchFits core branch load cost rowCosts rowKeys costs₀ keys₀) where
+  pub ahead-fits : {k : ℕ} → k < 2 ^ branch .ahead →
+      AheadFits core (aheadOf branch) k (core .capacity) load cost rowCosts rowKeys
+  ahead-fits there =
+      record {
+        items-limited = omega (arith, fits .items-limited);
+        affordable = rw zero-add (fits .affordable);
+        power-is = refl;
+        set-there = there;
+        load-there = le-refl _;
+        row-held = fits .row-held;
+      }
+
+  -- the place of set number k
+  pub place-below : {k : ℕ} → k < 2 ^ branch .ahead → k * branch .bit + branch .index < 2 ^ (branch .ahead + branch .places)
+  place-below {k} there =
+      let all = pow-add 2 (branch .ahead) (branch .places) ∙ ap (λ (b : ℕ). 2 ^ branch .ahead * b) (sym (fits .bit-is)) in
+      omega (arith, all, fits .index-below, suc-mul k (branch .bit), mul-le-mul-right (branch .bit) there)
+
+  pub place-fits : {k : ℕ} → k < 2 ^ branch .ahead → k * branch .bit + branch .index < 4096
+  place-fits there =
+      let some-digit : 0 < 2 = omega arith in
+      let few : 2 ^ (branch .ahead + branch .places) ≤ 2 ^ mostItems = pow-le-pow-right some-digit (fits .items-limited) in
+      omega (arith, place-below there)
+
+  pub next-filled : {n c j : ℕ} {costs keys : List ℕ} → n < 2 ^ branch .ahead → length costs ≡ length costs₀ →
+      length keys ≡ length keys₀ → FilledFirst core branch load cost rowCosts rowKeys costs₀ keys₀ n costs keys →
+      Holds (branch .ahead + branch .places) (frontRow core (aheadOf branch) n load cost rowCosts rowKeys (core .capacity)) c j →
+      FilledFirst core branch load cost rowCosts rowKeys costs₀ keys₀ (suc n) (set costs (n * branch .bit + branch .index) c) (set keys (n * branch .bit + branch .index) j)
+  unfolding frontRow
+  next-filled {n} there same-costs same-keys sofar holds =
+      let place = place-below there in
+      one-more-filled (core .levels) (core .capacity) (rowItem load cost) (omega (arith, fits .index-below))
+      (omega (arith, fits .costs-for-all)) (omega (arith, fits .keys-for-all)) sofar
+      record {
+        is =
+            holds .is
+            ∙ ap (λ (f : ℕ → Value). f (core .capacity))
+            (rowBefore-items (core .levels) _ _ (branch .ahead) (branch .places) n (rowOf rowCosts rowKeys) (λ i h. rw zero-add));
+        small = holds .small;
+      }

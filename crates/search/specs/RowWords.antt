@@ -10,7 +10,7 @@ use borrow.Author.Tests.{le-leb, lt-leb}
 use lib.ListN.{length, getD}
 use Rattle.search.specs.Assignment.{Item}
 use Rattle.search.specs.Offered.{mostItems, mostLevels, mostCost}
-use Rattle.search.specs.Values.{Value, lesser, leastBelow, to-none}
+use Rattle.search.specs.Values.{Value, leastBelow, to-none}
 use Rattle.search.specs.ValueLaws.{lesser-is-first}
 use Rattle.search.specs.Words.{noCost, valueOf, words-none, words-pair, words-add, words-lesser-first, words-lesser-second}
 use Rattle.search.specs.Rows.{keyBase, atLevel}

@@ -4,7 +4,7 @@ use crate::choice::least_holding;
 use crate::partition::add_core;
 use crate::partition::copy_entries;
 use crate::partition::fill_weights;
-use crate::partition::sets_of;
+use crate::powers::sets_of;
 use crate::rows::fill_rows;
 use crate::value::Worth;
 ghost use mathlib.Core.Bool.{Bool};

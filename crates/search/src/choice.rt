@@ -1,4 +1,5 @@
 // The choice of the set to keep, and the plan that its key stands for.
+use crate::powers::keys_of;
 use crate::value::Worth;
 use crate::value::lesser;
 ghost use mathlib.Core.Path.{_≡_};
@@ -48,20 +49,6 @@ pub(crate) fn least_holding(
         keys,
     );
     lesser(without, kept)
-}
-
-// One more than the largest key of a plan for so many items.
-fn keys_of(items: usize) -> u64
-    requires { ⌜ items ≤ 12 ⌝ }
-    ensures { λ r. ⌜ r ≡ keyBase ^ items ⌝ }
-{
-    let mut power = 1;
-    let mut i = 0;
-    while i < items {
-        power = power * 33;
-        i += 1;
-    }
-    power
 }
 
 // Writes the plan that a key stands for.

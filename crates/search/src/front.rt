@@ -1,16 +1,20 @@
 // The rows of sets at one load, where only few items are in front of those whose row is at hand: read off the definition,
 // from the first item on, so that no row is computed for them.
-use crate::partition::sets_of;
+use crate::powers::keys_of;
+use crate::powers::sets_of;
 use crate::row::Choice;
 use crate::row::Core;
 use crate::row::Front;
 use crate::row::choice_at;
 use crate::row::entry;
+use crate::rows::Branch;
 use crate::value::NO_COST;
 use crate::value::Worth;
 ghost use mathlib.Core.Path.{_≡_};
 ghost use Prim.Native.Nat.{_+_, _<_, _≤_};
-ghost use Rattle.search.specs.FrontFits.{firstOf, othersOf, AheadFits, Taken, SumFits, frontRow};
+ghost use lib.ListN.{length, set};
+ghost use Rattle.search.specs.Branches.{BranchFits, BranchFilled};
+ghost use Rattle.search.specs.FrontFits.{aheadOf, firstOf, othersOf, AheadFits, Taken, SumFits, frontRow};
 ghost use Rattle.search.specs.FilledTables.{Holds};
 
 // The items from `first` on, `count` of them in front of `places` others; `power` is the weight of a key's place before
@@ -112,4 +116,59 @@ fn least_before(
         l += 1;
     }
     best
+}
+
+fn items_ahead(branch: Branch) -> Ahead
+    requires { ⌜ branch .ahead + branch .places ≤ 12 ⌝ }
+    ensures { λ r. ⌜ r ≡ aheadOf branch ⌝ }
+{
+    Ahead {
+        first: 0,
+        count: branch.ahead,
+        places: branch.places,
+        power: keys_of(branch.ahead + branch.places),
+    }
+}
+
+fn store(at: usize, worth: Worth, costs: &mut [u64], keys: &mut [u64])
+    requires { ⌜ (at < length (now costs)) × (at < length (now keys)) ⌝ }
+    ensures { λ _. ⌜ now (costs .exit) ≡ set (now (costs .entry)) at (worth .cost) ⌝ }
+    ensures { λ _. ⌜ now (keys .exit) ≡ set (now (keys .entry)) at (worth .key) ⌝ }
+{
+    costs[at] = worth.cost;
+    keys[at] = worth.key;
+}
+
+// The rows of the branch's sets, one by one.
+pub(crate) fn store_each(
+    core: Core,
+    branch: Branch,
+    load: &[u64],
+    cost: &[u64],
+    row_costs: &[u64],
+    row_keys: &[u64],
+    costs: &mut [u64],
+    keys: &mut [u64],
+)
+    requires { ⌜ BranchFits core branch (now load) (now cost) (now «row_costs») (now «row_keys») (now costs) (now keys) ⌝ }
+    ensures { λ _. ⌜ BranchFilled core branch (now (load .entry)) (now (cost .entry)) (now («row_costs» .entry)) (now («row_keys» .entry))
+        (now (costs .entry)) (now (keys .entry)) (now (costs .exit)) (now (keys .exit)) ⌝ }
+{
+    let ahead = items_ahead(branch);
+    let sets = sets_of(branch.ahead);
+    let mut k = 0;
+    while k < sets {
+        let worth = least_before(
+            core,
+            ahead,
+            k,
+            core.capacity,
+            load,
+            cost,
+            row_costs,
+            row_keys,
+        );
+        store(k * branch.bit + branch.index, worth, costs, keys);
+        k += 1;
+    }
 }

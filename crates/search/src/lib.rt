@@ -5,6 +5,7 @@ mod front;
 mod light;
 mod limits;
 mod partition;
+mod powers;
 mod row;
 mod rows;
 mod value;

@@ -1,5 +1,6 @@
 // The least value of every set of the items on several cores, one core after the other. A set is a number below 2^items,
 // the first item its most significant digit; a table is a slice of costs and one of keys.
+use crate::powers::sets_of;
 use crate::value::NO_COST;
 ghost use mathlib.Core.Path.{_≡_};
 ghost use Prim.Native.Nat.{ℕ, _+_, _*_, _^_, _≤_, _<_};
@@ -77,14 +78,6 @@ fn lower_splits(
         costs,
         keys,
     );
-}
-
-// The number of sets of so many items.
-pub(crate) fn sets_of(items: usize) -> usize
-    requires { ⌜ items ≤ 12 ⌝ }
-    ensures { λ r. ⌜ r ≡ 2 ^ items ⌝ }
-{
-    1 << items
 }
 
 // The weight of each set: the key with a digit 1 for each of its items.

@@ -4,10 +4,9 @@ use crate::value::Worth;
 ghost use mathlib.Core.Path.{_≡_};
 ghost use Prim.Native.Nat.{ℕ, _≤_, _<_};
 ghost use lib.ListN.{length, getD};
-ghost use Rattle.search.specs.Offered.{rowItem};
 ghost use Rattle.search.specs.RelaxedItems.{ChoiceFits, choiceOf, ItemBefore, FlatRow, RowWithItem};
 ghost use Rattle.search.specs.RelaxedRows.{RowSumsFit};
-ghost use Rattle.search.specs.RowWords.{LeastAt, Relaxed, rowOf};
+ghost use Rattle.search.specs.RowWords.{Relaxed};
 ghost use Rattle.search.specs.Words.{noCost};
 
 // From an item's levels to the next one's.
@@ -100,37 +99,6 @@ pub(crate) fn relax(
         relax_level(choice, core.capacity, row_costs, row_keys, costs, keys);
         l += 1;
     }
-}
-
-// The entry of that row for the whole capacity alone.
-pub(crate) fn relaxed_entry(
-    core: Core,
-    front: Front,
-    load: &[u64],
-    cost: &[u64],
-    row_costs: &[u64],
-    row_keys: &[u64],
-) -> Worth
-    requires { ⌜ ItemBefore core front (now load) (now cost) (now «row_costs») (now «row_keys») ⌝ }
-    ensures { λ r. ⌜ LeastAt (rowItem (now (load .entry)) (now (cost .entry)) (front .item)) (front .places) (core .levels)
-        (rowOf (now («row_costs» .entry)) (now («row_keys» .entry))) (core .capacity) (r .cost) (r .key) ⌝ }
-{
-    let mut best = NO_COST;
-    let mut key = 0;
-    let mut l = 0;
-    while l < core.levels {
-        let choice = choice_at(load, cost, front, l);
-        if choice.load <= core.capacity {
-            let rest = core.capacity - choice.load;
-            let sum = choice.cost + row_costs[rest];
-            if sum < best {
-                best = sum;
-                key = choice.key + row_keys[rest];
-            }
-        }
-        l += 1;
-    }
-    Worth { cost: best, key }
 }
 
 pub(crate) fn entry(row_costs: &[u64], row_keys: &[u64], w: usize) -> Worth

@@ -1,17 +1,15 @@
 // The rows of all sets of items: each set's least value on one core.
+use crate::front::store_each;
 use crate::row::Core;
 use crate::row::ENTRIES;
 use crate::row::Front;
-use crate::row::entry;
 use crate::row::relax;
-use crate::row::relaxed_entry;
 use crate::value::NO_COST;
-use crate::value::Worth;
 ghost use mathlib.Core.Bool.{Bool};
 ghost use mathlib.Core.List.{List};
 ghost use mathlib.Core.Path.{_≡_};
 ghost use Prim.Native.Nat.{ℕ, _*_, _^_, _<_};
-ghost use lib.ListN.{length, set};
+ghost use lib.ListN.{set};
 ghost use Rattle.search.specs.Branches.{BranchFilled, BranchFits, NextFits, nextItem, withoutNext, withNext};
 ghost use Rattle.search.specs.Offered.{itemsOf, mostCost};
 ghost use Rattle.search.specs.Rows.{keyBase, row};
@@ -21,23 +19,18 @@ ghost use Rattle.search.specs.TabledRows.{RowsFit};
 // What one place more in a key is worth.
 const KEY_BASE: u64 = 33;
 
+// With so few items ahead a row is computed for none of them: their sets are few, and each needs only few entries of the
+// row at hand.
+const STRAIGHT: usize = 3;
+
 // Sets that agree on their last `places` items, the part of their number that these make up being `index`. The other
 // items are `ahead`; `bit` and `digit` are the weights of the last of those in a set's number and in a key.
-struct Branch {
-    ahead: usize,
-    places: usize,
-    bit: usize,
-    digit: u64,
-    index: usize,
-}
-
-fn store(at: usize, worth: Worth, costs: &mut [u64], keys: &mut [u64])
-    requires { ⌜ (at < length (now costs)) × (at < length (now keys)) ⌝ }
-    ensures { λ _. ⌜ now (costs .exit) ≡ set (now (costs .entry)) at (worth .cost) ⌝ }
-    ensures { λ _. ⌜ now (keys .exit) ≡ set (now (keys .entry)) at (worth .key) ⌝ }
-{
-    costs[at] = worth.cost;
-    keys[at] = worth.key;
+pub(crate) struct Branch {
+    pub(crate) ahead: usize,
+    pub(crate) places: usize,
+    pub(crate) bit: usize,
+    pub(crate) digit: u64,
+    pub(crate) index: usize,
 }
 
 // The last of the items ahead, which is settled next.
@@ -89,13 +82,8 @@ fn fill(
     ensures { λ _. ⌜ BranchFilled core branch (now (load .entry)) (now (cost .entry)) (now («row_costs» .entry)) (now («row_keys» .entry))
         (now (costs .entry)) (now (keys .entry)) (now (costs .exit)) (now (keys .exit)) ⌝ }
 {
-    if branch.ahead == 0 {
-        store(
-            branch.index,
-            entry(row_costs, row_keys, core.capacity),
-            costs,
-            keys,
-        );
+    if branch.ahead <= STRAIGHT {
+        store_each(core, branch, load, cost, row_costs, row_keys, costs, keys);
         return;
     }
     fill(
@@ -110,11 +98,6 @@ fn fill(
     );
     let front = next_item(branch);
     let with = with_next(branch);
-    if branch.ahead == 1 {
-        let last = relaxed_entry(core, front, load, cost, row_costs, row_keys);
-        store(with.index, last, costs, keys);
-        return;
-    }
     let mut more_costs = [NO_COST; ENTRIES];
     let mut more_keys = [0u64; ENTRIES];
     relax(

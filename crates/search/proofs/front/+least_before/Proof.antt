@@ -1,5 +1,5 @@
 use Prim.Native.Nat.{ℕ, _-_, _≤_, _<_}
-use mathlib.Core.Path.{_≡_, refl, sym, _∙_}
+use mathlib.Core.Path.{_≡_}
 use mathlib.Core.Logic.{⊎-elim}
 use native.Mathlib.Numerals.{add-one}
 use native.Mathlib.Omega.{arith}
@@ -15,7 +15,7 @@ use Rattle.search.proofs.front.+least_before.Lts-least_before as least-
 use Rattle.search.proofs.front.first_of.Reads as first-of-reads
 use Rattle.search.proofs.front.others_of.Reads as others-of-reads
 use Rattle.search.proofs.front.taken.Reads as taken-reads
-use Rattle.search.proofs.partition.sets_of.Reads as sets-of-reads
+use Rattle.search.proofs.powers.sets_of.Reads as sets-of-reads
 use Rattle.search.proofs.row.choice_at.Reads as choice-at-reads
 use Rattle.search.proofs.row.entry.Reads as entry-reads
 use Rattle.search.proofs.front.+least_before.{statement}

@@ -1,5 +1,4 @@
 -- One item fewer, and one more behind the first.
-use mathlib.Core.Path.{refl}
 use native.Mathlib.Numerals.{add-one}
 use borrow.Author.Needs.{needs}
 use Rattle.search.specs.Rows.{keyBase}

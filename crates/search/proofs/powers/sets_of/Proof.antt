@@ -4,8 +4,8 @@ use native.Mathlib.Nat.{one-mul}
 use native.Mathlib.Omega.{arith}
 use lib.Pow.{shl-exact}
 use borrow.Author.Needs.{needs}
-use Rattle.search.proofs.partition.sets_of.Statement.{statement}
-use Rattle.search.proofs.partition.sets_of.Tie as tie
+use Rattle.search.proofs.powers.sets_of.Statement.{statement}
+use Rattle.search.proofs.powers.sets_of.Tie as tie
 
 shl-result : tie.Need-shl-result
 shl-result c = search needs

@@ -7,8 +7,8 @@ use native.Mathlib.Omega.{arith}
 use borrow.Author.Needs.{needs}
 use Rattle.search.specs.Bounds.{keys-fit}
 use Rattle.search.specs.Rows.{keyBase}
-use Rattle.search.proofs.choice.keys_of.Statement.{statement}
-use Rattle.search.proofs.choice.keys_of.Tie as tie
+use Rattle.search.proofs.powers.keys_of.Statement.{statement}
+use Rattle.search.proofs.powers.keys_of.Tie as tie
 
 abbrev Inv-loop : tie.InvT-loop
 Inv-loop items power₀ i₀ power i = (i ≤ items) × (power ≡ keyBase ^ i)

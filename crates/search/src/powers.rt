@@ -1,0 +1,26 @@
+// How many sets and how many keys there are.
+ghost use mathlib.Core.Path.{_≡_};
+ghost use Prim.Native.Nat.{_^_, _≤_};
+ghost use Rattle.search.specs.Rows.{keyBase};
+
+// The number of sets of so many items.
+pub(crate) fn sets_of(items: usize) -> usize
+    requires { ⌜ items ≤ 12 ⌝ }
+    ensures { λ r. ⌜ r ≡ 2 ^ items ⌝ }
+{
+    1 << items
+}
+
+// One more than the largest key of a plan for so many items.
+pub(crate) fn keys_of(items: usize) -> u64
+    requires { ⌜ items ≤ 12 ⌝ }
+    ensures { λ r. ⌜ r ≡ keyBase ^ items ⌝ }
+{
+    let mut power = 1;
+    let mut i = 0;
+    while i < items {
+        power = power * 33;
+        i += 1;
+    }
+    power
+}
