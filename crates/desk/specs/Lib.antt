@@ -1,0 +1,4 @@
+pub mod DeskOutcomes
+pub mod Copies
+pub mod ByteLists
+pub mod FrontPlanLaws

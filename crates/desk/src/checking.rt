@@ -1,0 +1,32 @@
+// The check of a given plan and table.
+use crate::answers::Checked;
+use crate::answers::checked_of;
+use crate::choices::words_of_bytes;
+use instance::TextRead;
+use instance::Verdict;
+use instance::words_of_text;
+use schedule::check_table;
+ghost use mathlib.Core.Path.{_≡_};
+ghost use Rattle.desk.specs.DeskOutcomes.{checkedOf, textCheckOutcome};
+ghost use Rattle.schedule.specs.Outcomes.{checkOutcome};
+
+// A plan of more than 12 choices is too long for every instance, and so are its first 13.
+fn check_words(words: &[u32], plan: &[u8], table: &[u8]) -> Verdict
+    ensures { λ r. ⌜ r ≡ checkOutcome (now (words .entry)) (now (plan .entry)) (now (table .entry)) ⌝ }
+{
+    let mut choices = [0; 13];
+    let n = words_of_bytes(plan, &mut choices);
+    check_table(words, &choices[..n], table)
+}
+
+// Whether a table is one of the plan's for the instance that a text is.
+#[no_mangle]
+pub extern "C" fn towhepamu_check(text: &[u8], plan: &[u8], table: &[u8]) -> Checked
+    ensures { λ r. ⌜ r ≡ checkedOf (textCheckOutcome (now (text .entry)) (now (plan .entry)) (now (table .entry))) ⌝ }
+{
+    let mut words = [0; 2048];
+    match words_of_text(text, &mut words) {
+        TextRead::Refused(refusal) => checked_of(Verdict::Refused(refusal)),
+        TextRead::Words(n) => checked_of(check_words(&words[..n], plan, table)),
+    }
+}
