@@ -1,0 +1,81 @@
+/*
+ * The stack that a call takes, measured: each call runs on a stack of its own that was filled with
+ * one byte beforehand, and the lowest byte that changed says how far down it went. Fails where that
+ * is more than the header promises.
+ */
+#define _DEFAULT_SOURCE
+#include "generate.h"
+#include <pthread.h>
+#include <stdio.h>
+#include <stdlib.h>
+#include <string.h>
+#include <sys/mman.h>
+
+enum { ROOM = 16 << 20, FILL = 0xA5, SITES = 12 };
+
+static uint8_t text[TOWHEPAMU_MOST_TEXT_BYTES], plan[TOWHEPAMU_MOST_TASKS];
+static uint8_t table[TOWHEPAMU_MOST_TABLE_BYTES];
+static size_t text_len, tasks, slots;
+static uint8_t *from; /* where the stack stood before the call */
+
+static void *plan_text(void *unused) {
+    (void)unused;
+    from = __builtin_frame_address(0);
+    towhepamu_plan(text, text_len, plan, sizeof plan, table, sizeof table);
+    return NULL;
+}
+
+static void *check_text(void *unused) {
+    (void)unused;
+    from = __builtin_frame_address(0);
+    towhepamu_check(text, text_len, plan, tasks, table, slots);
+    return NULL;
+}
+
+static size_t stack_of(void *(*call)(void *)) {
+    pthread_attr_t attributes;
+    pthread_t thread;
+    uint8_t *room = mmap(NULL, ROOM, PROT_READ | PROT_WRITE, MAP_PRIVATE | MAP_ANONYMOUS, -1, 0);
+    if (room == MAP_FAILED) {
+        perror("stack");
+        exit(2);
+    }
+    memset(room, FILL, ROOM);
+    if (pthread_attr_init(&attributes) != 0 ||
+        pthread_attr_setstack(&attributes, room, ROOM) != 0 ||
+        pthread_create(&thread, &attributes, call, NULL) != 0 || pthread_join(thread, NULL) != 0) {
+        fprintf(stderr, "stack: no thread\n");
+        exit(2);
+    }
+    size_t lowest = 0;
+    while (room[lowest] == FILL)
+        lowest++;
+    size_t taken = (size_t)(from - room) - lowest;
+    pthread_attr_destroy(&attributes);
+    munmap(room, ROOM);
+    return taken;
+}
+
+static void keep_larger(size_t *kept, size_t other) {
+    if (other > *kept)
+        *kept = other;
+}
+
+int main(void) {
+    generator g = {20010911};
+    uint32_t words[MOST_DRAWN_WORDS];
+    reference_instance in;
+    size_t planning = 0, checking = 0;
+    for (size_t n = 0; n < SITES; n++) {
+        size_t count = draw_site(&g, (site_limits){4, 8, 12, 12, 4096}, words);
+        reference_read(words, count, &in);
+        text_len = write_text(&g, words, count, false, text);
+        tasks = in.tasks;
+        slots = in.cores * in.span;
+        keep_larger(&planning, stack_of(plan_text));
+        keep_larger(&checking, stack_of(check_text));
+    }
+    printf("stack: planning takes %zu bytes, checking %zu; the header promises %d\n", planning,
+           checking, TOWHEPAMU_STACK_BYTES);
+    return planning > TOWHEPAMU_STACK_BYTES || checking > TOWHEPAMU_STACK_BYTES;
+}
