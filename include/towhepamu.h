@@ -34,8 +34,8 @@ extern "C" {
 /* Four cores of 4,096 slots: a table buffer of this length is never too short. */
 #define TOWHEPAMU_MOST_TABLE_BYTES (4 * 4096)
 
-/* The stack that a call must find free, in bytes. Planning twelve tasks was measured at 1,130,351,
-   fewer tasks take less, and checking takes 13,000 at most: tests/desk/test_stack.c measures it. */
+/* The stack that a call must find free, in bytes. Measured: planning 1,130,351 for twelve tasks and
+   405,040 for one, checking 12,104 (tests/desk/test_stack.c). */
 #define TOWHEPAMU_STACK_BYTES (1536 * 1024)
 
 /* Why a call was refused, and what `place` then says. */
