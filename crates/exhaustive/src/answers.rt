@@ -1,46 +1,32 @@
-// The numbers of a planner's answer: those that an answer of its kind lacks are 0.
-use instance::refusal_number;
-use instance::refusal_place;
+// A planner's answer as five numbers: the refusal's number and place, energy, penalty and cost. Those that an answer of its
+// kind lacks are 0.
+use crate::tally::add_if;
 use schedule::Priced;
 
-pub(crate) fn refusal_of(answer: Priced) -> u64 {
+pub(crate) fn numbers_of(answer: Priced) -> [u64; 5] {
     match answer {
-        Priced::Cost(_) => 0,
-        Priced::Refused(why) => refusal_number(why),
+        Priced::Cost(price) => [0, 0, price.energy, price.penalty, price.cost],
+        Priced::Refused(why) => {
+            [
+                instance::refusal_number(why),
+                instance::refusal_place(why),
+                0,
+                0,
+                0,
+            ]
+        }
     }
 }
 
-pub(crate) fn place_of(answer: Priced) -> u64 {
-    match answer {
-        Priced::Cost(_) => 0,
-        Priced::Refused(why) => refusal_place(why),
-    }
+pub(crate) fn price_of(words: &[u32], plan: &[u32]) -> [u64; 5] {
+    numbers_of(schedule::price(words, plan))
 }
 
-pub(crate) fn energy_of(answer: Priced) -> u64 {
-    match answer {
-        Priced::Cost(price) => price.energy,
-        Priced::Refused(_) => 0,
-    }
-}
-
-pub(crate) fn penalty_of(answer: Priced) -> u64 {
-    match answer {
-        Priced::Cost(price) => price.penalty,
-        Priced::Refused(_) => 0,
-    }
-}
-
-pub(crate) fn cost_of(answer: Priced) -> u64 {
-    match answer {
-        Priced::Cost(price) => price.cost,
-        Priced::Refused(_) => 0,
-    }
-}
-
-pub(crate) fn is_refused(answer: Priced) -> bool {
-    match answer {
-        Priced::Cost(_) => false,
-        Priced::Refused(_) => true,
+// Counts the numbers in which two answers differ, each at its place.
+pub(crate) fn count_differences(counts: &mut [u64; 28], first: usize, a: &[u64; 5], b: &[u64; 5]) {
+    let mut i = 0;
+    while i < 5 {
+        add_if(counts, std::num::wrapping_add_usize(first, i), a[i] != b[i]);
+        i += 1;
     }
 }

@@ -1,106 +1,122 @@
 // Tables for plans that are drawn, and other tables for the plan that was answered. One that passes the check is a drawing,
 // and no drawing is cheaper than the answered plan.
-use crate::answers::cost_of;
-use crate::answers::is_refused;
+use crate::answers::price_of;
 use crate::buffers::bytes_differ;
-use crate::draw::below;
-use crate::fronts::largest_choice;
-use crate::fronts::passes_check;
-use crate::fronts::price_front;
-use crate::fronts::slots_in;
-use crate::fronts::tabulate_front;
+use crate::draw::up_to;
 use crate::other_tables;
+use crate::site::Site;
+use crate::site::largest_choice;
+use crate::site::slots_in;
 use crate::tally;
 use crate::tally::add;
 use crate::tally::add_if;
-use instance::Instance;
+use instance::Verdict;
 
-// Draws a choice from 0 to `most` for each task.
+pub(crate) fn passes_check(words: &[u32], plan: &[u32], table: &[u8; 128], slots: usize) -> bool {
+    let all = &table[..];
+    if all.len() < slots {
+        return false;
+    }
+    match schedule::check_table(words, plan, &all[0..slots]) {
+        Verdict::Accepted => true,
+        Verdict::Refused(_) => false,
+    }
+}
+
+// Draws a choice from 0 to `most` for each of n tasks.
 fn draw_plan(plan: &mut [u32; 12], n: usize, most: u32, state: &mut u32) {
     let mut i = 0;
-    while i < n {
-        draw_choice(plan, i, most, state);
+    while i < 12 {
+        if i < n {
+            plan[i] = drawn_choice(most, state);
+        }
         i += 1;
     }
 }
 
-fn draw_choice(plan: &mut [u32; 12], i: usize, most: u32, state: &mut u32) {
-    if i < 12 {
-        if most < 1000 {
-            plan[i] = below(state, most + 1);
-        }
-    }
+fn drawn_choice(most: u32, state: &mut u32) -> u32 {
+    let choices = std::num::wrapping_add_u32(most, 1);
+    std::num::wrapping_sub_u32(up_to(state, choices), 1)
 }
 
 // Counts a drawing of a plan: whether its table is the plan's own, and whether it costs less than the least cost.
 fn count_drawing(
     words: &[u32],
-    plan: &[u32; 12],
-    n: usize,
+    plan: &[u32],
     table: &[u8; 128],
     least: u64,
-    counts: &mut [u64; 33],
+    counts: &mut [u64; 28],
 ) {
-    let priced = price_front(words, plan, n);
+    let priced = price_of(words, plan);
     let mut own = [0u8; 128];
-    tabulate_front(words, plan, n, &mut own);
+    schedule::tabulate(words, plan, &mut own);
     add(counts, tally::DRAWINGS, 1);
     add_if(counts, tally::OTHER_DRAWINGS, bytes_differ(table, &own));
-    add_if(counts, tally::UNFIT_DRAWINGS, is_refused(priced));
-    add_if(counts, tally::CHEAPER_DRAWINGS, cost_of(priced) < least);
+    add_if(counts, tally::UNFIT_DRAWINGS, priced[0] != 0);
+    add_if(counts, tally::CHEAPER_DRAWINGS, priced[4] < least);
 }
 
 // Fills a table for a plan in some way, and has it checked.
 fn try_plan(
     words: &[u32],
-    inst: Instance,
-    plan: &[u32; 12],
+    site: Site,
+    plan: &[u32],
     least: u64,
     state: &mut u32,
-    counts: &mut [u64; 33],
+    counts: &mut [u64; 28],
 ) {
     let mut table = [0u8; 128];
-    other_tables::fill(&mut table, inst, plan, state);
+    other_tables::fill(&mut table, words, site, plan, state);
     add(counts, tally::TABLES_TRIED, 1);
-    if passes_check(words, plan, inst.taskcount, &table, slots_in(inst)) {
-        count_drawing(words, plan, inst.taskcount, &table, least, counts);
+    if passes_check(words, plan, &table, slots_in(site)) {
+        count_drawing(words, plan, &table, least, counts);
     }
 }
 
-fn try_drawn_plan(
+fn try_front(
     words: &[u32],
-    inst: Instance,
+    site: Site,
+    plan: &[u32; 12],
     least: u64,
     state: &mut u32,
-    counts: &mut [u64; 33],
+    counts: &mut [u64; 28],
 ) {
+    let all = &plan[..];
+    let n = site.tasks;
+    if n <= all.len() {
+        try_plan(words, site, &all[0..n], least, state, counts);
+    }
+}
+
+fn try_drawn_plan(words: &[u32], site: Site, least: u64, state: &mut u32, counts: &mut [u64; 28]) {
     let mut plan = [0u32; 12];
-    draw_plan(&mut plan, inst.taskcount, largest_choice(inst), state);
-    try_plan(words, inst, &plan, least, state, counts);
+    let n = site.tasks;
+    draw_plan(&mut plan, n, largest_choice(site), state);
+    try_front(words, site, &plan, least, state, counts);
 }
 
 // Tables for plans drawn at random.
 pub(crate) fn try_drawn(
     words: &[u32],
-    inst: Instance,
+    site: Site,
     least: u64,
     state: &mut u32,
-    counts: &mut [u64; 33],
+    counts: &mut [u64; 28],
 ) {
-    try_drawn_plan(words, inst, least, state, counts);
-    try_drawn_plan(words, inst, least, state, counts);
-    try_drawn_plan(words, inst, least, state, counts);
+    try_drawn_plan(words, site, least, state, counts);
+    try_drawn_plan(words, site, least, state, counts);
+    try_drawn_plan(words, site, least, state, counts);
 }
 
 // Other tables for the plan that was answered.
 pub(crate) fn try_answered(
     words: &[u32],
-    inst: Instance,
-    plan: &[u32; 12],
+    site: Site,
+    plan: &[u32],
     least: u64,
     state: &mut u32,
-    counts: &mut [u64; 33],
+    counts: &mut [u64; 28],
 ) {
-    try_plan(words, inst, plan, least, state, counts);
-    try_plan(words, inst, plan, least, state, counts);
+    try_plan(words, site, plan, least, state, counts);
+    try_plan(words, site, plan, least, state, counts);
 }

@@ -1,60 +1,67 @@
 // The second planner. It prices every plan, in choice order, and keeps the first of least cost. It shares no code with the
 // search.
-use crate::fronts::largest_choice;
-use crate::fronts::price_front;
-use crate::fronts::slots_in;
-use crate::fronts::tabulate_front;
+use crate::site::Site;
+use crate::site::largest_choice;
+use crate::site::slots_in;
 use crate::tally;
 use crate::tally::add;
 use crate::tally::add_if;
-use instance::Instance;
 use instance::Refusal;
-use instance::Verdict;
-use instance::read_instance;
 use schedule::Price;
 use schedule::Priced;
 
 // More than the plans of any instance drawn here, which are at most 13 * 13 * 13 * 13.
 const MOST_PLANS: u32 = 30_000;
 
-// The first of least cost among the plans tried, and how many cost as little.
+// The least cost among the plans tried, and how many cost as little: none before a plan is allowed.
 struct Best {
-    found: bool,
-    price: Price,
-    choices: [u32; 12],
+    energy: u64,
+    penalty: u64,
+    cost: u64,
     equals: u64,
 }
 
-fn nothing_yet() -> Best {
-    Best {
-        found: false,
-        price: Price {
-            energy: 0,
-            penalty: 0,
-            cost: 0,
-        },
-        choices: [0; 12],
-        equals: 0,
+// Copies the first n choices.
+fn copy(plan: &mut [u32; 12], choices: &[u32; 12], n: usize) {
+    let mut i = 0;
+    while i < 12 {
+        if i < n {
+            plan[i] = choices[i];
+        }
+        i += 1;
     }
 }
 
-// The best with one more plan, that comes later in choice order.
-fn with_plan(best: Best, choices: &[u32; 12], price: Price) -> Best {
-    if best.found && best.price.cost < price.cost {
-        return best;
+// The best with one more plan, that comes later in choice order; the first of least cost stands in `plan`.
+fn with_plan(
+    best: Best,
+    price: Price,
+    choices: &[u32; 12],
+    n: usize,
+    plan: &mut [u32; 12],
+) -> Best {
+    if best.equals == 0 || price.cost < best.cost {
+        copy(plan, choices, n);
+        return Best {
+            energy: price.energy,
+            penalty: price.penalty,
+            cost: price.cost,
+            equals: 1,
+        };
     }
-    if best.found && best.price.cost == price.cost {
-        let mut again = best;
+    let mut again = best;
+    if price.cost == best.cost {
         again.equals = std::num::wrapping_add_u64(best.equals, 1);
-        return again;
     }
-    let kept = *choices;
-    Best {
-        found: true,
-        price,
-        choices: kept,
-        equals: 1,
+    again
+}
+
+fn price_front(words: &[u32], choices: &[u32; 12], n: usize) -> Priced {
+    let all = &choices[..];
+    if n <= all.len() {
+        return schedule::price(words, &all[0..n]);
     }
+    Priced::Refused(Refusal::NoPlan)
 }
 
 fn after_trying(
@@ -62,14 +69,15 @@ fn after_trying(
     choices: &[u32; 12],
     n: usize,
     best: Best,
-    counts: &mut [u64; 33],
+    plan: &mut [u32; 12],
+    counts: &mut [u64; 28],
 ) -> Best {
     add(counts, tally::PLANS_TRIED, 1);
     match price_front(words, choices, n) {
         Priced::Refused(_) => best,
         Priced::Cost(price) => {
             add(counts, tally::PLANS_PRICED, 1);
-            with_plan(best, choices, price)
+            with_plan(best, price, choices, n, plan)
         }
     }
 }
@@ -90,12 +98,23 @@ fn step(choices: &mut [u32; 12], n: usize, most: u32) -> bool {
     false
 }
 
-fn best_of_all(words: &[u32], n: usize, most: u32, counts: &mut [u64; 33]) -> Best {
-    let mut best = nothing_yet();
+fn best_of_all(
+    words: &[u32],
+    n: usize,
+    most: u32,
+    plan: &mut [u32; 12],
+    counts: &mut [u64; 28],
+) -> Best {
+    let mut best = Best {
+        energy: 0,
+        penalty: 0,
+        cost: 0,
+        equals: 0,
+    };
     let mut choices = [0; 12];
     let mut turns = MOST_PLANS;
     while 0 < turns {
-        best = after_trying(words, &choices, n, best, counts);
+        best = after_trying(words, &choices, n, best, plan, counts);
         if !step(&mut choices, n, most) {
             return best;
         }
@@ -105,58 +124,61 @@ fn best_of_all(words: &[u32], n: usize, most: u32, counts: &mut [u64; 33]) -> Be
     best
 }
 
-fn write_choice(plan: &mut [u32], choices: &[u32; 12], i: usize) {
-    if i < 12 && i < plan.len() {
-        plan[i] = choices[i];
-    }
-}
-
-fn write_front(plan: &mut [u32], choices: &[u32; 12], n: usize) {
-    let mut i = 0;
-    while i < n {
-        write_choice(plan, choices, i);
-        i += 1;
-    }
-}
-
-fn plan_read(
-    inst: Instance,
+// The answer with the best plan of n tasks.
+fn best_answer(
     words: &[u32],
-    plan: &mut [u32],
-    table: &mut [u8],
-    counts: &mut [u64; 33],
-) -> Priced {
-    let n = inst.taskcount;
-    let best = best_of_all(words, n, largest_choice(inst), counts);
+    n: usize,
+    most: u32,
+    plan: &mut [u32; 12],
+    counts: &mut [u64; 28],
+) -> [u64; 5] {
+    let best = best_of_all(words, n, most, plan, counts);
     add_if(counts, tally::SEVERAL_LEAST, 1 < best.equals);
-    if !best.found {
-        return Priced::Refused(Refusal::NoPlan);
+    if best.equals == 0 {
+        return [5, 0, 0, 0, 0];
     }
-    let choices = best.choices;
-    write_front(plan, &choices, n);
-    tabulate_front(words, &choices, n, table);
-    let price = best.price;
-    Priced::Cost(price)
+    [0, 0, best.energy, best.penalty, best.cost]
 }
 
+// What the instance is refused for, before it is planned: an answer of zeros where it is for nothing.
+fn refusal_before(site: Site, plan_room: usize, table_room: usize) -> [u64; 5] {
+    if site.refusal != 0 {
+        return [site.refusal, site.place, 0, 0, 0];
+    }
+    if plan_room < site.tasks {
+        return [6, site.tasks as u64, 0, 0, 0];
+    }
+    let slots = slots_in(site);
+    if table_room < slots {
+        return [6, slots as u64, 0, 0, 0];
+    }
+    [0; 5]
+}
+
+fn tabulate_front(words: &[u32], plan: &[u32; 12], n: usize, table: &mut [u8; 128]) {
+    let all = &plan[..];
+    if n <= all.len() {
+        schedule::tabulate(words, &all[0..n], table);
+    }
+}
+
+// Plans into buffers of which so many elements are lent.
 pub(crate) fn plan(
     words: &[u32],
-    plan: &mut [u32],
-    table: &mut [u8],
-    counts: &mut [u64; 33],
-) -> Priced {
-    let read = read_instance(words);
-    let inst = read.instance;
-    let verdict = read.verdict;
-    if let Verdict::Refused(why) = verdict {
-        return Priced::Refused(why);
+    site: Site,
+    plan: &mut [u32; 12],
+    plan_room: usize,
+    table: &mut [u8; 128],
+    table_room: usize,
+    counts: &mut [u64; 28],
+) -> [u64; 5] {
+    let refusal = refusal_before(site, plan_room, table_room);
+    if refusal[0] != 0 {
+        return refusal;
     }
-    if plan.len() < inst.taskcount {
-        return Priced::Refused(Refusal::ShortBuffer(inst.taskcount));
+    let answer = best_answer(words, site.tasks, largest_choice(site), plan, counts);
+    if answer[0] == 0 {
+        tabulate_front(words, plan, site.tasks, table);
     }
-    let slots = slots_in(inst);
-    if table.len() < slots {
-        return Priced::Refused(Refusal::ShortBuffer(slots));
-    }
-    plan_read(inst, words, plan, table, counts)
+    answer
 }

@@ -8,27 +8,27 @@ mod compare;
 mod draw;
 mod drawings;
 mod every;
-mod fronts;
+mod instances;
 mod other_tables;
-mod sites;
+mod site;
 mod tally;
 
 const INSTANCES: u32 = 5_000;
 
-fn compare_one(state: &mut u32, counts: &mut [u64; 33]) {
+fn compare_one(state: &mut u32, counts: &mut [u64; 28]) {
     let mut words = [0; 32];
-    let end = sites::draw(&mut words, state);
+    let end = instances::draw(&mut words, state);
     compare_front(&words, end, state, counts);
 }
 
-fn compare_front(words: &[u32; 32], end: usize, state: &mut u32, counts: &mut [u64; 33]) {
+fn compare_front(words: &[u32; 32], end: usize, state: &mut u32, counts: &mut [u64; 28]) {
     let all = &words[..];
     if end <= all.len() {
         compare::compare(&all[0..end], state, counts);
     }
 }
 
-fn compare_many(instances: u32, counts: &mut [u64; 33]) {
+fn compare_many(instances: u32, counts: &mut [u64; 28]) {
     let mut state = 1;
     let mut k = 0;
     while k < instances {
@@ -38,7 +38,7 @@ fn compare_many(instances: u32, counts: &mut [u64; 33]) {
 }
 
 fn main() {
-    let mut counts = [0; 33];
+    let mut counts = [0; 28];
     compare_many(INSTANCES, &mut counts);
     tally::print_all(&counts);
 }

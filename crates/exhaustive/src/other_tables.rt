@@ -1,39 +1,30 @@
 // Tables that are not made by earliest deadline first: task after task takes the free slots that its jobs' windows have left.
 use crate::draw::below;
 use crate::draw::once_in;
-use crate::fronts::row_start;
-use instance::Instance;
+use crate::site::Site;
+use crate::site::product;
 
-// In which order a job tries the slots of its window.
-enum Order {
-    FromTheEnd,
-    RoundFrom(u32),
-}
+// In place of the slot of its window that a job tries first: it tries them from the end.
+const FROM_THE_END: u32 = 24;
 
-// A kept task.
+// A kept task: its number, its row's first slot, and the slot of a window that it tries first.
 struct Kept {
     number: u8,
-    jobs: u32,
+    row: u32,
     period: u32,
     ticks: u32,
-}
-
-fn draw_order(state: &mut u32) -> Order {
-    if once_in(state, 2) {
-        return Order::FromTheEnd;
-    }
-    Order::RoundFrom(below(state, 24))
+    first: u32,
 }
 
 // The slot of a window that is tried after x others.
-fn slot_of_window(order: Order, period: u32, x: u32) -> u32 {
+fn slot_of_window(first: u32, period: u32, x: u32) -> u32 {
+    if first == FROM_THE_END {
+        return std::num::wrapping_sub_u32(period, std::num::wrapping_add_u32(x, 1));
+    }
     if period == 0 {
         return 0;
     }
-    match order {
-        Order::FromTheEnd => std::num::wrapping_sub_u32(period, std::num::wrapping_add_u32(x, 1)),
-        Order::RoundFrom(start) => std::num::wrapping_add_u32(start, x) % period,
-    }
+    std::num::wrapping_add_u32(first, x) % period
 }
 
 // Takes a slot that is free, for a job with ticks left; answers the ticks left then.
@@ -47,91 +38,108 @@ fn take_slot(table: &mut [u8; 128], t: usize, number: u8, left: u32) -> u32 {
     left
 }
 
-fn fill_job(table: &mut [u8; 128], order: Order, task: Kept, release: usize) {
-    let mut left = task.ticks;
-    let mut x = 0;
-    while x < task.period {
-        let slot = slot_of_window(order, task.period, x) as usize;
-        left = take_slot(
-            table,
-            std::num::wrapping_add_usize(release, slot),
-            task.number,
-            left,
-        );
-        x += 1;
+// Turn y of a task, in which its job tries one slot; answers the ticks that the job has left then.
+fn take_turn(table: &mut [u8; 128], task: Kept, y: u32, left: u32) -> u32 {
+    if task.period == 0 {
+        return 0;
+    }
+    let x = y % task.period;
+    let slot = slot_of_window(task.first, task.period, x);
+    let release = std::num::wrapping_add_u32(task.row, std::num::wrapping_sub_u32(y, x));
+    let at = std::num::wrapping_add_u32(release, slot) as usize;
+    if x == 0 {
+        return take_slot(table, at, task.number, task.ticks);
+    }
+    take_slot(table, at, task.number, left)
+}
+
+// All jobs of a task: as many turns as its row has slots.
+fn fill_row(table: &mut [u8; 128], task: Kept, span: u32) {
+    let mut left = 0;
+    let mut y = 0;
+    while y < span {
+        left = take_turn(table, task, y, left);
+        y += 1;
     }
 }
 
-// The jobs of a task on the row that begins at slot `row`.
-fn fill_jobs(table: &mut [u8; 128], order: Order, task: Kept, row: usize) {
-    let mut release = row;
-    let mut j = 0;
-    while j < task.jobs {
-        fill_job(table, order, task, release);
-        release = std::num::wrapping_add_usize(release, task.period as usize);
-        j += 1;
-    }
-}
-
-// The core that a choice names, counted from 0.
-fn core_of(inst: Instance, choice: u32) -> u32 {
-    let levels = inst.levelcount;
-    if 0 < levels {
-        if levels <= 8 {
-            return std::num::wrapping_sub_u32(choice, 1) / levels as u32;
-        }
+// The word at a place of the list, 0 past its end.
+fn word(words: &[u32], at: usize) -> u32 {
+    if at < words.len() {
+        return words[at];
     }
     0
 }
 
-// The speed of the level that a choice names.
-fn speed_of(inst: Instance, choice: u32) -> u32 {
-    let levels = inst.levelcount;
-    if 0 < levels {
-        let level = std::num::wrapping_sub_u32(choice, 1) as usize % levels;
-        if level < 8 {
-            return inst.levels[level].speed;
-        }
+// The speed of a level, counted from 0.
+fn speed_of(words: &[u32], level: u32) -> u32 {
+    if level < 8 {
+        return word(words, 5 + 2 * level as usize);
     }
     0
 }
 
-// Task i, where it is kept.
-fn fill_task(table: &mut [u8; 128], order: Order, inst: Instance, choices: &[u32; 12], i: usize) {
-    if i < 12 {
-        let choice = choices[i];
-        if 0 < choice {
-            let period = inst.tasks[i].period;
-            let task = Kept {
-                number: i as u8 + 1,
-                jobs: schedule::jobs_in(inst.span, period),
-                period,
-                ticks: schedule::ticks_of(inst.tasks[i].cycles, speed_of(inst, choice)),
-            };
-            fill_jobs(table, order, task, row_start(inst, core_of(inst, choice)));
-        }
+// Task i, which has this choice: its three words come after the levels and those of the tasks before.
+fn fill_task(table: &mut [u8; 128], words: &[u32], site: Site, choice: u32, i: usize, first: u32) {
+    let levels = site.levels;
+    if choice == 0 {
+        return;
     }
+    if 12 <= i {
+        return;
+    }
+    if levels == 0 {
+        return;
+    }
+    if 8 < levels {
+        return;
+    }
+    let at = 6 + 2 * levels as usize + 3 * i;
+    let task = Kept {
+        number: i as u8 + 1,
+        row: product((choice - 1) / levels, site.span),
+        period: word(words, at),
+        ticks: schedule::ticks_of(word(words, at + 1), speed_of(words, (choice - 1) % levels)),
+        first,
+    };
+    fill_row(table, task, site.span);
 }
 
-// All tasks, from the one at `first` on and round.
+// All tasks, from task `turn` on and round.
 fn fill_tasks(
     table: &mut [u8; 128],
-    order: Order,
+    words: &[u32],
+    site: Site,
+    plan: &[u32],
+    turn: u32,
     first: u32,
-    inst: Instance,
-    choices: &[u32; 12],
 ) {
     let mut i = 0;
-    while i < inst.taskcount {
-        let next = std::num::wrapping_add_usize(first as usize, i) % inst.taskcount;
-        fill_task(table, order, inst, choices, next);
+    while i < plan.len() {
+        let next = std::num::wrapping_add_usize(turn as usize, i) % plan.len();
+        if next < plan.len() {
+            fill_task(table, words, site, plan[next], next, first);
+        }
         i += 1;
     }
 }
 
+fn draw_first(state: &mut u32) -> u32 {
+    if once_in(state, 2) {
+        return FROM_THE_END;
+    }
+    below(state, 24)
+}
+
 // Fills an idle table for a plan, in an order that is drawn. A job may get fewer slots than it has ticks.
-pub(crate) fn fill(table: &mut [u8; 128], inst: Instance, choices: &[u32; 12], state: &mut u32) {
-    let order = draw_order(state);
-    let first = below(state, 4);
-    fill_tasks(table, order, first, inst, choices);
+pub(crate) fn fill(
+    table: &mut [u8; 128],
+    words: &[u32],
+    site: Site,
+    plan: &[u32],
+    state: &mut u32,
+) {
+    let first = draw_first(state);
+    let turn = below(state, 4);
+    fill_tasks(table, words, site, plan, turn, first);
 }

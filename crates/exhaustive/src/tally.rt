@@ -1,149 +1,113 @@
-// What is counted, a place for each, and how it is printed.
+// What is counted, a place for each in the order of the printed lines.
 use libc::STDOUT_FILENO;
 
 pub(crate) const INSTANCES: usize = 0;
 
-// Between these two: the refusals, each at its number.
-pub(crate) const PLANNED: usize = 11;
+pub(crate) const PLANNED: usize = 1;
+// Between these two: the refusals with 2 to 6, each at its number.
+pub(crate) const PLANS_TRIED: usize = 7;
 
-pub(crate) const KEEPING_ALL: usize = 12;
+pub(crate) const PLANS_PRICED: usize = 8;
 
-pub(crate) const REFUSING_ALL: usize = 13;
+pub(crate) const SEVERAL_LEAST: usize = 9;
 
-pub(crate) const OTHER_CORES: usize = 14;
+pub(crate) const KEEPING_ALL: usize = 10;
 
-pub(crate) const FULL_ROWS: usize = 15;
+pub(crate) const REFUSING_ALL: usize = 11;
 
-pub(crate) const SEVERAL_LEAST: usize = 16;
+pub(crate) const OTHER_CORES: usize = 12;
 
-pub(crate) const PLANS_TRIED: usize = 17;
+pub(crate) const FULL_ROWS: usize = 13;
 
-pub(crate) const PLANS_PRICED: usize = 18;
+pub(crate) const TABLES_TRIED: usize = 14;
 
-pub(crate) const TABLES_TRIED: usize = 19;
+pub(crate) const DRAWINGS: usize = 15;
 
-pub(crate) const DRAWINGS: usize = 20;
+pub(crate) const OTHER_DRAWINGS: usize = 16;
 
-pub(crate) const OTHER_DRAWINGS: usize = 21;
+pub(crate) const PLANS_UNTRIED: usize = 17;
+// The numbers of two answers differ: one place for each number.
+pub(crate) const ANSWERS_DIFFER: usize = 18;
 
-pub(crate) const PLANS_UNTRIED: usize = 22;
+pub(crate) const PLANS_DIFFER: usize = 23;
 
-pub(crate) const REFUSALS_DIFFER: usize = 23;
+pub(crate) const TABLES_DIFFER: usize = 24;
 
-pub(crate) const PLACES_DIFFER: usize = 24;
+pub(crate) const TABLES_FAIL: usize = 25;
 
-pub(crate) const ENERGIES_DIFFER: usize = 25;
+pub(crate) const UNFIT_DRAWINGS: usize = 26;
 
-pub(crate) const PENALTIES_DIFFER: usize = 26;
+pub(crate) const CHEAPER_DRAWINGS: usize = 27;
 
-pub(crate) const COSTS_DIFFER: usize = 27;
-
-pub(crate) const PLANS_DIFFER: usize = 28;
-
-pub(crate) const TABLES_DIFFER: usize = 29;
-
-pub(crate) const TABLES_FAIL: usize = 30;
-
-pub(crate) const UNFIT_DRAWINGS: usize = 31;
-
-pub(crate) const CHEAPER_DRAWINGS: usize = 32;
-
-pub(crate) fn add(counts: &mut [u64; 33], which: usize, n: u64) {
-    if which < 33 {
+pub(crate) fn add(counts: &mut [u64; 28], which: usize, n: u64) {
+    if which < 28 {
         counts[which] = std::num::wrapping_add_u64(counts[which], n);
     }
 }
 
-pub(crate) fn add_if(counts: &mut [u64; 33], which: usize, holds: bool) {
+pub(crate) fn add_if(counts: &mut [u64; 28], which: usize, holds: bool) {
     if holds {
         add(counts, which, 1);
     }
 }
 
-fn print(bytes: &[u8]) {
-    io::write_all(STDOUT_FILENO, bytes);
+// Prints a byte, or for 35, which is #, the next count; answers the place of the count after it.
+fn print_byte(counts: &[u64; 28], place: usize, byte: u8) -> usize {
+    if byte == 35 {
+        if place < 28 {
+            io::print_decimal(STDOUT_FILENO, counts[place]);
+            return place + 1;
+        }
+    }
+    let bytes = [byte];
+    io::write_all(STDOUT_FILENO, &bytes);
+    place
 }
 
-fn print_line(counts: &[u64; 33], which: usize, name: &[u8]) {
-    if which < 33 {
-        io::print_decimal(STDOUT_FILENO, counts[which]);
-        print(b" ");
-        print(name);
-        print(b"\n");
+fn print_filled(counts: &[u64; 28], text: &[u8]) {
+    let mut place = 0;
+    let mut i = 0;
+    while i < text.len() {
+        place = print_byte(counts, place, text[i]);
+        i += 1;
     }
 }
 
-fn print_drawn(counts: &[u64; 33]) {
-    print(b"-- drawn\n");
-    print_line(counts, INSTANCES, b"instances");
-    print_line(counts, PLANNED, b"planned");
-    print_line(counts, 2, b"refused with 2");
-    print_line(counts, 3, b"refused with 3");
-    print_line(counts, 4, b"refused with 4");
-    print_line(counts, 5, b"refused with 5, no plan");
-    print_line(counts, 6, b"refused with 6, a short buffer");
-}
-
-fn print_plans(counts: &[u64; 33]) {
-    print(b"-- plans\n");
-    print_line(counts, PLANS_TRIED, b"tried");
-    print_line(counts, PLANS_PRICED, b"of them allowed");
-    print_line(
+// Prints every count with its name.
+pub(crate) fn print_all(counts: &[u64; 28]) {
+    print_filled(
         counts,
-        SEVERAL_LEAST,
-        b"instances with several of least cost",
+        b"-- drawn\n\
+          # instances\n\
+          # planned\n\
+          # refused with 2\n\
+          # refused with 3\n\
+          # refused with 4\n\
+          # refused with 5, no plan\n\
+          # refused with 6, a short buffer\n\
+          -- plans\n\
+          # tried\n\
+          # of them allowed\n\
+          # instances with several of least cost\n\
+          # answered that keep all tasks\n\
+          # answered that refuse all tasks\n\
+          # answered that use another core than 1\n\
+          # answered with a core that is never idle\n\
+          -- other tables\n\
+          # tried\n\
+          # of them pass the check\n\
+          # of these are not earliest deadline first\n\
+          -- must all be 0\n\
+          # instances with plans left untried\n\
+          # refusals differ\n\
+          # places differ\n\
+          # energies differ\n\
+          # penalties differ\n\
+          # costs differ\n\
+          # plan buffers differ\n\
+          # table buffers differ\n\
+          # answered tables fail the check\n\
+          # other tables pass the check for a plan that does not fit\n\
+          # other tables pass the check and are cheaper\n",
     );
-    print_line(counts, KEEPING_ALL, b"answered that keep all tasks");
-    print_line(counts, REFUSING_ALL, b"answered that refuse all tasks");
-    print_line(
-        counts,
-        OTHER_CORES,
-        b"answered that use another core than 1",
-    );
-    print_line(
-        counts,
-        FULL_ROWS,
-        b"answered with a core that is never idle",
-    );
-}
-
-fn print_tables(counts: &[u64; 33]) {
-    print(b"-- other tables\n");
-    print_line(counts, TABLES_TRIED, b"tried");
-    print_line(counts, DRAWINGS, b"of them pass the check");
-    print_line(
-        counts,
-        OTHER_DRAWINGS,
-        b"of these are not earliest deadline first",
-    );
-}
-
-fn print_found(counts: &[u64; 33]) {
-    print(b"-- must all be 0\n");
-    print_line(counts, PLANS_UNTRIED, b"instances with plans left untried");
-    print_line(counts, REFUSALS_DIFFER, b"refusals differ");
-    print_line(counts, PLACES_DIFFER, b"places differ");
-    print_line(counts, ENERGIES_DIFFER, b"energies differ");
-    print_line(counts, PENALTIES_DIFFER, b"penalties differ");
-    print_line(counts, COSTS_DIFFER, b"costs differ");
-    print_line(counts, PLANS_DIFFER, b"plan buffers differ");
-    print_line(counts, TABLES_DIFFER, b"table buffers differ");
-    print_line(counts, TABLES_FAIL, b"answered tables fail the check");
-    print_line(
-        counts,
-        UNFIT_DRAWINGS,
-        b"other tables pass the check for a plan that does not fit",
-    );
-    print_line(
-        counts,
-        CHEAPER_DRAWINGS,
-        b"other tables pass the check and are cheaper",
-    );
-}
-
-pub(crate) fn print_all(counts: &[u64; 33]) {
-    print_drawn(counts);
-    print_plans(counts);
-    print_tables(counts);
-    print_found(counts);
 }

@@ -7,13 +7,19 @@ abbrev Inv-loop : tie.InvT-loop
 Inv-loop plan₀ n most state₀ i₀ plan state i = Unit {0}
 
 abbrev μ-loop : tie.MeasureT-loop
-μ-loop plan₀ n most state₀ i₀ plan state i = n - i
+μ-loop plan₀ n most state₀ i₀ plan state i = 12 - i
 
 loop-holds : tie.Need-loop-holds Inv-loop μ-loop
 loop-holds c = search needs
 
-draw-choice-requires : tie.Need-draw-choice-requires Inv-loop μ-loop
-draw-choice-requires c κs = search needs
+drawn-choice-requires : tie.Need-drawn-choice-requires Inv-loop μ-loop
+drawn-choice-requires c κs = search needs
+
+mul-plan : tie.Need-mul-plan Inv-loop μ-loop
+mul-plan c = search needs
+
+element-write-plan : tie.Need-element-write-plan Inv-loop μ-loop
+element-write-plan c = search needs
 
 add-i : tie.Need-add-i Inv-loop μ-loop
 add-i c = search needs
@@ -30,4 +36,14 @@ returns c = search needs
 pub draw-plan-spec : {M : Type 1} → statement M
 draw-plan-spec =
     tie.close
-    (tie.spec Inv-loop μ-loop loop-holds draw-choice-requires add-i loop-less loop-again returns)
+    (tie.spec
+    Inv-loop
+    μ-loop
+    loop-holds
+    drawn-choice-requires
+    mul-plan
+    element-write-plan
+    add-i
+    loop-less
+    loop-again
+    returns)

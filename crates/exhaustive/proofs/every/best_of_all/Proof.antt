@@ -3,13 +3,10 @@ use Rattle.exhaustive.proofs.every.best_of_all.Statement.{statement}
 use Rattle.exhaustive.proofs.every.best_of_all.Tie as tie
 
 abbrev Inv-loop : tie.InvT-loop
-Inv-loop words n most counts₀ best₀ choices₀ turns₀ counts best choices turns = Unit {0}
+Inv-loop words n most plan₀ counts₀ best₀ choices₀ turns₀ plan counts best choices turns = Unit {0}
 
 abbrev μ-loop : tie.MeasureT-loop
-μ-loop words n most counts₀ best₀ choices₀ turns₀ counts best choices turns = turns
-
-nothing-yet-requires : tie.Need-nothing-yet-requires Inv-loop μ-loop
-nothing-yet-requires c κs = search needs
+μ-loop words n most plan₀ counts₀ best₀ choices₀ turns₀ plan counts best choices turns = turns
 
 loop-holds : tie.Need-loop-holds Inv-loop μ-loop
 loop-holds c = search needs
@@ -44,7 +41,6 @@ best-of-all-spec =
     (tie.spec
     Inv-loop
     μ-loop
-    nothing-yet-requires
     loop-holds
     after-trying-requires
     step-requires

@@ -1,13 +1,14 @@
 use borrow.Author.Needs.{needs}
-use Prim.Native.Nat.{_-_}
+use Prim.Native.Nat.{_≤_, _-_}
+use lib.ListN.{length}
 use Rattle.exhaustive.proofs.other_tables.fill_tasks.Statement.{statement}
 use Rattle.exhaustive.proofs.other_tables.fill_tasks.Tie as tie
 
 abbrev Inv-loop : tie.InvT-loop
-Inv-loop table₀ order first inst choices i₀ table i = Unit {0}
+Inv-loop table₀ words site plan turn first i₀ table i = i ≤ length plan
 
 abbrev μ-loop : tie.MeasureT-loop
-μ-loop table₀ order first inst choices i₀ table i = inst .taskcount - i
+μ-loop table₀ words site plan turn first i₀ table i = length plan - i
 
 loop-holds : tie.Need-loop-holds Inv-loop μ-loop
 loop-holds c = search needs
@@ -17,6 +18,12 @@ wrapping-add-usize-requires c κs = search needs
 
 rem-next : tie.Need-rem-next Inv-loop μ-loop
 rem-next c = search needs
+
+mul-fill-task : tie.Need-mul-fill-task Inv-loop μ-loop
+mul-fill-task c = search needs
+
+shared-slice-read-fill-task : tie.Need-shared-slice-read-fill-task Inv-loop μ-loop
+shared-slice-read-fill-task c = search needs
 
 fill-task-requires : tie.Need-fill-task-requires Inv-loop μ-loop
 fill-task-requires c κs = search needs
@@ -42,6 +49,8 @@ fill-tasks-spec =
     loop-holds
     wrapping-add-usize-requires
     rem-next
+    mul-fill-task
+    shared-slice-read-fill-task
     fill-task-requires
     add-i
     loop-less

@@ -1,31 +1,25 @@
 use borrow.Author.Needs.{needs}
-use Prim.Native.Nat.{_≤_, _-_}
-use Rattle.exhaustive.proofs.sites.put_levels.Statement.{statement}
-use Rattle.exhaustive.proofs.sites.put_levels.Tie as tie
+use Prim.Native.Nat.{_-_}
+use Rattle.exhaustive.proofs.instances.put_levels.Statement.{statement}
+use Rattle.exhaustive.proofs.instances.put_levels.Tie as tie
 
 abbrev Inv-loop : tie.InvT-loop
-Inv-loop words₀ at count state₀ end₀ speed₀ power₀ l₀ words state end speed power l = l ≤ count
+Inv-loop words₀ count state₀ at₀ speed₀ power₀ l₀ words state at speed power l = Unit {0}
 
 abbrev μ-loop : tie.MeasureT-loop
-μ-loop words₀ at count state₀ end₀ speed₀ power₀ l₀ words state end speed power l = count - l
+μ-loop words₀ count state₀ at₀ speed₀ power₀ l₀ words state at speed power l = count - l
 
 loop-holds : tie.Need-loop-holds Inv-loop μ-loop
 loop-holds c = search needs
 
-below-requires : tie.Need-below-requires Inv-loop μ-loop
-below-requires c κs = search needs
-
-add-wrapping-add-u32 : tie.Need-add-wrapping-add-u32 Inv-loop μ-loop
-add-wrapping-add-u32 c = search needs
+up-to-requires : tie.Need-up-to-requires Inv-loop μ-loop
+up-to-requires c κs = search needs
 
 wrapping-add-u32-requires : tie.Need-wrapping-add-u32-requires Inv-loop μ-loop
 wrapping-add-u32-requires c κs = search needs
 
-below-requires-2 : tie.Need-below-requires-2 Inv-loop μ-loop
-below-requires-2 c κs = search needs
-
-add-wrapping-add-u32-2 : tie.Need-add-wrapping-add-u32-2 Inv-loop μ-loop
-add-wrapping-add-u32-2 c = search needs
+up-to-requires-2 : tie.Need-up-to-requires-2 Inv-loop μ-loop
+up-to-requires-2 c κs = search needs
 
 wrapping-add-u32-requires-2 : tie.Need-wrapping-add-u32-requires-2 Inv-loop μ-loop
 wrapping-add-u32-requires-2 c κs = search needs
@@ -33,8 +27,14 @@ wrapping-add-u32-requires-2 c κs = search needs
 put-requires : tie.Need-put-requires Inv-loop μ-loop
 put-requires c κs = search needs
 
+wrapping-add-usize-requires : tie.Need-wrapping-add-usize-requires Inv-loop μ-loop
+wrapping-add-usize-requires c κs = search needs
+
 put-requires-2 : tie.Need-put-requires-2 Inv-loop μ-loop
 put-requires-2 c κs = search needs
+
+wrapping-add-usize-requires-2 : tie.Need-wrapping-add-usize-requires-2 Inv-loop μ-loop
+wrapping-add-usize-requires-2 c κs = search needs
 
 add-l : tie.Need-add-l Inv-loop μ-loop
 add-l c = search needs
@@ -55,14 +55,14 @@ put-levels-spec =
     Inv-loop
     μ-loop
     loop-holds
-    below-requires
-    add-wrapping-add-u32
+    up-to-requires
     wrapping-add-u32-requires
-    below-requires-2
-    add-wrapping-add-u32-2
+    up-to-requires-2
     wrapping-add-u32-requires-2
     put-requires
+    wrapping-add-usize-requires
     put-requires-2
+    wrapping-add-usize-requires-2
     add-l
     loop-less
     loop-again

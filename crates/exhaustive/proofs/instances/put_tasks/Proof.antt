@@ -1,13 +1,13 @@
 use borrow.Author.Needs.{needs}
-use Prim.Native.Nat.{_≤_, _-_}
-use Rattle.exhaustive.proofs.sites.put_tasks.Statement.{statement}
-use Rattle.exhaustive.proofs.sites.put_tasks.Tie as tie
+use Prim.Native.Nat.{_-_}
+use Rattle.exhaustive.proofs.instances.put_tasks.Statement.{statement}
+use Rattle.exhaustive.proofs.instances.put_tasks.Tie as tie
 
 abbrev Inv-loop : tie.InvT-loop
-Inv-loop words₀ at count state₀ end₀ i₀ words state end i = i ≤ count
+Inv-loop words₀ from count state₀ at₀ i₀ words state at i = Unit {0}
 
 abbrev μ-loop : tie.MeasureT-loop
-μ-loop words₀ at count state₀ end₀ i₀ words state end i = count - i
+μ-loop words₀ from count state₀ at₀ i₀ words state at i = count - i
 
 loop-holds : tie.Need-loop-holds Inv-loop μ-loop
 loop-holds c = search needs
@@ -20,6 +20,9 @@ put-equal-task-requires c κs = search needs
 
 put-new-task-requires : tie.Need-put-new-task-requires Inv-loop μ-loop
 put-new-task-requires c κs = search needs
+
+wrapping-add-usize-requires : tie.Need-wrapping-add-usize-requires Inv-loop μ-loop
+wrapping-add-usize-requires c κs = search needs
 
 add-i : tie.Need-add-i Inv-loop μ-loop
 add-i c = search needs
@@ -43,6 +46,7 @@ put-tasks-spec =
     once-in-requires
     put-equal-task-requires
     put-new-task-requires
+    wrapping-add-usize-requires
     add-i
     loop-less
     loop-again

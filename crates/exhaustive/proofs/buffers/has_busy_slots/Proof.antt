@@ -1,19 +1,19 @@
 use borrow.Author.Needs.{needs}
 use Prim.Native.Nat.{_-_}
-use Rattle.exhaustive.proofs.buffers.has_busy_slot.Statement.{statement}
-use Rattle.exhaustive.proofs.buffers.has_busy_slot.Tie as tie
+use Rattle.exhaustive.proofs.buffers.has_busy_slots.Statement.{statement}
+use Rattle.exhaustive.proofs.buffers.has_busy_slots.Tie as tie
 
 abbrev Inv-loop : tie.InvT-loop
-Inv-loop table from to x₀ x = Unit {0}
+Inv-loop table span from slots many busy₀ x₀ busy x = Unit {0}
 
 abbrev μ-loop : tie.MeasureT-loop
-μ-loop table from to x₀ x = 128 - x
+μ-loop table span from slots many busy₀ x₀ busy x = slots - x
 
 loop-holds : tie.Need-loop-holds Inv-loop μ-loop
 loop-holds c = search needs
 
-element-copy-out-if3 : tie.Need-element-copy-out-if3 Inv-loop μ-loop
-element-copy-out-if3 c = search needs
+busy-up-to-requires : tie.Need-busy-up-to-requires Inv-loop μ-loop
+busy-up-to-requires c κs = search needs
 
 returns : tie.Need-returns Inv-loop μ-loop
 returns c = search needs
@@ -30,14 +30,14 @@ loop-again c = search needs
 returns-2 : tie.Need-returns-2 Inv-loop μ-loop
 returns-2 c = search needs
 
-pub has-busy-slot-spec : {M : Type 1} → statement M
-has-busy-slot-spec =
+pub has-busy-slots-spec : {M : Type 1} → statement M
+has-busy-slots-spec =
     tie.close
     (tie.spec
     Inv-loop
     μ-loop
     loop-holds
-    element-copy-out-if3
+    busy-up-to-requires
     returns
     add-x
     loop-less
