@@ -1,21 +1,13 @@
-// Runs pricing, tabling and the check on worked examples, and prints what each one gives.
-mod checks;
-mod prices;
+// Runs pricing, tabling and the check on worked examples, which it reads from standard input, and prints what each one
+// gives. The expected lines are worked out from the paper, by hand.
+mod examples;
+mod print;
 mod show;
-mod sites;
-mod tables;
+
+use libc::STDIN_FILENO;
 
 fn main() {
-    prices::worked();
-    prices::given_plans();
-    prices::overloaded();
-    prices::instance_first();
-    tables::worked();
-    tables::buffers();
-    tables::refusals();
-    checks::worked();
-    checks::given_plans();
-    checks::lengths();
-    checks::stray_slots();
-    checks::jobs();
+    let mut text = io::large_buffer();
+    let n = io::read_full(STDIN_FILENO, &mut text);
+    examples::run(&text[..n]);
 }

@@ -1,102 +1,76 @@
 // Prints a line for each example.
-use instance::Refusal;
+use crate::print::print;
+use crate::print::print_field;
+use crate::print::print_refusal;
+use crate::print::print_slots;
 use instance::Verdict;
-use libc::STDOUT_FILENO;
+use schedule::Price;
 use schedule::Priced;
 
-pub(crate) fn print(bytes: &[u8]) {
-    io::write_all(STDOUT_FILENO, bytes);
-}
-
-fn print_number(n: u64) {
-    io::print_decimal(STDOUT_FILENO, n);
-}
-
-fn print_refusal(r: Refusal) {
-    print(b"refused ");
-    print_number(instance::refusal_number(r));
-    print(b" ");
-    print_number(instance::refusal_place(r));
-    print(b"\n");
-}
-
-fn wide(x: u8) -> u64 {
-    x as u64
-}
-
-fn print_field(n: u64) {
-    print(b" ");
-    print_number(n);
-}
-
-fn print_list(slots: &[u8]) {
-    let mut i = 0;
-    while i < slots.len() {
-        print_field(wide(slots[i]));
-        i += 1;
-    }
-}
-
-fn print_slots(slots: &[u8]) {
-    print_list(slots);
+fn print_price(price: Price) {
+    print_field(b"energy ", price.energy);
+    print_field(b" penalty ", price.penalty);
+    print_field(b" cost ", price.cost);
     print(b"\n");
 }
 
 pub(crate) fn price(words: &[u32], plan: &[u32]) {
     match schedule::price(words, plan) {
-        Priced::Cost(p) => {
-            print(b"energy ");
-            print_number(p.energy);
-            print(b" penalty ");
-            print_number(p.penalty);
-            print(b" cost ");
-            print_number(p.cost);
-            print(b"\n");
-        }
+        Priced::Cost(price) => print_price(price),
         Priced::Refused(r) => print_refusal(r),
     }
 }
 
-// Tables into a buffer that held 77 everywhere, and prints the buffer.
-pub(crate) fn table(words: &[u32], plan: &[u32], slots: &mut [u8]) {
-    match schedule::tabulate(words, plan, slots) {
-        Verdict::Accepted => print(b"table"),
+fn print_verdict(verdict: Verdict, accepted: &[u8]) {
+    match verdict {
+        Verdict::Accepted => print(accepted),
         Verdict::Refused(r) => print_refusal(r),
     }
-    print_slots(slots);
 }
 
-fn slots_with(slots: &[u8], number: u8) -> u64 {
+// Tables into a buffer, and prints the buffer.
+fn table_into(words: &[u32], plan: &[u32], slots: &mut [u8]) {
+    print_verdict(schedule::tabulate(words, plan, slots), b"table");
+    print_slots(slots);
+    print(b"\n");
+}
+
+// Tables into a buffer with so much room, which held 77 everywhere.
+pub(crate) fn table(words: &[u32], room: u32, plan: &[u32]) {
+    let mut slots = [77u8; 64];
+    if room <= 64 {
+        table_into(words, plan, &mut slots[0..room as usize]);
+    }
+}
+
+fn slots_with(slots: &[u8; 4096], number: u8) -> u64 {
     let mut n = 0;
     let mut i = 0;
-    while i < slots.len() {
+    while i < 4096 {
         if slots[i] == number {
-            n += 1;
+            n = std::num::wrapping_add_u64(n, 1);
         }
         i += 1;
     }
     n
 }
 
-// Tables a long row, checks it, and prints how many slots are idle and how many each of two tasks has.
+// How many slots are idle, and how many each of two tasks has.
+fn print_counts(slots: &[u8; 4096]) {
+    print_field(b"", slots_with(slots, 0));
+    print_field(b" task 1 ", slots_with(slots, 1));
+    print_field(b" task 2 ", slots_with(slots, 2));
+    print(b"\n");
+}
+
+// Tables a long row, prints what it holds, and checks it.
 pub(crate) fn long_table(words: &[u32], plan: &[u32]) {
     let mut slots = [77u8; 4096];
-    match schedule::tabulate(words, plan, &mut slots) {
-        Verdict::Accepted => print(b"idle "),
-        Verdict::Refused(r) => print_refusal(r),
-    }
-    print_number(slots_with(&slots, 0));
-    print(b" task 1 ");
-    print_number(slots_with(&slots, 1));
-    print(b" task 2 ");
-    print_number(slots_with(&slots, 2));
-    print(b"\n");
+    print_verdict(schedule::tabulate(words, plan, &mut slots), b"idle ");
+    print_counts(&slots);
     check(words, plan, &slots);
 }
 
 pub(crate) fn check(words: &[u32], plan: &[u32], table: &[u8]) {
-    match schedule::check_table(words, plan, table) {
-        Verdict::Accepted => print(b"accepted\n"),
-        Verdict::Refused(r) => print_refusal(r),
-    }
+    print_verdict(schedule::check_table(words, plan, table), b"accepted\n");
 }

@@ -1,8 +1,8 @@
+use borrow.Author.Needs.{needs}
 use Prim.Native.Nat.{_≤_, _-_}
 use lib.ListN.{length}
-use borrow.Author.Needs.{needs}
-use Rattle.schedule_vectors.proofs.show.print_list.Statement.{statement}
-use Rattle.schedule_vectors.proofs.show.print_list.Tie as tie
+use Rattle.schedule_vectors.proofs.print.print_slots.Statement.{statement}
+use Rattle.schedule_vectors.proofs.print.print_slots.Tie as tie
 
 abbrev Inv-loop : tie.InvT-loop
 Inv-loop slots i₀ i = i ≤ length slots
@@ -13,14 +13,11 @@ abbrev μ-loop : tie.MeasureT-loop
 loop-holds : tie.Need-loop-holds Inv-loop μ-loop
 loop-holds c = search needs
 
-shared-slice-read-wide : tie.Need-shared-slice-read-wide Inv-loop μ-loop
-shared-slice-read-wide c = search needs
+shared-slice-read-print-slot : tie.Need-shared-slice-read-print-slot Inv-loop μ-loop
+shared-slice-read-print-slot c = search needs
 
-wide-requires : tie.Need-wide-requires Inv-loop μ-loop
-wide-requires c κs = search needs
-
-print-field-requires : tie.Need-print-field-requires Inv-loop μ-loop
-print-field-requires c κs = search needs
+print-slot-requires : tie.Need-print-slot-requires Inv-loop μ-loop
+print-slot-requires c κs = search needs
 
 add-i : tie.Need-add-i Inv-loop μ-loop
 add-i c = search needs
@@ -34,16 +31,15 @@ loop-again c = search needs
 returns : tie.Need-returns Inv-loop μ-loop
 returns c = search needs
 
-pub print-list-spec : {M : Type 1} → statement M
-print-list-spec =
+pub print-slots-spec : {M : Type 1} → statement M
+print-slots-spec =
     tie.close
     (tie.spec
     Inv-loop
     μ-loop
     loop-holds
-    shared-slice-read-wide
-    wide-requires
-    print-field-requires
+    shared-slice-read-print-slot
+    print-slot-requires
     add-i
     loop-less
     loop-again
