@@ -1,24 +1,15 @@
-// Runs the reading of texts and of word lists on worked examples, and prints what each one gives.
+// Runs the reading of texts and of word lists on worked examples, which it reads from standard input, and prints what each
+// one gives. The expected lines are worked out from the paper, by hand.
+mod examples;
+mod print;
+mod runs;
 mod show;
-mod texts;
-mod words;
+mod small;
+
+use libc::STDIN_FILENO;
 
 fn main() {
-    texts::accepted();
-    texts::blanks();
-    texts::other_bytes();
-    texts::large_numbers();
-    texts::faults_in_order();
-    texts::length_limit();
-    texts::digits_at_the_limit();
-    texts::short_buffers();
-    words::whole();
-    words::settings();
-    words::level_words();
-    words::rising();
-    words::task_words();
-    words::counts();
-    words::spans();
-    words::early_ends();
-    words::left_over();
+    let mut text = io::large_buffer();
+    let n = io::read_full(STDIN_FILENO, &mut text);
+    examples::run(&text[..n]);
 }

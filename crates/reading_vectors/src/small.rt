@@ -1,0 +1,42 @@
+// A small list with a word changed, and its first words.
+use crate::print::print;
+use crate::print::print_field;
+use crate::show;
+
+// One core, two levels, one task: word by word
+// 0 count, 1 energy weight, 2 penalty weight, 3 cores, 4 levels, 5 speed, 6 power, 7 speed, 8 power, 9 tasks, 10 period,
+// 11 cycles, 12 penalty.
+const SMALL: [u32; 13] = [3, 1, 1, 1, 2, 10, 20, 30, 40, 1, 6, 1, 1];
+
+fn change(list: &mut [u32; 13], at: u32, word: u32) {
+    if at < 13 {
+        list[at as usize] = word;
+    }
+}
+
+// The list with one word changed.
+pub(crate) fn varied(at: u32, word: u32) {
+    print_field(b"", at as u64);
+    print_field(b" is ", word as u64);
+    print(b": ");
+    let mut list = SMALL;
+    change(&mut list, at, word);
+    show_small(&list);
+}
+
+fn show_small(list: &[u32; 13]) {
+    show::words(list);
+}
+
+fn show_front(list: &[u32], n: usize) {
+    if n <= list.len() {
+        show::words(&list[0..n]);
+    }
+}
+
+// The list's first words.
+pub(crate) fn cut(n: u32) {
+    print_field(b"", n as u64);
+    print(b" words: ");
+    show_front(&SMALL, n as usize);
+}
