@@ -5,12 +5,11 @@ use crate::buffers::bytes_differ;
 use crate::buffers::has_busy_slots;
 use crate::buffers::words_differ;
 use crate::draw::below;
-use crate::drawings;
-use crate::drawings::passes_check;
+use crate::drawings::is_table_of;
+use crate::drawings::try_tables;
 use crate::every;
 use crate::site::Site;
 use crate::site::site_of;
-use crate::site::slots_in;
 use crate::tally;
 use crate::tally::add;
 use crate::tally::add_if;
@@ -46,7 +45,6 @@ fn plan_by_search(
 // What kind of plan it is, by its answer and its table.
 fn count_plan(site: Site, answer: &[u64; 5], table: &[u8; 128], counts: &mut [u64; 28]) {
     let span = site.span as usize;
-    let slots = slots_in(site);
     add(counts, tally::PLANNED, 1);
     if 0 < site.tasks {
         add_if(counts, tally::KEEPING_ALL, answer[3] == 0);
@@ -55,50 +53,17 @@ fn count_plan(site: Site, answer: &[u64; 5], table: &[u8; 128], counts: &mut [u6
     add_if(
         counts,
         tally::OTHER_CORES,
-        has_busy_slots(table, span, span, slots, 1),
+        has_busy_slots(table, span, span, site.slots, 1),
     );
     add_if(
         counts,
         tally::FULL_ROWS,
-        has_busy_slots(table, span, 0, slots, span),
+        has_busy_slots(table, span, 0, site.slots, span),
     );
 }
 
-// A plan and its table: the table passes the check, and no drawing is cheaper.
-fn look_at_plan(
-    words: &[u32],
-    site: Site,
-    plan: &[u32],
-    table: &[u8; 128],
-    cost: u64,
-    state: &mut u32,
-    counts: &mut [u64; 28],
-) {
-    add_if(
-        counts,
-        tally::TABLES_FAIL,
-        !passes_check(words, plan, table, slots_in(site)),
-    );
-    drawings::try_answered(words, site, plan, cost, state, counts);
-    drawings::try_drawn(words, site, cost, state, counts);
-}
-
-// A refusal is counted under its number. Where there is no plan, there is no drawing either: every one would be too cheap.
-fn look_at_refusal(
-    words: &[u32],
-    site: Site,
-    number: u64,
-    state: &mut u32,
-    counts: &mut [u64; 28],
-) {
-    if 2 <= number && number <= 6 {
-        add(counts, number as usize, 1);
-    }
-    if number == 5 {
-        drawings::try_drawn(words, site, 18446744073709551615, state, counts);
-    }
-}
-
+// A plan's table passes the check, and no drawing is cheaper. A refusal is counted under its number; where there is no plan,
+// there is no drawing either: every one would be too cheap.
 fn look_at(
     words: &[u32],
     site: Site,
@@ -108,15 +73,30 @@ fn look_at(
     state: &mut u32,
     counts: &mut [u64; 28],
 ) {
-    if answer[0] != 0 {
-        look_at_refusal(words, site, answer[0], state, counts);
+    let number = answer[0];
+    if number == 0 {
+        count_plan(site, answer, table, counts);
+        add_if(
+            counts,
+            tally::TABLES_FAIL,
+            !is_table_of(words, site, plan, table),
+        );
+        try_tables(words, site, plan, true, answer[4], state, counts);
         return;
     }
-    count_plan(site, answer, table, counts);
-    let n = site.tasks;
-    let all = &plan[..];
-    if n <= all.len() {
-        look_at_plan(words, site, &all[0..n], table, answer[4], state, counts);
+    if 2 <= number && number <= 6 {
+        add(counts, number as usize, 1);
+    }
+    if number == 5 {
+        try_tables(
+            words,
+            site,
+            plan,
+            false,
+            18446744073709551615,
+            state,
+            counts,
+        );
     }
 }
 
@@ -148,7 +128,7 @@ fn compare_search(
 pub(crate) fn compare(words: &[u32], state: &mut u32, counts: &mut [u64; 28]) {
     let site = site_of(words);
     let plan_room = room_for(site.tasks, 12, state);
-    let table_room = room_for(slots_in(site), 128, state);
+    let table_room = room_for(site.slots, 128, state);
     let mut plan = [7_777_777u32; 12];
     let mut table = [77u8; 128];
     let tried = every::plan(

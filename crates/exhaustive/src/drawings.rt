@@ -5,14 +5,12 @@ use crate::buffers::bytes_differ;
 use crate::draw::up_to;
 use crate::other_tables;
 use crate::site::Site;
-use crate::site::largest_choice;
-use crate::site::slots_in;
 use crate::tally;
 use crate::tally::add;
 use crate::tally::add_if;
 use instance::Verdict;
 
-pub(crate) fn passes_check(words: &[u32], plan: &[u32], table: &[u8; 128], slots: usize) -> bool {
+fn passes_check(words: &[u32], plan: &[u32], table: &[u8; 128], slots: usize) -> bool {
     let all = &table[..];
     if all.len() < slots {
         return false;
@@ -21,6 +19,16 @@ pub(crate) fn passes_check(words: &[u32], plan: &[u32], table: &[u8; 128], slots
         Verdict::Accepted => true,
         Verdict::Refused(_) => false,
     }
+}
+
+// Whether a table passes the check for a plan that stands at the front.
+pub(crate) fn is_table_of(words: &[u32], site: Site, plan: &[u32; 12], table: &[u8; 128]) -> bool {
+    let all = &plan[..];
+    let n = site.tasks;
+    if n <= all.len() {
+        return passes_check(words, &all[0..n], table, site.slots);
+    }
+    false
 }
 
 // Draws a choice from 0 to `most` for each of n tasks.
@@ -60,63 +68,45 @@ fn count_drawing(
 fn try_plan(
     words: &[u32],
     site: Site,
-    plan: &[u32],
+    choices: &[u32; 12],
     least: u64,
     state: &mut u32,
     counts: &mut [u64; 28],
 ) {
-    let mut table = [0u8; 128];
-    other_tables::fill(&mut table, words, site, plan, state);
-    add(counts, tally::TABLES_TRIED, 1);
-    if passes_check(words, plan, &table, slots_in(site)) {
-        count_drawing(words, plan, &table, least, counts);
-    }
-}
-
-fn try_front(
-    words: &[u32],
-    site: Site,
-    plan: &[u32; 12],
-    least: u64,
-    state: &mut u32,
-    counts: &mut [u64; 28],
-) {
-    let all = &plan[..];
+    let all = &choices[..];
     let n = site.tasks;
     if n <= all.len() {
-        try_plan(words, site, &all[0..n], least, state, counts);
+        let plan = &all[0..n];
+        let mut table = [0u8; 128];
+        other_tables::fill(&mut table, words, site, plan, state);
+        add(counts, tally::TABLES_TRIED, 1);
+        if passes_check(words, plan, &table, site.slots) {
+            count_drawing(words, plan, &table, least, counts);
+        }
     }
 }
 
 fn try_drawn_plan(words: &[u32], site: Site, least: u64, state: &mut u32, counts: &mut [u64; 28]) {
     let mut plan = [0u32; 12];
-    let n = site.tasks;
-    draw_plan(&mut plan, n, largest_choice(site), state);
-    try_front(words, site, &plan, least, state, counts);
+    draw_plan(&mut plan, site.tasks, site.most, state);
+    try_plan(words, site, &plan, least, state, counts);
 }
 
-// Tables for plans drawn at random.
-pub(crate) fn try_drawn(
+// Other tables for the plan that was answered, where one was, and tables for plans drawn at random.
+pub(crate) fn try_tables(
     words: &[u32],
     site: Site,
+    plan: &[u32; 12],
+    is_plan: bool,
     least: u64,
     state: &mut u32,
     counts: &mut [u64; 28],
 ) {
+    if is_plan {
+        try_plan(words, site, plan, least, state, counts);
+        try_plan(words, site, plan, least, state, counts);
+    }
     try_drawn_plan(words, site, least, state, counts);
     try_drawn_plan(words, site, least, state, counts);
     try_drawn_plan(words, site, least, state, counts);
-}
-
-// Other tables for the plan that was answered.
-pub(crate) fn try_answered(
-    words: &[u32],
-    site: Site,
-    plan: &[u32],
-    least: u64,
-    state: &mut u32,
-    counts: &mut [u64; 28],
-) {
-    try_plan(words, site, plan, least, state, counts);
-    try_plan(words, site, plan, least, state, counts);
 }

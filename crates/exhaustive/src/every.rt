@@ -1,8 +1,6 @@
 // The second planner. It prices every plan, in choice order, and keeps the first of least cost. It shares no code with the
 // search.
 use crate::site::Site;
-use crate::site::largest_choice;
-use crate::site::slots_in;
 use crate::tally;
 use crate::tally::add;
 use crate::tally::add_if;
@@ -148,9 +146,8 @@ fn refusal_before(site: Site, plan_room: usize, table_room: usize) -> [u64; 5] {
     if plan_room < site.tasks {
         return [6, site.tasks as u64, 0, 0, 0];
     }
-    let slots = slots_in(site);
-    if table_room < slots {
-        return [6, slots as u64, 0, 0, 0];
+    if table_room < site.slots {
+        return [6, site.slots as u64, 0, 0, 0];
     }
     [0; 5]
 }
@@ -176,7 +173,7 @@ pub(crate) fn plan(
     if refusal[0] != 0 {
         return refusal;
     }
-    let answer = best_answer(words, site.tasks, largest_choice(site), plan, counts);
+    let answer = best_answer(words, site.tasks, site.most, plan, counts);
     if answer[0] == 0 {
         tabulate_front(words, plan, site.tasks, table);
     }

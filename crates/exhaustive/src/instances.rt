@@ -71,37 +71,31 @@ fn penalty(state: &mut u32) -> u32 {
     up_to(state, most)
 }
 
-fn put_new_task(words: &mut [u32; 32], at: usize, state: &mut u32) {
+// Period, cycles and penalty.
+fn new_task(state: &mut u32) -> [u32; 3] {
     let period = one_of(state, &PERIODS);
-    if at < 30 {
-        words[at] = period;
-        words[at + 1] = cycles(state, period);
-        words[at + 2] = penalty(state);
-    }
+    let cycles = cycles(state, period);
+    [period, cycles, penalty(state)]
 }
 
-// The three words before once more.
-fn put_equal_task(words: &mut [u32; 32], at: usize) {
-    if at < 3 {
-        return;
-    }
+fn put_task(words: &mut [u32; 32], at: usize, task: [u32; 3]) {
     if at < 30 {
-        words[at] = words[at - 3];
-        words[at + 1] = words[at - 2];
-        words[at + 2] = words[at - 1];
+        words[at] = task[0];
+        words[at + 1] = task[1];
+        words[at + 2] = task[2];
     }
 }
 
 // One task in five equals the one before it. Answers where the list ends.
 fn put_tasks(words: &mut [u32; 32], from: usize, count: u32, state: &mut u32) -> usize {
+    let mut task = [0u32; 3];
     let mut at = from;
     let mut i = 0;
     while i < count {
-        if 0 < i && once_in(state, 5) {
-            put_equal_task(words, at);
-        } else {
-            put_new_task(words, at, state);
+        if i == 0 || !once_in(state, 5) {
+            task = new_task(state);
         }
+        put_task(words, at, task);
         at = std::num::wrapping_add_usize(at, 3);
         i += 1;
     }

@@ -4,10 +4,10 @@ use Rattle.exhaustive.proofs.instances.put_tasks.Statement.{statement}
 use Rattle.exhaustive.proofs.instances.put_tasks.Tie as tie
 
 abbrev Inv-loop : tie.InvT-loop
-Inv-loop words₀ from count state₀ at₀ i₀ words state at i = Unit {0}
+Inv-loop words₀ from count state₀ task₀ at₀ i₀ words state task at i = Unit {0}
 
 abbrev μ-loop : tie.MeasureT-loop
-μ-loop words₀ from count state₀ at₀ i₀ words state at i = count - i
+μ-loop words₀ from count state₀ task₀ at₀ i₀ words state task at i = count - i
 
 loop-holds : tie.Need-loop-holds Inv-loop μ-loop
 loop-holds c = search needs
@@ -15,11 +15,11 @@ loop-holds c = search needs
 once-in-requires : tie.Need-once-in-requires Inv-loop μ-loop
 once-in-requires c κs = search needs
 
-put-equal-task-requires : tie.Need-put-equal-task-requires Inv-loop μ-loop
-put-equal-task-requires c κs = search needs
+new-task-requires : tie.Need-new-task-requires Inv-loop μ-loop
+new-task-requires c κs = search needs
 
-put-new-task-requires : tie.Need-put-new-task-requires Inv-loop μ-loop
-put-new-task-requires c κs = search needs
+put-task-requires : tie.Need-put-task-requires Inv-loop μ-loop
+put-task-requires c κs = search needs
 
 wrapping-add-usize-requires : tie.Need-wrapping-add-usize-requires Inv-loop μ-loop
 wrapping-add-usize-requires c κs = search needs
@@ -44,8 +44,8 @@ put-tasks-spec =
     μ-loop
     loop-holds
     once-in-requires
-    put-equal-task-requires
-    put-new-task-requires
+    new-task-requires
+    put-task-requires
     wrapping-add-usize-requires
     add-i
     loop-less
