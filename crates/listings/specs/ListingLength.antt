@@ -32,7 +32,7 @@ use Rattle.schedule.specs.Quantities.{choiceAt, isRefused, coreOf, levelOf, job
 use Rattle.schedule.specs.Rows.{CoreTasks, slotOf}
 use Rattle.schedule.specs.TableLaws.{slotAt-tableOf}
 use Rattle.schedule.specs.Tables.{coreTasks, tableOf, slotAt}
-use Rattle.planner.specs.PlanLaws.{best-plan-passes}
+use Rattle.planner.specs.BestPlanLaws.{best-plan-passes}
 use Rattle.planner.specs.OptionsBounds.{passing-cost-below}
 use Rattle.planner.specs.Planning.{bestPlan}
 use Rattle.listings.specs.Listing.{refusalLine, costLine, keptLine, refusedLine, taskLine, coreLine, planLines, listingOfPlan, listingOfProblem, listingOfWords, listingOf}
