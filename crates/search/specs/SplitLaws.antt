@@ -1,6 +1,6 @@
 -- Lowering the entries for one item more is lowering three times: without it, with it in the one part, with it in the other.
 use Prim.Native.Nat.{ℕ, zero, suc, _+_, _-_, _/_, _^_, _≤_, _<_}
-use mathlib.Core.Path.{_≡_, refl, _∙_}
+use mathlib.Core.Path.{_≡_, refl, ap, _∙_}
 use mathlib.Core.Logic.{_⊎_, inl, inr, _≢_}
 use mathlib.Core.Bool.{Bool, true, false}
 use mathlib.Core.List.{List, [], _∷_}
@@ -117,9 +117,12 @@ module _ {k s t r : ℕ} {sum : ℕ → ℕ → Value} {c0 k0 c1 k1 c2 k2 c3 k3 
 
 -- half of the sets, and what is asked of them
 
-pub one-is-power : {size : ℕ} (k : ℕ) → size ≡ 2 ^ k → size ≡ 1 → k ≡ 0
-one-is-power zero is-power one = refl
-one-is-power (suc j) is-power one = absurd (omega (arith, is-power, one, pow-suc 2 j))
+-- a number is one power of two at most
+pub same-power : (j k : ℕ) → 2 ^ j ≡ 2 ^ k → k ≡ j
+same-power zero zero e = refl
+same-power zero (suc k) e = absurd (omega (arith, e, pow-suc 2 k, pow-pos k))
+same-power (suc j) zero e = absurd (omega (arith, e, pow-suc 2 j, pow-pos j))
+same-power (suc j) (suc k) e = ap suc (same-power j k (omega (arith, e, pow-suc 2 j, pow-suc 2 k)))
 
 pub half-is-power : {size : ℕ} (k : ℕ) → size ≡ 2 ^ k → size ≢ 1 → (j : ℕ) × (k ≡ suc j) × (size / 2 ≡ 2 ^ j)
 half-is-power zero is-power more = absurd (more (is-power ∙ pow-zero 2))

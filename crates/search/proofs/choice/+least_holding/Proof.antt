@@ -5,7 +5,7 @@ use denote.Ref.{now}
 use Prim.Native.Nat.{_/_, ℕ, _<_}
 use Rattle.search.specs.Values.{lesser}
 use Rattle.search.specs.Holding.{chosenFrom}
-use Rattle.search.specs.SplitLaws.{one-is-power, half-is-power}
+use Rattle.search.specs.SplitLaws.{same-power, half-is-power}
 use Rattle.search.specs.HoldingLaws.{refused-fits, half-of-sets, next-item, kept-ready, refused-ready, chosen-with-must, chosen-either}
 use borrow.Author.Needs.{needs}
 use borrow.Fn.Kinds.{In}
@@ -53,7 +53,7 @@ shared-slice-read-t19 t c = search needs
 returns : (t : ℕ) → lts.Need-returns (known t) (given t) own.Post
 unfolding chosenFrom
 returns t c =
-    λ k is-power. rw (one-is-power k is-power (c .before .before .if1 .taken)) refl
+    λ k is-power. rw (same-power 0 k (sym (c .before .before .if1 .taken) ∙ is-power)) refl
 
 add-least-holding : (t : ℕ) → lts.Need-add-least-holding (known t) (given t) own.Post
 add-least-holding t c = search needs
