@@ -1,4 +1,4 @@
-// What words are tested against: the numbers of the paper's section 'Site file', each once, and the largest span.
+// What an instance's words are tested against: the ranges of the paper's section 'Site file', and the largest span.
 
 pub(crate) const SETTINGS_COUNT: u32 = 3;
 

@@ -1,4 +1,4 @@
-// What a plan comes to.
+// Energy, penalty and cost of a plan, added up core by core and task by task.
 use crate::quantities::jobs_in;
 use crate::quantities::level_of;
 use crate::quantities::load_on;

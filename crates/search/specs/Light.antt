@@ -9,16 +9,10 @@ use Rattle.search.specs.CheapestChoices.{CheapestChoices}
 use Rattle.search.specs.Choice.{digits}
 use Rattle.search.specs.Found.{optionsOf}
 use Rattle.search.specs.Keeping.{planKey}
-use Rattle.search.specs.Limits.{WithinLimits}
 use Rattle.search.specs.Offered.{mostCost, itemAt}
 use Rattle.search.specs.Rows.{keyBase}
 use Rattle.search.specs.declared.Shape.{Shape}
 use Rattle.search.specs.declared.value.Worth.{Worth}
-
--- the limits, for a plan that is lent elsewhere
-pub record Limited (shape : Shape) (load cost refusal : List ℕ) (must : List Bool) : Type 0 where
-  pub plan : List ℕ
-  pub limits : WithinLimits shape load cost refusal must plan
 
 -- the key of the best plan of n items, and its cost
 pub record BestKey (o : Options) (n : ℕ) (worth : Worth) : Type 0 where

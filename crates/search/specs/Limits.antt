@@ -36,8 +36,9 @@ pub record WithinLimits (shape : Shape) (load cost refusal : List ℕ) (must : L
   pub refusals-limited : (i : ℕ) → i < shape .items → getD refusal i 0 ≤ mostCost
 
 -- the same, but for the plan that is lent
-abbrev pub OfferLimited : Shape → (load cost refusal : List ℕ) (must : List Bool) → Type 0
-OfferLimited shape load cost refusal must = (plan : List ℕ) × WithinLimits shape load cost refusal must plan
+pub record OfferLimited (shape : Shape) (load cost refusal : List ℕ) (must : List Bool) : Type 0 where
+  pub plan : List ℕ
+  pub limits : WithinLimits shape load cost refusal must plan
 
 -- the answer of a test
 abbrev pub Tells : Bool → Type 0 → Type 0

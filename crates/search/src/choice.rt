@@ -1,4 +1,5 @@
 // The choice of the set to keep, and the plan that its key stands for.
+use crate::powers::KEY_BASE;
 use crate::powers::keys_of;
 use crate::value::Worth;
 use crate::value::lesser;
@@ -62,7 +63,7 @@ pub(crate) fn write_plan(items: usize, key: u64, plan: &mut [u32])
     let mut rest = key;
     let mut i = 0;
     while i < items {
-        power = power / 33;
+        power = power / KEY_BASE;
         plan[i] = (rest / power) as u32;
         rest = rest % power;
         i += 1;

@@ -1,5 +1,6 @@
 // The rows of sets at one load, where only few items are in front of those whose row is at hand: read off the definition,
 // from the first item on, so that no row is computed for them.
+use crate::powers::KEY_BASE;
 use crate::powers::keys_of;
 use crate::powers::sets_of;
 use crate::row::Choice;
@@ -34,7 +35,7 @@ fn first_of(ahead: Ahead) -> Front
     Front {
         item: ahead.first,
         places: ahead.count - 1 + ahead.places,
-        digit: ahead.power / 33,
+        digit: ahead.power / KEY_BASE,
     }
 }
 
@@ -47,7 +48,7 @@ fn others_of(ahead: Ahead) -> Ahead
         first: ahead.first + 1,
         count: ahead.count - 1,
         places: ahead.places,
-        power: ahead.power / 33,
+        power: ahead.power / KEY_BASE,
     }
 }
 

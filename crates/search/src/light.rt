@@ -1,13 +1,16 @@
 // Light sites: where core 0 takes what each item would choose alone, that is the best plan, and no table is filled.
 use crate::Shape;
+use crate::powers::KEY_BASE;
+use crate::row::STRIDE;
 use crate::value::NO_COST;
 use crate::value::Worth;
 ghost use mathlib.Core.Path.{_≡_};
-ghost use Prim.Native.Nat.{ℕ, _+_, _*_, _≤_, _<_};
+ghost use Prim.Native.Nat.{_+_, _*_, _≤_, _<_};
 ghost use lib.ListN.{length};
 ghost use Rattle.search.specs.Assignment.{Item};
 ghost use Rattle.search.specs.Found.{optionsOf};
-ghost use Rattle.search.specs.Light.{BestKey, Limited};
+ghost use Rattle.search.specs.Light.{BestKey};
+ghost use Rattle.search.specs.Limits.{OfferLimited};
 ghost use Rattle.search.specs.Offered.{itemAt};
 ghost use Rattle.search.specs.Picks.{Cheaper, PickedBelow};
 ghost use Rattle.search.specs.Words.{noCost};
@@ -73,7 +76,7 @@ fn first_cheapest(
     let mut picked = refused(refusal[i], must[i], capacity);
     let mut l = 0;
     while l < levels {
-        let at = i * 8 + l;
+        let at = i * STRIDE + l;
         let level = Pick {
             choice: l as u64 + 1,
             load: load[at],
@@ -93,7 +96,7 @@ pub(crate) fn light_plan(
     refusal: &[u64],
     must: &[bool],
 ) -> Worth
-    requires { ⌜ Limited shape (now load) (now cost) (now refusal) (now must) ⌝ }
+    requires { ⌜ OfferLimited shape (now load) (now cost) (now refusal) (now must) ⌝ }
     ensures { λ r. ⌜ (r .cost < noCost → BestKey
         (optionsOf shape (now (load .entry)) (now (cost .entry)) (now (refusal .entry)) (now (must .entry)))
         (shape .items) r) ⌝ }
@@ -114,7 +117,7 @@ pub(crate) fn light_plan(
             };
         }
         total += pick.cost;
-        key = key * 33 + pick.choice;
+        key = key * KEY_BASE + pick.choice;
         i += 1;
     }
     Worth {

@@ -1,5 +1,6 @@
 // Whether the numbers are within the limits of the search.
 use crate::Shape;
+use crate::row::STRIDE;
 ghost use Prim.Native.Nat.{ℕ, _+_, _*_, _≤_, _<_};
 ghost use lib.ListN.{length, getD};
 ghost use Rattle.search.specs.Limits.{LongEnough, ShapeLimited, Tells, WithinLimits};
@@ -45,10 +46,10 @@ fn long_enough(
     requires { ⌜ items ≤ 12 ⌝ }
     ensures { λ r. ⌜ Tells r (LongEnough items loads costs refusals musts room) ⌝ }
 {
-    if loads < items * 8 {
+    if loads < items * STRIDE {
         return false;
     }
-    if costs < items * 8 {
+    if costs < items * STRIDE {
         return false;
     }
     if refusals < items {
@@ -72,7 +73,7 @@ fn item_within(i: usize, levels: usize, capacity: usize, load: &[u64], cost: &[u
 {
     let mut l = 0;
     while l < levels {
-        let at = i * 8 + l;
+        let at = i * STRIDE + l;
         if load[at] <= capacity as u64 {
             if MOST_COST < cost[at] {
                 return false;

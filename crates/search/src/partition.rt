@@ -1,5 +1,6 @@
 // The least value of every set of the items on several cores, one core after the other. A set is a number below 2^items,
 // the first item its most significant digit; a table is a slice of costs and one of keys.
+use crate::powers::KEY_BASE;
 use crate::powers::sets_of;
 use crate::value::NO_COST;
 ghost use mathlib.Core.Path.{_≡_};
@@ -160,7 +161,7 @@ pub(crate) fn fill_weights(items: usize, weights: &mut [u64])
     weights[0] = 0;
     let mut x = 1;
     while x < all {
-        weights[x] = weights[x / 2] * 33 + (x % 2) as u64;
+        weights[x] = weights[x / 2] * KEY_BASE + (x % 2) as u64;
         x += 1;
     }
 }

@@ -3,6 +3,9 @@ ghost use mathlib.Core.Path.{_≡_};
 ghost use Prim.Native.Nat.{_^_, _≤_};
 ghost use Rattle.search.specs.Rows.{keyBase};
 
+// What one place more in a key is worth: more than any choice, of which there are at most 32.
+pub(crate) const KEY_BASE: u64 = 33;
+
 // The number of sets of so many items.
 pub(crate) fn sets_of(items: usize) -> usize
     requires { ⌜ items ≤ 12 ⌝ }
@@ -19,7 +22,7 @@ pub(crate) fn keys_of(items: usize) -> u64
     let mut power = 1;
     let mut i = 0;
     while i < items {
-        power = power * 33;
+        power = power * KEY_BASE;
         i += 1;
     }
     power

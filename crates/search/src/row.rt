@@ -10,7 +10,7 @@ ghost use Rattle.search.specs.RowWords.{Relaxed};
 ghost use Rattle.search.specs.Words.{noCost};
 
 // From an item's levels to the next one's.
-const STRIDE: usize = 8;
+pub(crate) const STRIDE: usize = 8;
 
 // One entry of a row for each load up to the largest capacity.
 pub(crate) const ENTRIES: usize = 4097;

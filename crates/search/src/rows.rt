@@ -1,5 +1,6 @@
 // The rows of all sets of items: each set's least value on one core.
 use crate::front::store_each;
+use crate::powers::KEY_BASE;
 use crate::row::Core;
 use crate::row::ENTRIES;
 use crate::row::Front;
@@ -15,9 +16,6 @@ ghost use Rattle.search.specs.Offered.{itemsOf, mostCost};
 ghost use Rattle.search.specs.Rows.{keyBase, row};
 ghost use Rattle.search.specs.Sets.{Tabled};
 ghost use Rattle.search.specs.TabledRows.{RowsFit};
-
-// What one place more in a key is worth.
-const KEY_BASE: u64 = 33;
 
 // With so few items ahead a row is computed for none of them: their sets are few, and each needs only few entries of the
 // row at hand.
@@ -137,7 +135,7 @@ pub(crate) fn fill_rows(
         digit: 1,
         index: 0,
     };
-    // No item costs 0, with key 0.
+    // The set of no item costs nothing, and has key 0.
     let empty = [0u64; ENTRIES];
     fill(core, all, load, cost, &empty, &empty, costs, keys);
 }

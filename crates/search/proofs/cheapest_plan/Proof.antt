@@ -49,7 +49,7 @@ returns-2 c =
     )
 
 least-plan-requires : tie.Need-least-plan-requires
-least-plan-requires c κs = (now (c .before .before .before .before .before .before .before .before .before .before .before .args .plan), limits-hold (c .before .before .before))
+least-plan-requires c κs = record { plan = _; limits = limits-hold (c .before .before .before) }
 
 same-length-3 : tie.Need-same-length-3
 same-length-3 c = search needs

@@ -13,7 +13,7 @@ slice-aggregate-fill-best-2 : tie.Need-slice-aggregate-fill-best-2
 slice-aggregate-fill-best-2 c = search needs
 
 fill-best-requires : tie.Need-fill-best-requires
-fill-best-requires c κs = best-fits (c .before .before .before .before .before .before .pre .1) refl refl
+fill-best-requires c κs = best-fits (c .before .before .before .before .before .before .pre .limits) refl refl
 
 sets-of-requires : tie.Need-sets-of-requires
 sets-of-requires c κs = search needs
@@ -27,13 +27,13 @@ slice-aggregate-least-holding-2 c = search needs
 least-holding-requires : tie.Need-least-holding-requires
 least-holding-requires c κs =
     let start = c .before .before .before .before .before .before .before .before .before .before .before .before in
-    holding-ready (start .pre .1) (c .before .before .before .before .before .fill-best .ensures (now (start .args .refusal)) (now (start .args .must)))
+    holding-ready (start .pre .limits) (c .before .before .before .before .before .fill-best .ensures (now (start .args .refusal)) (now (start .args .must)))
     (c .before .before .sets-of .ensures)
 
 returns : tie.Need-returns
 returns c =
     let start = c .before .before .before .before .before .before .before .before .before .before .before .before .before in
-    chosen-is (start .pre .1) (c .before .before .before .before .before .before .fill-best .ensures (now (start .args .refusal)) (now (start .args .must))) _ _
+    chosen-is (start .pre .limits) (c .before .before .before .before .before .before .fill-best .ensures (now (start .args .refusal)) (now (start .args .must))) _ _
     (c .least-holding .ensures (start .args .shape .items) (c .before .before .before .sets-of .ensures))
 
 pub least-plan-spec : {M : Type 1} → statement M
