@@ -1,16 +1,19 @@
--- The search finds the best plan, and there is no other.
+-- The search finds the best plan, and the cheapest way to keep exactly a given set.
 use Prim.Native.Nat.{ℕ, _*_, _<_}
 use mathlib.Core.Path.{_≡_, sym}
 use mathlib.Core.Logic.{inl, inr}
+use mathlib.Core.Bool.{Bool}
 use mathlib.Core.List.{List}
 use native.Mathlib.Omega.{arith}
 use lib.ListN.{length}
 use Rattle.search.specs.Assignment.{Options, totalCost, Allowed, Before, differs, agrees, NoWorse, Best}
 use Rattle.search.specs.Values.{Value, none, pair}
 use Rattle.search.specs.Rows.{keyBase}
+use Rattle.search.specs.Partition.{bestOf}
+use Rattle.search.specs.PartitionLaws.{bestOf-least}
 use Rattle.search.specs.Choice.{chosen, digits}
 use Rattle.search.specs.ChoiceLaws.{kept-set, chosen-least}
-use Rattle.search.specs.Keeping.{planWorth}
+use Rattle.search.specs.Keeping.{RunsSet, keptCost, keptWorth, planWorth}
 use Rattle.search.specs.KeyLaws.{InBase, keeps-in-base}
 use Rattle.search.specs.Cheapest.{Answers, least-answers}
 
@@ -34,6 +37,15 @@ search-finds-best o some-core small =
     go : (v : Value) → Answers (o .items) (Allowed o) (totalCost (o .levels) (o .items)) v → BestAnswers o v
     go none answer = answer
     go (pair cost key) (first, costs) = (record { allowed = first .has; no-worse = first .no-worse }, costs)
+
+-- The same of the plans that keep exactly the items of a set and fit all cores: their costs are without refusals. The search
+-- fills its table with these values, one for every set.
+pub search-finds-set : (o : Options) → 0 < o .cores → o .cores * o .levels < keyBase → (S : List Bool) →
+    Answers (o .items) (RunsSet o S) (keptCost (o .levels) (o .items)) (bestOf o S)
+unfolding keptWorth
+search-finds-set o some-core small S =
+    least-answers (o .items) (RunsSet o S) (keptCost (o .levels) (o .items))
+    (λ plan runs. keeps-in-base small (runs .keeps)) (bestOf o S) (bestOf-least o some-core S)
 
 before-asym : {plan other : List ℕ} → Before plan other → ¬ (Before other plan)
 before-asym (differs h) (differs k) = omega arith
