@@ -34,8 +34,8 @@ extern "C" {
 /* Four cores of 4,096 slots: a table buffer of this length is never too short. */
 #define TOWHEPAMU_MOST_TABLE_BYTES (4 * 4096)
 
-/* The stack that a call must find free, in bytes. Measured: planning 1,130,351 for twelve tasks and
-   405,040 for one, checking 12,104 (tests/desk/test_stack.c). */
+/* The stack that a call must find free, in bytes. Measured: planning 934,912, checking 9,912
+   (tests/desk/test_stack.c, which fails where a call takes more than is promised). */
 #define TOWHEPAMU_STACK_BYTES (1536 * 1024)
 
 /* Why a call was refused, and what `place` then says. */
