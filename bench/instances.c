@@ -19,9 +19,12 @@ static void use_xscale(reference_instance *in) {
         in->level[l] = xscale[l];
 }
 
-/* Eight speeds in even steps, the top one `ratio` times the lowest; power grows with their cube. */
-static void use_eight_levels(reference_instance *in, uint32_t ratio) {
-    uint64_t top = 8000, lowest = top / ratio;
+/*
+ * Eight speeds in even steps up to 8,000, and the power that section 4 of document 000 gives for
+ * ideal processors, 0.08 + 1.52 s^3, in units of 5 mW; those of XScale are in units of 10 mW.
+ */
+static void use_eight_levels(reference_instance *in, uint64_t lowest) {
+    uint64_t top = 8000;
     in->levels = 8;
     for (size_t l = 0; l < 8; l++) {
         uint64_t speed = lowest + (top - lowest) * l / 7;
@@ -89,7 +92,7 @@ static void draw_equal(generator *g, reference_instance *in, uint32_t least, uin
 static void draw_hard_middle(generator *g, reference_instance *in, uint32_t musts,
                              uint32_t unused) {
     (void)unused;
-    use_eight_levels(in, between(g, 2, 8));
+    use_eight_levels(in, 8000 / between(g, 2, 8));
     draw_loads(g, in, in->span / 40, in->span / 5);
     if (musts == 0)
         draw_penalties(g, in, 300, 1000);
@@ -114,17 +117,19 @@ static void draw_musts(generator *g, reference_instance *in, uint32_t more_ticks
 
 /*
  * After section 4 of document 000: a task has 1 to 20 jobs; its share of the cycles, which add up
- * to all cores at top speed, is drawn; so is its share of the penalties, three times as much.
+ * to all cores at top speed, is drawn; so is its share of the penalties, three times as much. The
+ * lowest speed is 0.15 of the top one; energy weighs 0.2, penalties 0.8.
  */
 enum mix { PROPORTIONAL, INVERSE, INDEPENDENT };
 
 static void draw_mix(generator *g, reference_instance *in, uint32_t mix, uint32_t cores) {
     static const uint32_t jobs[] = {1, 2, 3, 4, 5, 6, 7, 8, 9, 10, 12, 14, 15, 18, 20};
     uint64_t work[MOST_TASKS], worth[MOST_TASKS], all_work = 0, all_worth = 0;
-    use_xscale(in);
+    if (in->levels == 8)
+        use_eight_levels(in, 1200);
     in->cores = cores;
     in->span = 2520;
-    in->energy_weight = 2;
+    in->energy_weight = in->levels == 8 ? 1 : 2;
     in->penalty_weight = 8;
     for (size_t i = 0; i < in->tasks; i++) {
         work[i] = draw_between(g, 1, 1000);
@@ -136,8 +141,9 @@ static void draw_mix(generator *g, reference_instance *in, uint32_t mix, uint32_
     }
     for (size_t i = 0; i < in->tasks; i++) {
         uint32_t period = in->span / jobs[i == 0 ? 0 : draw(g, sizeof jobs / sizeof jobs[0])];
+        uint64_t cycles = (uint64_t)cores * period * top_level(in)->speed;
         in->task[i].period = period;
-        in->task[i].cycles = clamp(cores * period * 1000 * work[i] / all_work, 100000000);
+        in->task[i].cycles = clamp(cycles * work[i] / all_work, 100000000);
         in->task[i].penalty = clamp(3 * cores * period * 100 * worth[i] / all_worth, 1000000);
     }
 }
@@ -145,29 +151,34 @@ static void draw_mix(generator *g, reference_instance *in, uint32_t mix, uint32_
 static const struct {
     const char *name;
     void (*draw)(generator *, reference_instance *, uint32_t, uint32_t);
-    uint32_t first, second;
-} family_list[] = {
-    {"most sets fit one core", draw_span_filled, 250, 400},
-    {"some sets fit one core", draw_span_filled, 500, 900},
-    {"few sets fit one core", draw_span_filled, 1000, 2000},
-    {"2 tasks", draw_sized, 2, 0},
-    {"4 tasks", draw_sized, 4, 0},
-    {"8 tasks", draw_sized, 8, 0},
-    {"10 tasks", draw_sized, 10, 0},
-    {"12 tasks", draw_sized, 12, 0},
-    {"mix, proportional", draw_mix, PROPORTIONAL, 4},
-    {"mix, inverse", draw_mix, INVERSE, 4},
-    {"mix, independent", draw_mix, INDEPENDENT, 4},
-    {"mix, independent, 2 cores", draw_mix, INDEPENDENT, 2},
-    {"musts that just fit", draw_musts, 0, 0},
-    {"musts that just do not", draw_musts, 4, 0},
-    {"light, all on one core", draw_light, 10, 60},
-    {"twelve equal tasks", draw_equal, 700, 1300},
-    {"hard middle", draw_hard_middle, 0, 0},
-    {"hard middle, musts", draw_hard_middle, 1, 0},
+    uint32_t levels, first, second;
+} family_list[FAMILIES] = {
+    {"most sets fit one core", draw_span_filled, 8, 250, 400},
+    {"some sets fit one core", draw_span_filled, 8, 500, 900},
+    {"few sets fit one core", draw_span_filled, 8, 1000, 2000},
+    {"2 tasks", draw_sized, 8, 2, 0},
+    {"4 tasks", draw_sized, 8, 4, 0},
+    {"8 tasks", draw_sized, 8, 8, 0},
+    {"10 tasks", draw_sized, 8, 10, 0},
+    {"12 tasks", draw_sized, 8, 12, 0},
+    {"mix, proportional, 5 levels", draw_mix, 5, PROPORTIONAL, 4},
+    {"mix, proportional, 8 levels", draw_mix, 8, PROPORTIONAL, 4},
+    {"mix, inverse, 5 levels", draw_mix, 5, INVERSE, 4},
+    {"mix, inverse, 8 levels", draw_mix, 8, INVERSE, 4},
+    {"mix, independent, 5 levels", draw_mix, 5, INDEPENDENT, 4},
+    {"mix, independent, 8 levels", draw_mix, 8, INDEPENDENT, 4},
+    {"mix, independent, 5 levels, 2 cores", draw_mix, 5, INDEPENDENT, 2},
+    {"musts that just fit, 5 levels", draw_musts, 5, 0, 0},
+    {"musts that just fit, 8 levels", draw_musts, 8, 0, 0},
+    {"musts that just do not, 5 levels", draw_musts, 5, 4, 0},
+    {"musts that just do not, 8 levels", draw_musts, 8, 4, 0},
+    {"light, 5 levels", draw_light, 5, 10, 48},
+    {"light, 8 levels", draw_light, 8, 10, 60},
+    {"twelve equal tasks, 5 levels", draw_equal, 5, 700, 1300},
+    {"twelve equal tasks, 8 levels", draw_equal, 8, 700, 1300},
+    {"hard middle", draw_hard_middle, 8, 0, 0},
+    {"hard middle, musts", draw_hard_middle, 8, 1, 0},
 };
-
-const size_t families = sizeof family_list / sizeof family_list[0];
 
 const char *family_name(size_t family) {
     return family_list[family].name;
@@ -177,7 +188,10 @@ size_t write_instance(size_t family, size_t number, uint8_t *text) {
     generator g = {UINT64_C(0x9E3779B97F4A7C15) * (1 + 1000 * family + number)};
     reference_instance in = {1, 1, 4, 0, 12, 4096, {{0, 0}}, {{0, 0, 0}}};
     uint32_t words[MOST_INSTANCE_WORDS];
-    use_eight_levels(&in, 4);
+    if (family_list[family].levels == 5)
+        use_xscale(&in);
+    else
+        use_eight_levels(&in, 2000);
     family_list[family].draw(&g, &in, family_list[family].first, family_list[family].second);
     size_t count = list_words(&in, words);
     return write_text(&g, words, count, false, text);

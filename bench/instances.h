@@ -5,11 +5,11 @@
 #include <stddef.h>
 #include <stdint.h>
 
-extern const size_t families;
+enum { FAMILIES = 25, SITES_A_FAMILY = 12 };
 
 const char *family_name(size_t family);
 
-/* Writes the site file of one instance, of any number, of a family; returns its length. */
+/* Writes the site file of one instance of a family; returns its length. */
 size_t write_instance(size_t family, size_t number, uint8_t *text);
 
 #endif

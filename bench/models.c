@@ -1,29 +1,23 @@
 /*
- * Writes sites as models for integer solvers, and what planning answers for them.
+ * Writes the sites of the benchmark, as site files and as models for integer solvers.
  *
  *   models FOLDER
  *
- * One site of each of ten families: FOLDER/n.lp (CPLEX format) and FOLDER/n.opb
- * (pseudo-Boolean); and a line on standard output: n, cost or `none`, planning's microseconds,
- * name.
+ * FOLDER/f-n.site, FOLDER/f-n.lp (CPLEX format) and FOLDER/f-n.opb (pseudo-Boolean) for site n of
+ * family f, both from 0; and a line for each family on standard output: f, how many sites, name.
  *
  * The model: x_i_c_l is 1 where task i runs on core c at level l, r_i where it is refused; exactly
  * one of a task's is 1; a core's loads add up to at most the span. Cores are equal, so task i is
  * offered the first i cores alone: every plan can be renumbered so, at the same cost.
  */
-#define _POSIX_C_SOURCE 200809L
 #include "instances.h"
 #include "timed.h"
 #include <inttypes.h>
 #include <stdio.h>
 #include <stdlib.h>
-#include <time.h>
 
-enum { REPETITIONS = 5 };
-
-/* The three loads, the five sizes, and must-tasks that just fit and just do not. */
-static const size_t modelled[] = {0, 1, 2, 3, 4, 5, 6, 7, 12, 13};
-
+static uint8_t text[TOWHEPAMU_MOST_TEXT_BYTES];
+static size_t text_len;
 static reference_instance in;
 static timed_options options;
 
@@ -120,10 +114,14 @@ static void print_opb(FILE *file) {
     }
 }
 
-static void write_model(const char *folder, size_t number, const char *ending,
-                        void (*print)(FILE *)) {
+static void print_site(FILE *file) {
+    fwrite(text, 1, text_len, file);
+}
+
+static void write_file(const char *folder, size_t family, size_t number, const char *ending,
+                       void (*print)(FILE *)) {
     char name[4096];
-    snprintf(name, sizeof name, "%s/%zu.%s", folder, number, ending);
+    snprintf(name, sizeof name, "%s/%zu-%zu.%s", folder, family, number, ending);
     FILE *file = fopen(name, "w");
     if (file == NULL) {
         perror(name);
@@ -133,44 +131,22 @@ static void write_model(const char *folder, size_t number, const char *ending,
     fclose(file);
 }
 
-static double now(void) {
-    struct timespec t;
-    clock_gettime(CLOCK_PROCESS_CPUTIME_ID, &t);
-    return (double)t.tv_sec * 1e6 + (double)t.tv_nsec / 1e3;
-}
-
-static int by_size(const void *a, const void *b) {
-    double x = *(const double *)a, y = *(const double *)b;
-    return (x > y) - (x < y);
-}
-
 int main(int argc, char **argv) {
     if (argc != 2)
         return 2;
-    for (size_t n = 0; n < sizeof modelled / sizeof modelled[0]; n++) {
-        size_t family = modelled[n];
-        uint8_t text[TOWHEPAMU_MOST_TEXT_BYTES], plan[MOST_TASKS];
-        static uint8_t table[TOWHEPAMU_MOST_TABLE_BYTES];
-        uint32_t words[MOST_WORDS];
-        size_t count = 0, len = write_instance(family, 0, text);
-        double times[REPETITIONS];
-        reference_words(text, len, words, MOST_WORDS, &count);
-        reference_read(words, count, &in);
-        list_timed_options(&in, &options);
-        write_model(argv[1], family, "lp", print_lp);
-        write_model(argv[1], family, "opb", print_opb);
-        towhepamu_planned answer = {0, 0, 0, 0, 0};
-        for (size_t r = 0; r < REPETITIONS; r++) {
-            double start = now();
-            answer = towhepamu_plan(text, len, plan, MOST_TASKS, table, sizeof table);
-            times[r] = now() - start;
+    for (size_t family = 0; family < FAMILIES; family++) {
+        for (size_t number = 0; number < SITES_A_FAMILY; number++) {
+            uint32_t words[MOST_WORDS];
+            size_t count = 0;
+            text_len = write_instance(family, number, text);
+            reference_words(text, text_len, words, MOST_WORDS, &count);
+            reference_read(words, count, &in);
+            list_timed_options(&in, &options);
+            write_file(argv[1], family, number, "site", print_site);
+            write_file(argv[1], family, number, "lp", print_lp);
+            write_file(argv[1], family, number, "opb", print_opb);
         }
-        qsort(times, REPETITIONS, sizeof *times, by_size);
-        if (answer.refusal == TOWHEPAMU_ACCEPTED)
-            printf("%zu %" PRIu64 " %.0f %s\n", family, answer.cost, times[REPETITIONS / 2],
-                   family_name(family));
-        else
-            printf("%zu none %.0f %s\n", family, times[REPETITIONS / 2], family_name(family));
+        printf("%zu %d %s\n", family, SITES_A_FAMILY, family_name(family));
     }
     return 0;
 }

@@ -1,4 +1,4 @@
-/* Calls of the proved code that the archive has no entry for: tabling, and the search by itself. */
+/* The implementations that are timed side by side. */
 #ifndef TIMED_H
 #define TIMED_H
 
@@ -14,12 +14,23 @@ typedef struct {
 
 void list_timed_options(const reference_instance *in, timed_options *options);
 
-/* The cost of the cheapest plan, from NO_REFUSAL on where there is none; UINT64_MAX where the
-   search refuses what it is offered. */
-uint64_t search_options(const reference_instance *in, const timed_options *options, uint32_t *plan);
+typedef towhepamu_planned plan_entry(const uint8_t *text, size_t text_len, uint8_t *plan,
+                                     size_t plan_len, uint8_t *table, size_t table_len);
+typedef towhepamu_checked check_entry(const uint8_t *text, size_t text_len, const uint8_t *plan,
+                                      size_t plan_len, const uint8_t *table, size_t table_len);
+typedef uint64_t tabulate_entry(const uint32_t *words, size_t word_count, const uint32_t *choices,
+                                size_t choice_count, uint8_t *table, size_t table_len);
 
-/* In the archive that bench/run makes. 0 where the table was written. */
-uint64_t timed_tabulate(const uint32_t *words, size_t word_count, const uint32_t *plan,
-                        size_t plan_len, uint8_t *table, size_t table_len);
+typedef struct {
+    plan_entry *plan;
+    check_entry *check;
+    /* The search by itself; false where there is no plan. */
+    bool (*search)(const reference_instance *in, const timed_options *options, uint32_t *plan);
+    tabulate_entry *tabulate;
+} implementation;
+
+/* BEFORE has null pointers where bench/run was given no older archives. */
+enum { BEFORE, NOW, PLAIN, IMPLEMENTATIONS };
+extern const implementation implementations[IMPLEMENTATIONS];
 
 #endif
