@@ -1,6 +1,6 @@
 -- Which plans may be given, from the fields of the struct that holds the problem, test by test as the code makes them.
 use Prim.Native.Nat.{ℕ, _*_, _<_, _≤_}
-use mathlib.Core.Bool.{Bool, true, false, not}
+use mathlib.Core.Bool.{Bool, true, false, not, _||_}
 use mathlib.Core.List.{List}
 use mathlib.Core.Path.{_≡_, refl, ap, ap₂, _∙_}
 use native.Mathlib.Omega.{arith}
@@ -22,6 +22,10 @@ above-is-not-at-most a b = go (leb b a) refl
     go true t = le-ltb a b (leb-true b a t)
     go false t = lt-ltb a b (leb-false b a t)
 
+or-nothing : (a : Bool) → a ≡ a || false
+or-nothing true = refl
+or-nothing false = refl
+
 module _ (inst : Instance) (s : Sound inst) where
   pub held-cores : inst .cores ≡ problemIn inst .cores
   unfolding problemIn
@@ -30,14 +34,8 @@ module _ (inst : Instance) (s : Sound inst) where
   pub cores-at-most : inst .cores ≤ mostCores
   cores-at-most = omega (arith, held-cores, s .valid .cores .at-most)
 
-  held-most-choice : inst .cores * inst .levelcount ≡ mostChoice (problemIn inst)
+  pub held-most-choice : inst .cores * inst .levelcount ≡ mostChoice (problemIn inst)
   held-most-choice = ap₂ (λ (m h : ℕ). m * h) held-cores (held-levelcount inst s)
-
-  pub choice-above-most-is-bad : (plan : List ℕ) (i : ℕ) → inst .cores * inst .levelcount < choiceAt plan i →
-      true ≡ badChoice (problemIn inst) plan i
-  unfolding badChoice
-  choice-above-most-is-bad plan i above =
-      rw (lt-ltb (mostChoice (problemIn inst)) (choiceAt plan i) (omega (arith, held-most-choice))) refl
 
   pub refused-is-bad-if-must : (plan : List ℕ) (i : ℕ) → i < taskCount (problemIn inst) → choiceAt plan i ≡ 0 →
       eqb (getD (inst .tasks) i noTask .penalty) mayNotBeRefused ≡ badChoice (problemIn inst) plan i
@@ -46,14 +44,11 @@ module _ (inst : Instance) (s : Sound inst) where
       rw (le-ltb (mostChoice (problemIn inst)) (choiceAt plan i) (omega arith), eq-eqb (choiceAt plan i) 0 none)
       (ap (λ (t : Task). eqb (t .penalty) mayNotBeRefused) (held-task inst s i h))
 
-  pub kept-within-most-is-good : (plan : List ℕ) (i : ℕ) → choiceAt plan i ≤ inst .cores * inst .levelcount →
-      (choiceAt plan i ≡ 0 → ⊥) → false ≡ badChoice (problemIn inst) plan i
+  pub kept-is-bad-above-most : (plan : List ℕ) (i : ℕ) → (choiceAt plan i ≡ 0 → ⊥) →
+      ltb (mostChoice (problemIn inst)) (choiceAt plan i) ≡ badChoice (problemIn inst) plan i
   unfolding badChoice
-  kept-within-most-is-good plan i within kept =
-      rw (
-        le-ltb (mostChoice (problemIn inst)) (choiceAt plan i) (omega (arith, held-most-choice)),
-        ne-eqb (choiceAt plan i) 0 kept,
-      ) refl
+  kept-is-bad-above-most plan i kept =
+      rw (ne-eqb (choiceAt plan i) 0 kept) (or-nothing (ltb (mostChoice (problemIn inst)) (choiceAt plan i)))
 
   pub load-above-span-does-not-fit : (plan : List ℕ) (k load : ℕ) → load ≡ coreLoad (problemIn inst) plan k →
       ltb (inst .span) load ≡ not (fits (problemIn inst) plan k)

@@ -52,22 +52,22 @@ module _ (p : Problem) (plan table : List ℕ) (w : ℕ) (wide : w ≡ span p) (
   unfolding straySlot
   row-slot t l = rw (← wide, digits-div k l, getD-part table (k * w) w t 0 l) refl
 
-  module _ (none-before : (x : ℕ) → x < k * w → straySlot p plan table x ≡ false) (t : ℕ)
-      (found : let row = take ((k * w + w) - k * w) (drop (k * w) table) in
-      t ≡ first (λ t. strayValue p plan k (getD row t 0)) (length row)) where
-    in-its-part : t ≡ first (λ t. straySlot p plan table (k * w + t)) w
-    in-its-part =
-        found
-        ∙ rw (length-part table (k * w) w (row-within-table p w (length table) k wide (le-of-eq (sym size)) h))
-        (first-same _ (λ t. straySlot p plan table (k * w + t)) w row-slot)
+  pub in-its-row : (t : ℕ) → let row = take ((k * w + w) - k * w) (drop (k * w) table) in
+      t ≡ first (λ t. strayValue p plan k (getD row t 0)) (length row) → t ≡ first (λ t. straySlot p plan table (k * w + t)) w
+  in-its-row t found =
+      found
+      ∙ rw (length-part table (k * w) w (row-within-table p w (length table) k wide (le-of-eq (sym size)) h))
+      (first-same _ (λ t. straySlot p plan table (k * w + t)) w row-slot)
 
+  module _ (none-before : (x : ℕ) → x < k * w → straySlot p plan table x ≡ false) (t : ℕ)
+      (found : t ≡ first (λ t. straySlot p plan table (k * w + t)) w) where
     pub stray-in-row-is-first-stray : t < w → k * w + t ≡ first (straySlot p plan table) (tableSize p)
     stray-in-row-is-first-stray l =
-        rw (← wide, first-in-part (straySlot p plan table) w k none-before (p .cores) h (rw in-its-part at l))
-        (ap (λ (t : ℕ). k * w + t) in-its-part)
+        rw (← wide, first-in-part (straySlot p plan table) w k none-before (p .cores) h (rw found at l))
+        (ap (λ (t : ℕ). k * w + t) found)
 
     pub no-stray-after-row : w ≤ t → (x : ℕ) → x < (k + 1) * w → straySlot p plan table x ≡ false
-    no-stray-after-row past = none-after-part (straySlot p plan table) w k none-before (rw in-its-part at past)
+    no-stray-after-row past = none-after-part (straySlot p plan table) w k none-before (rw found at past)
 
 pub table-size-at-most : (p : Problem) → Valid p → tableSize p ≤ mostCores * mostSpan
 table-size-at-most p v = mul-le-mul (v .cores .at-most) (v .span-at-most)

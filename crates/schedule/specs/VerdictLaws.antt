@@ -3,7 +3,7 @@ use Prim.Native.Nat.{ℕ, min, _<_, _≤_}
 use mathlib.Core.Bool.{Bool, true, false, cond}
 use mathlib.Core.Logic.{_↔_}
 use mathlib.Core.Path.{_≡_, refl, sym}
-use native.Mathlib.Nat.{le-of-eq, min-eq-left, min-eq-right}
+use native.Mathlib.Nat.{le-of-eq, min-eq-right}
 use native.Mathlib.Omega.{arith}
 use lib.Dec.{ltb, eqb}
 use borrow.Author.Tests.{ltb-false, lt-ltb, le-ltb, eqb-true, eq-eqb, ne-eqb}
@@ -52,11 +52,11 @@ module _ (refusal : ℕ → Refusal) (n m : ℕ) (wanted : m ≡ n) where
     none-found-passes past = rw (← found, ← wanted, le-ltb x m past) refl
 
   module _ (a : ℕ) (next : Verdict) where
-    pub shorter-is-refused : a < m → Refused (refusal a) ≡ cond (eqb a n) next (Refused (refusal (min a n)))
-    shorter-is-refused l = rw (← wanted, ne-eqb a m (λ e. omega arith), min-eq-left {n = a} {m = m} (omega arith)) refl
+    pub other-length-is-refused : (a ≡ m → ⊥) → Refused (refusal (min a m)) ≡ cond (eqb a n) next (Refused (refusal (min a n)))
+    other-length-is-refused differs = rw (← wanted, ne-eqb a m differs) refl
 
     pub longer-is-refused : m < a → Refused (refusal m) ≡ cond (eqb a n) next (Refused (refusal (min a n)))
     longer-is-refused l = rw (← wanted, ne-eqb a m (λ e. omega arith), min-eq-right {n = m} {m = a} (omega arith)) refl
 
-    pub equal-goes-on : m ≤ a → a ≤ m → next ≡ cond (eqb a n) next (Refused (refusal (min a n)))
-    equal-goes-on enough fits = rw (← wanted, eq-eqb a m (omega arith)) refl
+    pub same-length-goes-on : a ≡ m → next ≡ cond (eqb a n) next (Refused (refusal (min a n)))
+    same-length-goes-on same = rw (← wanted, eq-eqb a m same) refl

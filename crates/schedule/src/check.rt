@@ -1,26 +1,28 @@
 // The check of a given table: the refusals 9 and 10, after 7 and without 8.
 use crate::plan::choices_pass;
+use crate::plan::smaller;
 use crate::quantities::core_of;
 use crate::quantities::is_kept_on;
 use crate::quantities::job_ticks;
-use crate::quantities::jobs_in;
+use crate::quantities::jobs_of;
+use crate::table::table_size;
 use instance::Instance;
 use instance::Refusal;
 use instance::Verdict;
 use instance::read_instance;
 ghost use mathlib.Core.Path.{_≡_};
 ghost use mathlib.Core.Bool.{not};
-ghost use Prim.Native.Nat.{_<_};
+ghost use Prim.Native.Nat.{_+_, _*_, _<_};
 ghost use lib.Dec.{eqb};
 ghost use lib.ListN.{length, getD};
 ghost use Rattle.laws.specs.Search.{first, count};
 ghost use Rattle.instance.specs.Held.{Sound, problemIn};
-ghost use Rattle.instance.specs.Node.{taskCount};
+ghost use Rattle.instance.specs.Node.{taskCount, span};
 ghost use Rattle.schedule.specs.CheckLaws.{AllowedPlan};
 ghost use Rattle.schedule.specs.Checks.{strayValue, straySlot, slotsPass, jobSlots, isServed, jobsPass, check};
 ghost use Rattle.schedule.specs.Outcomes.{checkOutcome};
-ghost use Rattle.schedule.specs.Quantities.{jobs};
-ghost use Rattle.schedule.specs.Tables.{tableSize};
+ghost use Rattle.schedule.specs.Quantities.{choiceAt, coreOf, jobs};
+ghost use Rattle.schedule.specs.Tables.{releaseOf, tableSize};
 
 // Whether a slot of core k, counted from 0, is not 0 and names no task that is kept there.
 fn is_stray(inst: Instance, plan: &[u32], k: usize, slot: u8) -> bool
@@ -52,6 +54,19 @@ fn first_stray_in_row(inst: Instance, plan: &[u32], k: usize, row: &[u8]) -> usi
     t
 }
 
+// The first stray slot of core k's row of a table, or the row's length.
+fn first_stray_of_core(inst: Instance, plan: &[u32], table: &[u8], k: usize) -> usize
+    requires { ⌜ Sound inst ⌝ }
+    requires { ⌜ length (now table) ≡ tableSize (problemIn inst) ⌝ }
+    requires { ⌜ k < problemIn inst .cores ⌝ }
+    ensures { λ r. ⌜ r ≡ first (λ t. straySlot (problemIn inst) (now (plan .entry)) (now (table .entry)) (k * inst .span + t)) (inst .span) ⌝ }
+{
+    let span = inst.span as usize;
+    let from = k * span;
+    let to = from + span;
+    first_stray_in_row(inst, plan, k, &table[from..to])
+}
+
 // The first stray slot of a table, or the table's length.
 fn first_stray(inst: Instance, plan: &[u32], table: &[u8]) -> usize
     requires { ⌜ Sound inst ⌝ }
@@ -62,33 +77,37 @@ fn first_stray(inst: Instance, plan: &[u32], table: &[u8]) -> usize
     let span = inst.span as usize;
     let mut k = 0;
     while k < cores {
-        let from = k * span;
-        let to = from + span;
-        let t = first_stray_in_row(inst, plan, k, &table[from..to]);
+        let t = first_stray_of_core(inst, plan, table, k);
         if t < span {
-            return from + t;
+            return k * span + t;
         }
         k += 1;
     }
     table.len()
 }
 
+// The test of the slots, where a table has as many as it must.
+fn slots_named(inst: Instance, plan: &[u32], table: &[u8]) -> Verdict
+    requires { ⌜ Sound inst ⌝ }
+    requires { ⌜ length (now table) ≡ tableSize (problemIn inst) ⌝ }
+    ensures { λ r. ⌜ r ≡ slotsPass (problemIn inst) (now (plan .entry)) (now (table .entry)) ⌝ }
+{
+    let x = first_stray(inst, plan, table);
+    if x < table.len() {
+        return Verdict::Refused(Refusal::GivenTable(x));
+    }
+    Verdict::Accepted
+}
+
 fn slots_pass(inst: Instance, plan: &[u32], table: &[u8]) -> Verdict
     requires { ⌜ Sound inst ⌝ }
     ensures { λ r. ⌜ r ≡ slotsPass (problemIn inst) (now (plan .entry)) (now (table .entry)) ⌝ }
 {
-    let size = inst.cores as usize * inst.span as usize;
-    if table.len() < size {
-        return Verdict::Refused(Refusal::GivenTable(table.len()));
+    let size = table_size(inst);
+    if table.len() == size {
+        return slots_named(inst, plan, table);
     }
-    if size < table.len() {
-        return Verdict::Refused(Refusal::GivenTable(size));
-    }
-    let x = first_stray(inst, plan, table);
-    if x < size {
-        return Verdict::Refused(Refusal::GivenTable(x));
-    }
-    Verdict::Accepted
+    Verdict::Refused(Refusal::GivenTable(smaller(table.len(), size)))
 }
 
 // How many slots of a part of a row hold a number.
@@ -106,6 +125,18 @@ fn slots_of(part: &[u8], number: u8) -> usize
     n
 }
 
+// The slot of a table at which job j of task i is released.
+fn release_slot(inst: Instance, plan: &[u32], i: usize, j: usize) -> usize
+    requires { ⌜ Sound inst ⌝ }
+    requires { ⌜ AllowedPlan (problemIn inst) (now plan) ⌝ }
+    requires { ⌜ i < taskCount (problemIn inst) ⌝ }
+    requires { ⌜ j < jobs (problemIn inst) i ⌝ }
+    ensures { λ r. ⌜ r ≡ coreOf (problemIn inst) (now (plan .entry)) i * span (problemIn inst) + releaseOf (problemIn inst) i j ⌝ }
+{
+    let k = core_of(plan[i], inst.levelcount);
+    k * inst.span as usize + j * inst.tasks[i].period as usize
+}
+
 // The slots that job j of task i has between its release and its due tick.
 fn job_slots(inst: Instance, plan: &[u32], table: &[u8], i: usize, j: usize) -> usize
     requires { ⌜ Sound inst ⌝ }
@@ -115,14 +146,33 @@ fn job_slots(inst: Instance, plan: &[u32], table: &[u8], i: usize, j: usize) -> 
     requires { ⌜ j < jobs (problemIn inst) i ⌝ }
     ensures { λ r. ⌜ r ≡ jobSlots (problemIn inst) (now (plan .entry)) (now (table .entry)) i j ⌝ }
 {
-    let k = core_of(plan[i], inst.levelcount);
-    let period = inst.tasks[i].period as usize;
-    let release = k * inst.span as usize + j * period;
-    let due = release + period;
+    let release = release_slot(inst, plan, i, j);
+    let due = release + inst.tasks[i].period as usize;
     slots_of(&table[release..due], i as u8 + 1)
 }
 
-// Whether every job of task i has as many slots as ticks.
+// Whether every job of task i, which is kept, has as many slots as ticks.
+fn jobs_served(inst: Instance, plan: &[u32], table: &[u8], i: usize) -> bool
+    requires { ⌜ Sound inst ⌝ }
+    requires { ⌜ AllowedPlan (problemIn inst) (now plan) ⌝ }
+    requires { ⌜ length (now table) ≡ tableSize (problemIn inst) ⌝ }
+    requires { ⌜ i < taskCount (problemIn inst) ⌝ }
+    requires { ⌜ (choiceAt (now plan) i ≡ 0 → ⊥) ⌝ }
+    ensures { λ r. ⌜ r ≡ isServed (problemIn inst) (now (plan .entry)) (now (table .entry)) i ⌝ }
+{
+    let ticks = job_ticks(inst, plan, i) as usize;
+    let jobs = jobs_of(inst, i) as usize;
+    let mut j = 0;
+    while j < jobs {
+        if job_slots(inst, plan, table, i, j) != ticks {
+            return false;
+        }
+        j += 1;
+    }
+    true
+}
+
+// Whether task i is refused, or each of its jobs has as many slots as ticks.
 fn is_served(inst: Instance, plan: &[u32], table: &[u8], i: usize) -> bool
     requires { ⌜ Sound inst ⌝ }
     requires { ⌜ AllowedPlan (problemIn inst) (now plan) ⌝ }
@@ -133,16 +183,7 @@ fn is_served(inst: Instance, plan: &[u32], table: &[u8], i: usize) -> bool
     if plan[i] == 0 {
         return true;
     }
-    let ticks = job_ticks(inst, plan, i) as usize;
-    let jobs = jobs_in(inst.span, inst.tasks[i].period) as usize;
-    let mut j = 0;
-    while j < jobs {
-        if job_slots(inst, plan, table, i, j) != ticks {
-            return false;
-        }
-        j += 1;
-    }
-    true
+    jobs_served(inst, plan, table, i)
 }
 
 // The first task that has a job with more or fewer slots than ticks, or the number of tasks.

@@ -6,12 +6,21 @@ use instance::Refusal;
 use instance::Verdict;
 ghost use mathlib.Core.Path.{_≡_};
 ghost use mathlib.Core.Bool.{not};
-ghost use Prim.Native.Nat.{_<_};
+ghost use Prim.Native.Nat.{min, _<_};
+ghost use lib.Dec.{ltb};
 ghost use lib.ListN.{length};
 ghost use Rattle.instance.specs.Held.{Sound, problemIn};
 ghost use Rattle.instance.specs.Node.{taskCount};
-ghost use Rattle.schedule.specs.Plans.{badChoice, choicesPass, fits, coresFit, planPasses};
+ghost use Rattle.schedule.specs.Plans.{mostChoice, badChoice, choicesPass, fits, coresFit, planPasses};
 ghost use Rattle.laws.specs.Search.{first};
+
+// Whether a choice is above every choice that names a core and a level.
+fn is_above_most(inst: Instance, choice: u32) -> bool
+    requires { ⌜ Sound inst ⌝ }
+    ensures { λ r. ⌜ r ≡ ltb (mostChoice (problemIn inst)) choice ⌝ }
+{
+    inst.cores as usize * inst.levelcount < choice as usize
+}
 
 fn is_bad_choice(inst: Instance, plan: &[u32], i: usize) -> bool
     requires { ⌜ Sound inst ⌝ }
@@ -20,14 +29,10 @@ fn is_bad_choice(inst: Instance, plan: &[u32], i: usize) -> bool
     ensures { λ r. ⌜ r ≡ badChoice (problemIn inst) (now (plan .entry)) i ⌝ }
 {
     let choice = plan[i];
-    let most = inst.cores as usize * inst.levelcount;
-    if most < choice as usize {
-        return true;
-    }
     if choice == 0 {
         return inst.tasks[i].penalty == MAY_NOT_BE_REFUSED;
     }
-    false
+    is_above_most(inst, choice)
 }
 
 // The first task whose choice is bad, or the number of tasks.
@@ -46,22 +51,37 @@ fn first_bad_choice(inst: Instance, plan: &[u32]) -> usize
     i
 }
 
+// The test of the choices, where there is one for each task.
+fn choices_allowed(inst: Instance, plan: &[u32]) -> Verdict
+    requires { ⌜ Sound inst ⌝ }
+    requires { ⌜ length (now plan) ≡ taskCount (problemIn inst) ⌝ }
+    ensures { λ r. ⌜ r ≡ choicesPass (problemIn inst) (now (plan .entry)) ⌝ }
+{
+    let i = first_bad_choice(inst, plan);
+    if i < inst.taskcount {
+        return Verdict::Refused(Refusal::GivenPlan(i));
+    }
+    Verdict::Accepted
+}
+
+// Of two lengths that differ a refusal names the smaller.
+pub(crate) fn smaller(a: usize, b: usize) -> usize
+    ensures { λ r. ⌜ r ≡ min a b ⌝ }
+{
+    if a < b {
+        return a;
+    }
+    b
+}
+
 pub(crate) fn choices_pass(inst: Instance, plan: &[u32]) -> Verdict
     requires { ⌜ Sound inst ⌝ }
     ensures { λ r. ⌜ r ≡ choicesPass (problemIn inst) (now (plan .entry)) ⌝ }
 {
-    let n = inst.taskcount;
-    if plan.len() < n {
-        return Verdict::Refused(Refusal::GivenPlan(plan.len()));
+    if plan.len() == inst.taskcount {
+        return choices_allowed(inst, plan);
     }
-    if n < plan.len() {
-        return Verdict::Refused(Refusal::GivenPlan(n));
-    }
-    let i = first_bad_choice(inst, plan);
-    if i < n {
-        return Verdict::Refused(Refusal::GivenPlan(i));
-    }
-    Verdict::Accepted
+    Verdict::Refused(Refusal::GivenPlan(smaller(plan.len(), inst.taskcount)))
 }
 
 fn is_overloaded(inst: Instance, plan: &[u32], k: usize) -> bool

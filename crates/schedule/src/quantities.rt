@@ -51,6 +51,15 @@ pub(crate) fn core_of(choice: u32, levels: usize) -> usize
     (choice - 1) as usize / levels
 }
 
+// The jobs of task i in a span.
+pub(crate) fn jobs_of(inst: Instance, i: usize) -> u32
+    requires { ⌜ Sound inst ⌝ }
+    requires { ⌜ i < taskCount (problemIn inst) ⌝ }
+    ensures { λ r. ⌜ r ≡ jobs (problemIn inst) i ⌝ }
+{
+    jobs_in(inst.span, inst.tasks[i].period)
+}
+
 // The ticks of a job of task i at the level that its choice names.
 pub(crate) fn job_ticks(inst: Instance, plan: &[u32], i: usize) -> u32
     requires { ⌜ Sound inst ⌝ }
@@ -95,8 +104,7 @@ pub(crate) fn load_on(inst: Instance, plan: &[u32], k: usize, i: usize) -> u64
     requires { ⌜ i < length (now plan) ⌝ }
     ensures { λ r. ⌜ r ≡ loadOn (problemIn inst) (now (plan .entry)) k i ⌝ }
 {
-    let jobs = jobs_in(inst.span, inst.tasks[i].period);
-    jobs as u64 * ticks_on(inst, plan, k, i) as u64
+    jobs_of(inst, i) as u64 * ticks_on(inst, plan, k, i) as u64
 }
 
 pub(crate) fn core_load(inst: Instance, plan: &[u32], k: usize) -> u64

@@ -65,6 +65,14 @@ fn core_tasks(inst: Instance, plan: &[u32], k: usize) -> Core
     }
 }
 
+// The slots of a table.
+pub(crate) fn table_size(inst: Instance) -> usize
+    requires { ⌜ Sound inst ⌝ }
+    ensures { λ r. ⌜ r ≡ tableSize (problemIn inst) ⌝ }
+{
+    inst.cores as usize * inst.span as usize
+}
+
 // Writes the rows of all cores, one after another, to the front of the table.
 fn fill_table(inst: Instance, plan: &[u32], table: &mut [u8])
     requires { ⌜ Sound inst ⌝ }
@@ -90,7 +98,7 @@ fn tabulate_read(inst: Instance, plan: &[u32], table: &mut [u8]) -> Verdict
     ensures { λ r. ⌜ r ≡ tableOutcomeOf (accepted (problemIn inst)) (now (plan .entry)) (now (table .entry)) .answer ⌝ }
     ensures { λ _. ⌜ now (table .exit) ≡ tableOutcomeOf (accepted (problemIn inst)) (now (plan .entry)) (now (table .entry)) .table ⌝ }
 {
-    let size = inst.cores as usize * inst.span as usize;
+    let size = table_size(inst);
     if table.len() < size {
         return Verdict::Refused(Refusal::ShortBuffer(size));
     }

@@ -26,10 +26,8 @@ all-cores : (c : tie.After-loop Inv-loop μ-loop) → c .before .loop .k ≡ pro
 unfolding problemIn
 all-cores c = omega arith
 
-row-fits : (c : tie.In-loop Inv-loop μ-loop) →
-    let start = c .before .before .before .before .before .before in
-    let inst = start .args .inst in
-    c .before .loop .k * inst .span + inst .span ≤ length (start .args .table .now)
+row-fits : (c : tie.In-loop Inv-loop μ-loop) → let start = c .before .before .before .before .before .before in
+    c .before .loop .k * start .args .inst .span + start .args .inst .span ≤ length (start .args .table .now)
 row-fits c = let start = c .before .before .before .before .before .before in
     row-within-table _ _ _ _ (held-span _ (start .pre .0)) (le-of-eq (sym (start .pre .1))) (core-below c)
 
@@ -42,32 +40,19 @@ cast-span c = search needs
 loop-holds : tie.Need-loop-holds Inv-loop μ-loop
 loop-holds c = (search needs, λ x l. absurd (omega arith))
 
-mul-from : tie.Need-mul-from Inv-loop μ-loop
-mul-from c = omega (arith, row-fits c)
+first-stray-of-core-requires : tie.Need-first-stray-of-core-requires Inv-loop μ-loop
+first-stray-of-core-requires c κs = let start = c .before .before .before .before .before .before in (start .pre .0, (start .pre .1, core-below c))
 
-add-to : tie.Need-add-to Inv-loop μ-loop
-add-to c = omega (arith, row-fits c)
-
-sub-first-stray-in-row : tie.Need-sub-first-stray-in-row Inv-loop μ-loop
-sub-first-stray-in-row c = omega arith
-
-part-first-stray-in-row-start : tie.Need-part-first-stray-in-row-start Inv-loop μ-loop
-part-first-stray-in-row-start c = omega arith
-
-part-first-stray-in-row-end : tie.Need-part-first-stray-in-row-end Inv-loop μ-loop
-part-first-stray-in-row-end c = row-fits c
-
-first-stray-in-row-requires : tie.Need-first-stray-in-row-requires Inv-loop μ-loop
-first-stray-in-row-requires c κs = search needs
+mul-result : tie.Need-mul-result Inv-loop μ-loop
+mul-result c = omega (arith, row-fits (c .before .before))
 
 add-result : tie.Need-add-result Inv-loop μ-loop
-add-result c = omega (arith, row-fits (c .before .before .before))
+add-result c = omega (arith, row-fits (c .before .before))
 
 returns : tie.Need-returns Inv-loop μ-loop
-returns c = let start = c .before .before .before .before .before .before .before .before .before in
-    let wide = held-span _ (start .pre .0) in
-    let none-before = c .before .before .before .before .loop .inv .1 in
-    stray-in-row-is-first-stray _ _ _ _ wide (start .pre .1) _ (core-below (c .before .before .before)) none-before _ (c .before .first-stray-in-row .ensures) (c .if1 .taken)
+returns c = let start = c .before .before .before .before .before .before .before .before in
+    stray-in-row-is-first-stray _ _ _ _ (held-span _ (start .pre .0)) (start .pre .1) _ (core-below (c .before .before)) (c .before .before .before .loop .inv .1) _
+    (c .before .first-stray-of-core .ensures) (c .if1 .taken)
 
 add-k : tie.Need-add-k Inv-loop μ-loop
 add-k c = search needs
@@ -76,10 +61,11 @@ loop-less : tie.Need-loop-less Inv-loop μ-loop
 loop-less c = search needs
 
 loop-again : tie.Need-loop-again Inv-loop μ-loop
-loop-again c = let start = c .before .before .before .before .before .before .before .before .before in
-    let wide = held-span _ (start .pre .0) in
-    let none-before = c .before .before .before .before .loop .inv .1 in
-    (search needs, no-stray-after-row _ _ _ _ wide (start .pre .1) _ (core-below (c .before .before .before)) none-before _ (c .before .first-stray-in-row .ensures) (c .if1 .left))
+loop-again c = let start = c .before .before .before .before .before .before .before .before in (
+  search needs,
+  no-stray-after-row _ _ _ _ (held-span _ (start .pre .0)) (start .pre .1) _ (core-below (c .before .before)) (c .before .before .before .loop .inv .1) _
+      (c .before .first-stray-of-core .ensures) (c .if1 .left),
+)
 
 returns-2 : tie.Need-returns-2 Inv-loop μ-loop
 returns-2 c = let start = c .before .before .before .before .before .before in
@@ -94,12 +80,8 @@ first-stray-spec =
     cast-cores
     cast-span
     loop-holds
-    mul-from
-    add-to
-    sub-first-stray-in-row
-    part-first-stray-in-row-start
-    part-first-stray-in-row-end
-    first-stray-in-row-requires
+    first-stray-of-core-requires
+    mul-result
     add-result
     returns
     add-k

@@ -1,34 +1,25 @@
+use borrow.Author.Needs.{needs}
 use Prim.Native.Nat.{_≤_}
 use mathlib.Core.Path.{sym, _∙_}
 use native.Mathlib.Omega.{arith}
 use lib.ListN.{length}
-use borrow.Author.Needs.{needs}
 use Rattle.instance.specs.Held.{problemIn}
-use Rattle.schedule.specs.HeldSlots.{held-table-size, table-size-at-most}
 use Rattle.schedule.specs.OutcomeLaws.{short-buffer-is-refused, plan-is-refused, table-is-written}
 use Rattle.schedule.specs.PlanLaws.{passing-plan}
 use Rattle.schedule.specs.Tables.{tableSize}
 use Rattle.schedule.proofs.table.tabulate_read.Statement.{statement}
 use Rattle.schedule.proofs.table.tabulate_read.Tie as tie
 
-cast-size : tie.Need-cast-size
-cast-size c = search needs
-
-cast-size-2 : tie.Need-cast-size-2
-cast-size-2 c = search needs
-
-mul-size : tie.Need-mul-size
-mul-size c = let s = c .before .before .before .before .pre in
-    omega (arith, held-table-size _ s, table-size-at-most _ (s .valid))
+table-size-requires : tie.Need-table-size-requires
+table-size-requires c κs = search needs
 
 returns : tie.Need-returns
-returns c = let given = short-buffer-is-refused _ _ _ _ (held-table-size _ (c .before .before .before .before .before .pre)) (c .if1 .taken) in
+returns c = let given = short-buffer-is-refused _ _ _ _ (c .before .table-size .ensures) (c .if1 .taken) in
     (given .same-answer, given .same-table)
 
-room-left : (c : tie.Else1) →
-    let start = c .before .before .before .before .before in
+room-left : (c : tie.Else1) → let start = c .before .before .before .before in
     tableSize (problemIn (start .args .inst)) ≤ length (start .args .table .now)
-room-left c = omega (arith, held-table-size _ (c .before .before .before .before .before .pre), c .if1 .left)
+room-left c = omega (arith, c .before .table-size .ensures, c .if1 .left)
 
 plan-passes-requires : tie.Need-plan-passes-requires
 plan-passes-requires c κs = search needs
@@ -42,7 +33,7 @@ enum-told c = search needs
 fill-table-requires : tie.Need-fill-table-requires
 fill-table-requires c κs = let passes = sym (c .before .before .before .plan-passes .ensures) ∙ c .before .enum-told .given .1 in
     let plan-length = passing-plan _ _ passes .allowed .one-choice-per-task in
-    (c .before .before .before .before .before .before .before .before .before .pre, (plan-length, room-left (c .before .before .before .before)))
+    (c .before .before .before .before .before .before .before .before .pre, (plan-length, room-left (c .before .before .before .before)))
 
 returns-2 : tie.Need-returns-2
 returns-2 c = let refused = sym (c .before .before .before .plan-passes .ensures) ∙ c .before .r .given .1 in
@@ -61,9 +52,7 @@ pub tabulate-read-spec : {M : Type 1} → statement M
 tabulate-read-spec =
     tie.close
     (tie.spec
-    cast-size
-    cast-size-2
-    mul-size
+    table-size-requires
     returns
     plan-passes-requires
     enum-known-r
