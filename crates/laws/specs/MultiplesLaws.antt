@@ -1,9 +1,9 @@
 -- `lcm` is the least common multiple: above 0, a multiple of both, and a divisor of every common multiple.
-use Prim.Native.Nat.{ℕ, zero, suc, _-_, _*_, _/_, _%_, _≤_, _<_, _∣_}
+use Prim.Native.Nat.{ℕ, zero, suc, _-_, _*_, _/_, _%_, _<_, _∣_}
 use mathlib.Core.Path.{_≡_, sym, _∙_}
 use mathlib.Core.Bool.{Bool, true, true≢false}
 use mathlib.Core.Logic.{⊎-elim}
-use native.Mathlib.Nat.{dvd-mul-left, dvd-mul-right, dvd-of-mod-eq-zero, mod-eq-zero-of-dvd, dvd-mod-iff, div-mul-cancel, mod-lt, le-of-dvd, lt-of-mul-lt-mul-right, le-of-suc-le-suc, eq-or-lt-of-le}
+use native.Mathlib.Nat.{dvd-mul-left, dvd-mul-right, dvd-of-mod-eq-zero, mod-eq-zero-of-dvd, dvd-mod-iff, div-mul-cancel, mod-lt, lt-of-mul-lt-mul-right, le-of-suc-le-suc, eq-or-lt-of-le}
 use native.Mathlib.Omega.{arith}
 use borrow.Author.Tests.{eqb-true, eq-eqb}
 use Rattle.laws.specs.FirstLaws.{IsFirst, first-is-first}
@@ -63,6 +63,3 @@ module _ (a b : ℕ) (a-above : 0 < a) (b-above : 0 < b) where
       (mod-lt m (lcm-above-zero a b b-above))
       (dvd-mod-iff a (left-divides-lcm a b a-above) .1 a-divides)
       (dvd-mod-iff b (right-divides-lcm a b) .1 b-divides))
-
-  pub lcm-least : {m : ℕ} → 0 < m → a ∣ m → b ∣ m → lcm a b ≤ m
-  lcm-least m-above a-divides b-divides = le-of-dvd m-above (lcm-divides-common-multiple a-divides b-divides)

@@ -1,25 +1,21 @@
 -- What `every`, `first` and `count` tell of each number below n, and the other way.
 use Prim.Native.Nat.{ℕ, zero, suc, _≤_, _<_}
 use mathlib.Core.Bool.{Bool, true, false}
-use mathlib.Core.Logic.{_↔_, ⊎-elim}
-use mathlib.Core.Path.{_≡_, refl, sym, subst}
-use native.Mathlib.Nat.{eq-or-lt-of-le, le-of-suc-le-suc, not-suc-le-zero, le-refl}
+use mathlib.Core.Logic.{_↔_}
+use mathlib.Core.Path.{_≡_, refl}
+use native.Mathlib.Nat.{not-suc-le-zero, le-refl}
 use native.Mathlib.Omega.{arith}
+use Rattle.laws.specs.Below.{below-suc}
 use Rattle.laws.specs.FirstLaws.{first-is-first, first-unique}
 use Rattle.laws.specs.Search.{first, every, count}
 use Rattle.laws.specs.Truth.{and-is-true}
-
--- what holds below n and at n holds below suc n
-up-to-suc : (P : ℕ → Type 0) (n : ℕ) → ((k : ℕ) → k < n → P k) → P n → (k : ℕ) → k < suc n → P k
-up-to-suc P n below here k h =
-    ⊎-elim (λ e. subst P (sym e) here) (λ l. below k l) (eq-or-lt-of-le (le-of-suc-le-suc h))
 
 every-to-below : (f : ℕ → Bool) (n : ℕ) → every f n ≡ true → (k : ℕ) → k < n → f k ≡ true
 unfolding every
 every-to-below f zero e k h = absurd (not-suc-le-zero h)
 every-to-below f (suc n) e k h =
     let both = and-is-true (every f n) (f n) .0 e in
-    up-to-suc (λ m. f m ≡ true) n (every-to-below f n (both .0)) (both .1) k h
+    below-suc (λ m. f m ≡ true) n (every-to-below f n (both .0)) (both .1) k h
 
 below-to-every : (f : ℕ → Bool) (n : ℕ) → ((k : ℕ) → k < n → f k ≡ true) → every f n ≡ true
 unfolding every

@@ -21,9 +21,9 @@ use Rattle.instance.specs.SpelledLaws.{AllWords, spelled-is-read-back}
 use Rattle.instance.specs.Text.{wordsOf}
 use Rattle.instance.specs.Valid.{Valid, wordsOfProblem}
 use Rattle.instance.specs.declared.refusal.Verdict.the-variants.{Accepted}
-use Rattle.schedule.specs.CheckTheorem.{DrawnTable, check-accepts-exactly-drawings, check-accepts-exactly-drawn-tables}
+use Rattle.schedule.specs.CheckTheorem.{check-accepts-exactly-drawings, check-accepts-exactly-drawn-tables}
 use Rattle.schedule.specs.Checks.{slotsPass, jobsPass}
-use Rattle.schedule.specs.Drawings.{Drawing}
+use Rattle.schedule.specs.Drawings.{DrawnTable, Drawing}
 use Rattle.schedule.specs.Outcomes.{priceOutcome, tableOutcome, checkOutcome}
 use Rattle.schedule.specs.Periods.{valid-is-periodic}
 use Rattle.schedule.specs.Plans.{choicesPass, coresFit, planPasses}

@@ -14,7 +14,8 @@ use Rattle.instance.specs.Limits.{mayNotBeRefused}
 use Rattle.instance.specs.Node.{Problem, levelCount, taskCount, taskAt, noTask, span}
 use Rattle.instance.specs.declared.node.Task.{Task}
 use Rattle.instance.specs.declared.refusal.Verdict.the-variants.{Accepted}
-use Rattle.schedule.specs.CheckLaws.{AllowedPlan, choices-pass}
+use Rattle.schedule.specs.CheckLaws.{choices-pass}
+use Rattle.schedule.specs.Drawings.{AllowedPlan}
 use Rattle.schedule.specs.Plans.{mostChoice, choicesPass, fits, coresFit, planPasses}
 use Rattle.schedule.specs.Quantities
 use Rattle.schedule.specs.Quantities.{choiceAt, keeps, jobs, jobTicks, ticksOn, loadOn}

@@ -14,17 +14,12 @@ use Rattle.instance.specs.Limits.{mayNotBeRefused}
 use Rattle.instance.specs.Node.{Problem, levelCount, taskCount, taskAt, span}
 use Rattle.instance.specs.declared.refusal.Verdict.the-variants.{Accepted}
 use Rattle.schedule.specs.Checks.{check, strayValue, straySlot, slotsPass, jobSlots, isServed, jobsPass}
+use Rattle.schedule.specs.Drawings.{AllowedPlan}
 use Rattle.schedule.specs.Periods.{Periodic, row-of-index, tick-of-index, slot-of-index}
 use Rattle.schedule.specs.Plans.{isMust, badChoice, choicesPass}
 use Rattle.schedule.specs.Quantities.{choiceAt, coreOf, keeps, jobs, jobTicks}
 use Rattle.schedule.specs.Tables.{slotAt}
 use Rattle.schedule.specs.VerdictLaws.{andThen-accepts, length-accepts, none-refused}
-
--- 7: "one choice per task, each from 0 to M × H and none 0 for a task that may not be refused"
-pub record AllowedPlan (p : Problem) (plan : List ℕ) : Type 0 where
-  pub one-choice-per-task : length plan ≡ taskCount p
-  pub choices-in-range : (i : ℕ) → i < taskCount p → choiceAt plan i ≤ p .cores * levelCount p
-  pub must-tasks-kept : (i : ℕ) → i < taskCount p → taskAt p i .penalty ≡ mayNotBeRefused → choiceAt plan i ≡ 0 → ⊥
 
 module _ (p : Problem) (plan : List ℕ) where
   choice-is-good : (i : ℕ) → (badChoice p plan i ≡ false) ↔

@@ -1,23 +1,21 @@
 -- The check passes exactly the drawings, and among them the table that a plan gives.
-use Prim.Native.Nat.{ℕ, suc, _*_, _<_}
+use Prim.Native.Nat.{ℕ, _<_}
 use mathlib.Core.List.{List}
-use mathlib.Core.Logic.{_↔_, _⊎_, Iff·trans}
+use mathlib.Core.Logic.{_↔_, Iff·trans}
 use mathlib.Core.Path.{_≡_, sym}
-use lib.ListN.{length}
-use Rattle.instance.specs.Node.{Problem, taskCount, span}
+use Rattle.instance.specs.Node.{Problem}
 use Rattle.instance.specs.declared.refusal.Verdict.the-variants.{Accepted}
 use Rattle.schedule.specs.CheckLaws.{choices-pass, check-accepts}
 use Rattle.schedule.specs.Checks.{check}
 use Rattle.schedule.specs.DrawingLaws.{drawing-of-parts, parts-of-drawing}
-use Rattle.schedule.specs.Drawings.{Drawing, ExactSlots, JobSlot}
+use Rattle.schedule.specs.Drawings.{DrawnTable, Drawing}
 use Rattle.schedule.specs.Periods.{Periodic}
 use Rattle.schedule.specs.Plans.{choicesPass, planPasses}
-use Rattle.schedule.specs.Quantities.{choiceAt, coreOf, jobs, jobTicks}
 use Rattle.schedule.specs.Rows.{slotOf}
 use Rattle.schedule.specs.ServedRowLaws.{serves-same, drawing-of-rows}
 use Rattle.schedule.specs.ServedRows.{RowServes}
 use Rattle.schedule.specs.TableLaws.{length-tableOf, slotAt-tableOf}
-use Rattle.schedule.specs.Tables.{coreTasks, tableOf, releaseOf, dueOf, slotAt}
+use Rattle.schedule.specs.Tables.{coreTasks, tableOf, slotAt}
 use Rattle.schedule.specs.VerdictLaws.{andThen-accepts}
 
 -- "These are the choices and tables that pass the check."
@@ -27,34 +25,12 @@ check-accepts-exactly-drawings p periodic plan table =
     Iff·trans (check-accepts p periodic plan table) (drawing-of-parts p plan table periodic, parts-of-drawing p plan table)
 
 -- "the check passes exactly the tables in which each job of a kept task has its ticks between release and deadline on its
--- core and every other slot is idle": such a table
-pub record DrawnTable (p : Problem) (plan table : List ℕ) : Type 0 where
-  pub table-size : length table ≡ p .cores * span p
-  pub jobs-served : (i j : ℕ) → i < taskCount p → (choiceAt plan i ≡ 0 → ⊥) → j < jobs p i →
-      ExactSlots (slotAt p table (coreOf p plan i)) (suc i) (releaseOf p i j) (dueOf p i j) (jobTicks p plan i)
-  pub others-idle : (k t : ℕ) → k < p .cores → t < span p →
-      (slotAt p table k t ≡ 0) ⊎ JobSlot p plan k t (slotAt p table k t)
-
--- of a plan that is not refused under 7, the check accepts exactly those tables
+-- core and every other slot is idle", for a plan that is not refused under 7
 pub check-accepts-exactly-drawn-tables : (p : Problem) → Periodic p → (plan table : List ℕ) →
     choicesPass p plan ≡ Accepted → (check p plan table ≡ Accepted) ↔ DrawnTable p plan table
 check-accepts-exactly-drawn-tables p periodic plan table passes =
-    Iff·trans (check-accepts-exactly-drawings p periodic plan table) (table-of, drawing-of)
-  where
-    table-of : Drawing p plan table → DrawnTable p plan table
-    table-of d = record { table-size = d .table-size; jobs-served = d .jobs-served; others-idle = d .others-idle }
-
-    drawing-of : DrawnTable p plan table → Drawing p plan table
-    drawing-of d =
-        let allowed = choices-pass p plan .0 passes in
-        record {
-          one-choice-per-task = allowed .one-choice-per-task;
-          choices-in-range = allowed .choices-in-range;
-          must-tasks-kept = allowed .must-tasks-kept;
-          table-size = d .table-size;
-          jobs-served = d .jobs-served;
-          others-idle = d .others-idle;
-        }
+    Iff·trans (check-accepts-exactly-drawings p periodic plan table)
+    (λ d. d .drawn, λ drawn. record { allowed = choices-pass p plan .0 passes; drawn = drawn })
 
 -- the table of a plan that is refused under neither 7 nor 8 passes the check, where earliest deadline first serves every
 -- core

@@ -10,9 +10,9 @@ use lib.Dec.{ltb}
 use lib.ListN.{length, List·getD-eq-default}
 use borrow.Author.Tests.{ltb-true, ltb-false}
 use Rattle.instance.specs.Node.{Problem, taskCount, taskAt, span}
-use Rattle.schedule.specs.CheckLaws.{AllowedPlan, KeptSlot, NamedSlots, ServedJobs}
+use Rattle.schedule.specs.CheckLaws.{KeptSlot, NamedSlots, ServedJobs}
 use Rattle.schedule.specs.Checks.{jobSlots}
-use Rattle.schedule.specs.Drawings.{Drawing, ExactSlots, JobSlot}
+use Rattle.schedule.specs.Drawings.{AllowedPlan, Drawing, ExactSlots, JobSlot}
 use Rattle.schedule.specs.ExactSlotLaws.{count-is-exact}
 use Rattle.schedule.specs.Periods.{Periodic, period-positive, job-of-tick}
 use Rattle.schedule.specs.Quantities.{choiceAt, coreOf, jobTicks}
@@ -57,31 +57,28 @@ module _ (p : Problem) (plan table : List ℕ) where
 
   pub parts-of-drawing : Drawing p plan table → AllowedPlan p plan × NamedSlots p plan table × ServedJobs p plan table
   parts-of-drawing d = (
+    d .allowed,
     record {
-      one-choice-per-task = d .one-choice-per-task;
-      choices-in-range = d .choices-in-range;
-      must-tasks-kept = d .must-tasks-kept;
-    },
-    record {
-      table-size = d .table-size;
+      table-size = d .drawn .table-size;
       idle-or-kept = λ k t h l.
-          ⊎-elim (λ idle. inl idle) (λ s. inr (job-slot-is-kept-slot s)) (d .others-idle k t h l);
+          ⊎-elim (λ idle. inl idle) (λ s. inr (job-slot-is-kept-slot s)) (d .drawn .others-idle k t h l);
     },
-    λ i j h kept l. job-is-served i j .1 (d .jobs-served i j h kept l),
+    λ i j h kept l. job-is-served i j .1 (d .drawn .jobs-served i j h kept l),
   )
 
   pub drawing-of-parts : Periodic p →
       AllowedPlan p plan × NamedSlots p plan table × ServedJobs p plan table → Drawing p plan table
   drawing-of-parts periodic (allowed, named, served) =
       record {
-        one-choice-per-task = allowed .one-choice-per-task;
-        choices-in-range = allowed .choices-in-range;
-        must-tasks-kept = allowed .must-tasks-kept;
-        table-size = named .table-size;
-        jobs-served = λ i j h kept l. job-is-served i j .0 (served i j h kept l);
-        others-idle = λ k t h l.
-            ⊎-elim
-            (λ idle. inl idle)
-            (λ s. inr (kept-slot-is-job-slot p periodic plan (allowed .one-choice-per-task) l s))
-            (named .idle-or-kept k t h l);
+        allowed = allowed;
+        drawn =
+            record {
+              table-size = named .table-size;
+              jobs-served = λ i j h kept l. job-is-served i j .0 (served i j h kept l);
+              others-idle = λ k t h l.
+                  ⊎-elim
+                  (λ idle. inl idle)
+                  (λ s. inr (kept-slot-is-job-slot p periodic plan (allowed .one-choice-per-task) l s))
+                  (named .idle-or-kept k t h l);
+            };
       }

@@ -35,15 +35,22 @@ pub record JobSlot (p : Problem) (plan : List ℕ) (k t slot : ℕ) : Type 0 whe
   pub released : releaseOf p task job ≤ t
   pub not-yet-due : t < dueOf p task job
 
--- "A drawing for an instance is a list of one choice per task, each from 0 to M × H and none 0 for a task that may not be
--- refused, with a table of M × L slots. In its core's row, every job of a kept task released within the span has exactly
--- its ticks as slots .. Every other slot of the table is 0."
-pub record Drawing (p : Problem) (plan table : List ℕ) : Type 0 where
+-- "a list of one choice per task, each from 0 to M × H and none 0 for a task that may not be refused"
+pub record AllowedPlan (p : Problem) (plan : List ℕ) : Type 0 where
   pub one-choice-per-task : length plan ≡ taskCount p
   pub choices-in-range : (i : ℕ) → i < taskCount p → choiceAt plan i ≤ p .cores * levelCount p
   pub must-tasks-kept : (i : ℕ) → i < taskCount p → taskAt p i .penalty ≡ mayNotBeRefused → choiceAt plan i ≡ 0 → ⊥
+
+-- "a table of M × L slots. In its core's row, every job of a kept task released within the span has exactly its ticks as
+-- slots .. Every other slot of the table is 0."
+pub record DrawnTable (p : Problem) (plan table : List ℕ) : Type 0 where
   pub table-size : length table ≡ p .cores * span p
   pub jobs-served : (i j : ℕ) → i < taskCount p → (choiceAt plan i ≡ 0 → ⊥) → j < jobs p i →
       ExactSlots (slotAt p table (coreOf p plan i)) (suc i) (releaseOf p i j) (dueOf p i j) (jobTicks p plan i)
   pub others-idle : (k t : ℕ) → k < p .cores → t < span p →
       (slotAt p table k t ≡ 0) ⊎ JobSlot p plan k t (slotAt p table k t)
+
+-- "A drawing for an instance is" such a list "with" such a table
+pub record Drawing (p : Problem) (plan table : List ℕ) : Type 0 where
+  pub allowed : AllowedPlan p plan
+  pub drawn : DrawnTable p plan table

@@ -14,8 +14,8 @@ use Rattle.instance.specs.Node.{Problem, levelCount, taskCount, taskAt, noTask,
 use Rattle.instance.specs.Valid.{Valid}
 use Rattle.instance.specs.declared.node.Instance.{Instance}
 use Rattle.instance.specs.declared.node.Task.{Task}
-use Rattle.schedule.specs.CheckLaws.{AllowedPlan}
 use Rattle.schedule.specs.Checks.{jobSlots}
+use Rattle.schedule.specs.Drawings.{AllowedPlan}
 use Rattle.schedule.specs.HeldSlots.{row-within-table}
 use Rattle.schedule.specs.Quantities.{choiceAt, coreOf, jobs}
 use Rattle.schedule.specs.Tables.{tableSize, slotAt}

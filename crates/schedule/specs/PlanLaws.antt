@@ -8,7 +8,8 @@ use lib.Arith.{digits-div, digits-mod}
 use borrow.Author.Tests.{leb-true, not-false}
 use Rattle.instance.specs.Node.{Problem, levelCount, span}
 use Rattle.instance.specs.declared.refusal.Verdict.the-variants.{Accepted}
-use Rattle.schedule.specs.CheckLaws.{AllowedPlan, choices-pass}
+use Rattle.schedule.specs.CheckLaws.{choices-pass}
+use Rattle.schedule.specs.Drawings.{AllowedPlan}
 use Rattle.schedule.specs.Plans.{mostChoice, fits, coresFit, planPasses}
 use Rattle.schedule.specs.Quantities.{choiceAt, coreOf, levelOf, coreLoad}
 use Rattle.schedule.specs.VerdictLaws.{andThen-accepts, none-refused}

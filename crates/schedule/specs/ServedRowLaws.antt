@@ -13,10 +13,10 @@ use Rattle.laws.specs.Search.{count}
 use Rattle.laws.specs.SearchFacts.{count-same, count-of-none}
 use Rattle.laws.specs.Truth.{false-not-true}
 use Rattle.instance.specs.Node.{Problem, taskCount, taskAt, span}
-use Rattle.schedule.specs.CheckLaws.{AllowedPlan, KeptSlot, keeps-iff}
+use Rattle.schedule.specs.CheckLaws.{KeptSlot, keeps-iff}
 use Rattle.schedule.specs.Checks.{jobSlots}
 use Rattle.schedule.specs.DrawingLaws.{drawing-of-parts, parts-of-drawing}
-use Rattle.schedule.specs.Drawings.{Drawing, JobSlot}
+use Rattle.schedule.specs.Drawings.{AllowedPlan, Drawing, JobSlot}
 use Rattle.schedule.specs.Periods.{Periodic, tick-of-job}
 use Rattle.schedule.specs.PlanLaws.{choice-in-range-names}
 use Rattle.schedule.specs.Quantities.{choiceAt, coreOf, keeps, jobs, jobTicks, ticksOn}
@@ -87,7 +87,7 @@ module _ (p : Problem) (periodic : Periodic p) (plan table : List ℕ) where
       (λ (s : JobSlot p plan k t (slotAt p table k t)).
       let same : s .task ≡ i = omega arith in
       false-not-true (rw (← same) at not-kept) (keeps-iff p plan k (s .task) .1 (s .kept, s .on-its-core)))
-      (d .others-idle k t h l)
+      (d .drawn .others-idle k t h l)
 
   drawing-serves-job : Drawing p plan table → (k i j : ℕ) → k < p .cores → i < taskCount p → j < jobs p i →
       count (λ x. eqb (slotAt p table k (releaseOf p i j + x)) (suc i)) (window (taskAt p i)) ≡ ticksOn p plan k i
@@ -112,7 +112,7 @@ module _ (p : Problem) (periodic : Periodic p) (plan table : List ℕ) where
       JobSlot p plan k t (slotAt p table k t) → OwedSlot p plan k (slotAt p table k t)
   job-slot-is-owed-slot d k t s =
       let i = s .task in
-      let exact = d .jobs-served i (s .job) (s .is-task) (s .kept) (s .is-job) in
+      let exact = d .drawn .jobs-served i (s .job) (s .is-task) (s .kept) (s .is-job) in
       let shown : slotAt p table (coreOf p plan i) t ≡ suc i = rw (s .on-its-core) (s .its-number) in
       let listed = member-length t (exact .at) (exact .all-and-only t .1 (s .released, s .not-yet-due, shown)) in
       record {
@@ -127,5 +127,5 @@ module _ (p : Problem) (periodic : Periodic p) (plan table : List ℕ) where
       record {
         each-job = λ i j. drawing-serves-job d k i j h;
         idle-or-owed = λ t l.
-            ⊎-elim (λ idle. inl idle) (λ s. inr (job-slot-is-owed-slot d k t s)) (d .others-idle k t h l);
+            ⊎-elim (λ idle. inl idle) (λ s. inr (job-slot-is-owed-slot d k t s)) (d .drawn .others-idle k t h l);
       }

@@ -18,7 +18,7 @@ ghost use lib.ListN.{length, getD};
 ghost use Rattle.laws.specs.Search.{first, count};
 ghost use Rattle.instance.specs.Held.{Sound, problemIn};
 ghost use Rattle.instance.specs.Node.{taskCount, span};
-ghost use Rattle.schedule.specs.CheckLaws.{AllowedPlan};
+ghost use Rattle.schedule.specs.Drawings.{AllowedPlan};
 ghost use Rattle.schedule.specs.Checks.{strayValue, straySlot, slotsPass, jobSlots, isServed, jobsPass, check};
 ghost use Rattle.schedule.specs.Outcomes.{checkOutcome};
 ghost use Rattle.schedule.specs.Quantities.{choiceAt, coreOf, jobs};
