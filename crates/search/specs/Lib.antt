@@ -22,6 +22,7 @@ pub mod Offered
 pub mod RowSteps
 pub mod SetNumberLaws
 pub mod FrontRows
+pub mod Listed
 pub mod RowWords
 pub mod RelaxedRows
 pub mod RelaxedItems
