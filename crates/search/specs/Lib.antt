@@ -23,6 +23,7 @@ pub mod RowSteps
 pub mod SetNumberLaws
 pub mod FrontRows
 pub mod Listed
+pub mod FallingLaws
 pub mod RowWords
 pub mod RelaxedRows
 pub mod RelaxedItems
