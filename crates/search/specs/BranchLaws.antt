@@ -8,7 +8,9 @@ use lib.ListN.{length}
 use Rattle.search.specs.Assignment.{Item}
 use Rattle.search.specs.Bounds.{keys-fit}
 use Rattle.search.specs.Branches.{NextFits, BranchFits, BranchFilled, nextItem, settled, withoutNext, withNext}
+use Rattle.search.specs.FallingLaws.{falling-same, falling-with-item}
 use Rattle.search.specs.FilledTables.{Holds, filled-same, filled-both}
+use Rattle.search.specs.Listed.{Falling}
 use Rattle.search.specs.Offered.{mostCapacity, mostItems, mostLevels, rowItem, Affordable}
 use Rattle.search.specs.RelaxedItems.{ItemBefore, RowWithItem}
 use Rattle.search.specs.Rows.{keyBase}
@@ -19,7 +21,7 @@ use Rattle.search.specs.declared.rows.Branch.{Branch}
 use Rattle.search.specs.declared.row.Core.{Core}
 
 -- a row of fewer items is within the limits of more
-pub small-for-more : {m c k : ℕ} → Small m c k → Small (suc m) c k
+small-for-more : {m c k : ℕ} → Small m c k → Small (suc m) c k
 unfolding keyBase
 small-for-more {m} small =
     record {
@@ -39,7 +41,7 @@ affordable-without-last a =
       cheap = λ i l under. a .cheap i l (omega arith);
     }
 
-pub least-holds : {levels m w c k : ℕ} {item : Item} {rest : ℕ → Value} → levels ≤ mostLevels →
+least-holds : {levels m w c k : ℕ} {item : Item} {rest : ℕ → Value} → levels ≤ mostLevels →
     LeastAt item m levels rest w c k → Holds (suc m) (withItem levels item m rest w) c k
 unfolding withItem
 least-holds few least = record { is = least .value; small = least-of-all-levels few least }
@@ -52,14 +54,14 @@ held-for-more held =
       small = λ w le. small-for-more (held .small w le);
     }
 
-module _ {core : Core} {branch : Branch} {load cost rowCosts rowKeys costs keys : List ℕ}
-    (fits : BranchFits core branch load cost rowCosts rowKeys costs keys) where
+module _ {core : Core} {branch : Branch} {load cost points starts rowCosts rowKeys costs keys : List ℕ}
+    (fits : BranchFits core branch load cost points starts rowCosts rowKeys costs keys) where
   bit-above-0 : 0 < branch .bit
   bit-above-0 = omega (arith, fits .index-below)
 
-  module _ (some : branch .ahead ≡ 0 → ⊥) where
+  module _ (some : branch .ahead ≡ branch .listed → ⊥) where
     one-ahead : branch .ahead ≡ suc (branch .ahead - 1)
-    one-ahead = omega arith
+    one-ahead = omega (arith, fits .listed-ahead)
 
     bit-doubled : branch .bit * 2 ≡ 2 ^ suc (branch .places)
     bit-doubled = omega (arith, fits .bit-is, pow-suc 2 (branch .places))
@@ -90,9 +92,10 @@ module _ {core : Core} {branch : Branch} {load cost rowCosts rowKeys costs keys 
         }
 
     settled-fits : {index : ℕ} {rowCosts₁ rowKeys₁ costs₁ keys₁ : List ℕ} → index < branch .bit * 2 →
-        RowHeld (suc (branch .places)) (core .capacity) rowCosts₁ rowKeys₁ → length costs₁ ≡ length costs →
-        length keys₁ ≡ length keys → BranchFits core (settled branch index) load cost rowCosts₁ rowKeys₁ costs₁ keys₁
-    settled-fits below held same-costs same-keys =
+        RowHeld (suc (branch .places)) (core .capacity) rowCosts₁ rowKeys₁ → Falling (core .capacity) (rowOf rowCosts₁ rowKeys₁) →
+        length costs₁ ≡ length costs → length keys₁ ≡ length keys →
+        BranchFits core (settled branch index) load cost points starts rowCosts₁ rowKeys₁ costs₁ keys₁
+    settled-fits below held falls same-costs same-keys =
         let sums : branch .ahead - 1 + suc (branch .places) ≡ branch .ahead + branch .places = omega arith in
         record {
           items-limited = omega (arith, fits .items-limited);
@@ -101,18 +104,28 @@ module _ {core : Core} {branch : Branch} {load cost rowCosts rowKeys costs keys 
           digit-is = digit-moved;
           index-below = below;
           row-held = held;
+          row-falls = falls;
+          listed-ahead = omega (arith, fits .listed-ahead);
+          front-listed = rw sums (fits .front-listed);
           costs-for-all = rw (sums, same-costs) (fits .costs-for-all);
           keys-for-all = rw (sums, same-keys) (fits .keys-for-all);
         }
 
-    pub without-fits : BranchFits core (withoutNext branch) load cost rowCosts rowKeys costs keys
-    without-fits = settled-fits (omega (arith, fits .index-below)) (held-for-more (fits .row-held)) refl refl
+    pub without-fits : BranchFits core (withoutNext branch) load cost points starts rowCosts rowKeys costs keys
+    without-fits = settled-fits (omega (arith, fits .index-below)) (held-for-more (fits .row-held)) (fits .row-falls) refl refl
+
+    with-row : {moreCosts moreKeys : List ℕ} →
+        RowWithItem core (nextItem branch) load cost rowCosts rowKeys (core .levels) moreCosts moreKeys → (u : ℕ) → u ≤ core .capacity →
+        rowOf moreCosts moreKeys u
+        ≡ withItem (core .levels) (rowItem load cost (branch .ahead - 1)) (branch .places) (rowOf rowCosts rowKeys) u
+    unfolding rowOf
+    with-row more u le = least-holds (fits .affordable .levels-limited) (more .least u le) .is
 
     pub with-fits : {moreCosts moreKeys costs₁ keys₁ : List ℕ} → length moreCosts ≡ suc mostCapacity →
         length moreKeys ≡ suc mostCapacity →
         RowWithItem core (nextItem branch) load cost rowCosts rowKeys (core .levels) moreCosts moreKeys →
         length costs₁ ≡ length costs → length keys₁ ≡ length keys →
-        BranchFits core (withNext branch) load cost moreCosts moreKeys costs₁ keys₁
+        BranchFits core (withNext branch) load cost points starts moreCosts moreKeys costs₁ keys₁
     with-fits full-costs full-keys more same-costs same-keys =
         settled-fits (omega (arith, fits .index-below))
         record {
@@ -120,6 +133,8 @@ module _ {core : Core} {branch : Branch} {load cost rowCosts rowKeys costs keys 
           keys-to-capacity = omega (arith, full-keys, fits .affordable .capacity-limited);
           small = λ w le. least-of-all-levels (fits .affordable .levels-limited) (more .least w le);
         }
+        (falling-same (λ u le. sym (with-row more u le))
+        (falling-with-item (rowItem load cost (branch .ahead - 1)) (branch .places) (fits .row-falls) (core .levels)))
         same-costs same-keys
 
     pub both-filled : {costs₁ keys₁ moreCosts moreKeys costs₂ keys₂ : List ℕ} →
@@ -127,10 +142,7 @@ module _ {core : Core} {branch : Branch} {load cost rowCosts rowKeys costs keys 
         RowWithItem core (nextItem branch) load cost rowCosts rowKeys (core .levels) moreCosts moreKeys →
         BranchFilled core (withNext branch) load cost moreCosts moreKeys costs₁ keys₁ costs₂ keys₂ →
         BranchFilled core branch load cost rowCosts rowKeys costs keys costs₂ keys₂
-    unfolding rowOf
     both-filled without more with =
         rw one-ahead
         (filled-both (core .levels) (core .capacity) (rowItem load cost) bit-above-0 without
-        (filled-same (core .levels) (core .capacity) (rowItem load cost)
-        (λ u le. least-holds (fits .affordable .levels-limited) (more .least u le) .is)
-        with))
+        (filled-same (core .levels) (core .capacity) (rowItem load cost) (with-row more) with))

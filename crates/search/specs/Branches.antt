@@ -4,6 +4,7 @@ use mathlib.Core.Path.{_≡_}
 use mathlib.Core.List.{List}
 use lib.ListN.{length}
 use Rattle.search.specs.FilledTables.{Filled}
+use Rattle.search.specs.Listed.{Falling, FrontListed}
 use Rattle.search.specs.Offered.{mostItems, rowItem, Affordable}
 use Rattle.search.specs.Rows.{keyBase}
 use Rattle.search.specs.RowWords.{RowHeld, rowOf}
@@ -15,6 +16,7 @@ use Rattle.search.specs.declared.row.Front.{Front}
 abbrev pub settled : Branch → ℕ → Branch
 settled branch index =
     record {
+      listed = branch .listed;
       ahead = branch .ahead - 1;
       places = suc (branch .places);
       bit = branch .bit * 2;
@@ -40,13 +42,18 @@ pub record NextFits (branch : Branch) : Type 0 where
   pub digit-fits : branch .digit * keyBase < 2 ^ 64
   pub index-fits : branch .index + branch .bit < 2 ^ 64
 
-pub record BranchFits (core : Core) (branch : Branch) (load cost rowCosts rowKeys costs keys : List ℕ) : Type 0 where
+pub record BranchFits (core : Core) (branch : Branch) (load cost points starts rowCosts rowKeys costs keys : List ℕ) :
+    Type 0 where
   pub items-limited : branch .ahead + branch .places ≤ mostItems
   pub affordable : Affordable (branch .ahead) (core .levels) (core .capacity) load cost
   pub bit-is : branch .bit ≡ 2 ^ branch .places
   pub digit-is : branch .digit ≡ keyBase ^ branch .places
   pub index-below : branch .index < branch .bit
   pub row-held : RowHeld (branch .places) (core .capacity) rowCosts rowKeys
+  pub row-falls : Falling (core .capacity) (rowOf rowCosts rowKeys)
+  pub listed-ahead : branch .listed ≤ branch .ahead
+  pub front-listed :
+      FrontListed core load cost (branch .listed) (branch .ahead + branch .places - branch .listed) points starts
   pub costs-for-all : 2 ^ (branch .ahead + branch .places) ≤ length costs
   pub keys-for-all : 2 ^ (branch .ahead + branch .places) ≤ length keys
 

@@ -1,6 +1,6 @@
 -- A row of few items read off its definition, from the first item on: no row is kept for them, only entries are looked up in
 -- the row of the items behind.
-use Prim.Native.Nat.{ℕ, zero, suc, _+_, _-_, _/_, _^_, _<_}
+use Prim.Native.Nat.{ℕ, zero, suc, _+_, _/_, _^_, _<_}
 use mathlib.Core.Path.{_≡_, refl}
 use mathlib.Core.Bool.{Bool, true, false, cond}
 use native.Mathlib.Nat.{zero-add, pow-suc}

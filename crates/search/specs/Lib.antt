@@ -28,9 +28,10 @@ pub mod RowWords
 pub mod RelaxedRows
 pub mod RelaxedItems
 pub mod FilledTables
+pub mod ListReads
 pub mod Branches
 pub mod BranchLaws
-pub mod FrontFits
+pub mod ListedBranches
 pub mod TabledRows
 pub mod Splits
 pub mod SplitLaws

@@ -59,7 +59,7 @@ least-of-no-level item m rest w =
 -- that is worth (d, j), and is then no cheaper or cheaper.
 
 module _ {item : Item} {m l w c k : ℕ} {rest : ℕ → Value} (least : LeastAt item m l rest w c k) where
-  pub least-without-room : w < item .load l → LeastAt item m (suc l) rest w c k
+  least-without-room : w < item .load l → LeastAt item m (suc l) rest w c k
   unfolding leastBelow atLevel
   least-without-room h =
       record {
@@ -77,7 +77,7 @@ module _ {item : Item} {m l w c k : ℕ} {rest : ℕ → Value} (least : LeastAt
         rw (le-leb (item .load l) w fits, ← worth, ← words-pair (item .cost l) (suc l * keyBase ^ m) (omega arith))
         (words-add _ _ _ _ (λ p q. omega (arith, small .real q)))
 
-    pub least-no-cheaper : c ≤ item .cost l + d → LeastAt item m (suc l) rest w c k
+    least-no-cheaper : c ≤ item .cost l + d → LeastAt item m (suc l) rest w c k
     unfolding leastBelow
     least-no-cheaper dear =
         record {
@@ -92,7 +92,7 @@ module _ {item : Item} {m l w c k : ℕ} {rest : ℕ → Value} (least : LeastAt
         go (inl e) = inr (e, omega (arith, least .digits))
         go (inr h) = inl h
 
-    pub least-cheaper : item .cost l + d < c → LeastAt item m (suc l) rest w (item .cost l + d) (suc l * keyBase ^ m + j)
+    least-cheaper : item .cost l + d < c → LeastAt item m (suc l) rest w (item .cost l + d) (suc l * keyBase ^ m + j)
     unfolding leastBelow
     least-cheaper less =
         record {

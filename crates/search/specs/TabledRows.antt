@@ -1,14 +1,16 @@
 -- The branch of all sets: what filling it asks for, and that the filled tables hold the row of every set.
-use Prim.Native.Nat.{ℕ, _*_, _^_, _≤_, _<_}
+use Prim.Native.Nat.{ℕ, _*_, _-_, _^_, _≤_, _<_}
 use mathlib.Core.Path.{_≡_, refl, ap, _∙_}
 use mathlib.Core.Bool.{Bool}
 use mathlib.Core.List.{List}
 use native.Mathlib.Nat.{add-zero, mul-one}
 use native.Mathlib.Omega.{arith}
 use lib.ListN.{length, getD}
-use Rattle.search.specs.Branches.{BranchFits, BranchFilled}
+use Rattle.search.specs.Branches.{BranchFits}
+use Rattle.search.specs.FallingLaws.{falling-flat}
+use Rattle.search.specs.Listed.{FrontListed}
 use Rattle.search.specs.Offered.{mostItems, mostCost, Affordable, rowItem, itemsOf}
-use Rattle.search.specs.FilledTables.{Holds, filled-same}
+use Rattle.search.specs.FilledTables.{Holds, Filled, filled-same}
 use Rattle.search.specs.RelaxedItems.{FlatRow}
 use Rattle.search.specs.Rows.{keyBase, row}
 use Rattle.search.specs.RowSteps.{rowBefore}
@@ -27,14 +29,22 @@ pub record RowsFit (n levels capacity : ℕ) (load cost costs keys : List ℕ) :
   pub keys-for-all : 2 ^ n ≤ length keys
 
 -- where nothing is settled yet
-abbrev pub allSets : ℕ → Branch
-allSets n = record { ahead = n; places = 0; bit = 1; digit = 1; index = 0 }
+abbrev pub allSets : (listed n : ℕ) → Branch
+allSets listed n = record { listed = listed; ahead = n; places = 0; bit = 1; digit = 1; index = 0 }
 
 module _ {n levels capacity : ℕ} {load cost costs₀ keys₀ emptyCosts emptyKeys : List ℕ}
     (fit : RowsFit n levels capacity load cost costs₀ keys₀) (empty : FlatRow 0 0 capacity emptyCosts emptyKeys) where
-  pub all-sets-fit : BranchFits record { levels = levels; capacity = capacity } (allSets n) load cost emptyCosts emptyKeys costs₀ keys₀
+  -- at load u no item costs nothing
+  empty-row : (u : ℕ) → u ≤ capacity → rowOf emptyCosts emptyKeys u ≡ pair 0 0
+  unfolding rowOf
+  empty-row u le = rw (empty .each-cost u le, empty .each-key u le) (words-pair 0 0 (omega arith))
+
+  pub all-sets-fit : {listed : ℕ} {points starts : List ℕ} → listed ≤ n →
+      FrontListed record { levels = levels; capacity = capacity } load cost listed (n - listed) points starts →
+      BranchFits record { levels = levels; capacity = capacity } (allSets listed n) load cost points starts emptyCosts emptyKeys
+      costs₀ keys₀
   unfolding keyBase
-  all-sets-fit =
+  all-sets-fit le lists =
       record {
         items-limited = omega (arith, fit .items-limited);
         affordable = fit .affordable;
@@ -48,17 +58,15 @@ module _ {n levels capacity : ℕ} {load cost costs₀ keys₀ emptyCosts emptyK
               small = λ w le.
                   rw (empty .each-cost w le, empty .each-key w le) record { at-most-none = omega arith; real = omega arith; digits = omega arith };
             };
+        row-falls = falling-flat (pair 0 0) empty-row;
+        listed-ahead = le;
+        front-listed = rw add-zero lists;
         costs-for-all = rw add-zero (fit .costs-for-all);
         keys-for-all = rw add-zero (fit .keys-for-all);
       }
 
-  -- at load u no item costs nothing
-  empty-row : (u : ℕ) → u ≤ capacity → rowOf emptyCosts emptyKeys u ≡ pair 0 0
-  unfolding rowOf
-  empty-row u le = rw (empty .each-cost u le, empty .each-key u le) (words-pair 0 0 (omega arith))
-
   module _ {costs keys : List ℕ}
-      (filled : BranchFilled record { levels = levels; capacity = capacity } (allSets n) load cost emptyCosts emptyKeys costs₀ keys₀ costs keys) where
+      (filled : Filled levels capacity (rowItem load cost) n 0 1 0 (rowOf emptyCosts emptyKeys) costs₀ keys₀ costs keys) where
     entry-of : (x : ℕ) → x < 2 ^ n →
         Holds n (rowBefore levels (rowItem load cost) n 0 x (λ w. pair 0 0) capacity) (getD costs x 0) (getD keys x 0)
     entry-of x under =

@@ -1,5 +1,6 @@
 // The rows of all sets of items: each set's least value on one core.
-use crate::front::store_each;
+use crate::front::store_listed;
+use crate::lists::list_front;
 use crate::powers::KEY_BASE;
 use crate::row::Core;
 use crate::row::ENTRIES;
@@ -9,21 +10,23 @@ use crate::value::NO_COST;
 ghost use mathlib.Core.Bool.{Bool};
 ghost use mathlib.Core.List.{List};
 ghost use mathlib.Core.Path.{_≡_};
-ghost use Prim.Native.Nat.{ℕ, _*_, _^_, _<_};
-ghost use lib.ListN.{set};
+ghost use Prim.Native.Nat.{ℕ, _*_, _^_};
 ghost use Rattle.search.specs.Branches.{BranchFilled, BranchFits, NextFits, nextItem, withoutNext, withNext};
 ghost use Rattle.search.specs.Offered.{itemsOf, mostCost};
 ghost use Rattle.search.specs.Rows.{keyBase, row};
 ghost use Rattle.search.specs.Sets.{Tabled};
 ghost use Rattle.search.specs.TabledRows.{RowsFit};
 
-// With so few items ahead a row is computed for none of them: their sets are few, and each needs only few entries of the
-// row at hand.
-const STRAIGHT: usize = 3;
+// Room for the lists of the first items' choices: three numbers for each choice, and where each of at most 64 lists starts.
+const POINTS: usize = 36864;
+
+const STARTS: usize = 65;
 
 // Sets that agree on their last `places` items, the part of their number that these make up being `index`. The other
-// items are `ahead`; `bit` and `digit` are the weights of the last of those in a set's number and in a key.
+// items are `ahead`, the first of them, `listed` in number, with lists of their choices; `bit` and `digit` are the weights
+// of the last item ahead in a set's number and in a key.
 pub(crate) struct Branch {
+    pub(crate) listed: usize,
     pub(crate) ahead: usize,
     pub(crate) places: usize,
     pub(crate) bit: usize,
@@ -48,6 +51,7 @@ fn without_next(branch: Branch) -> Branch
     ensures { λ r. ⌜ r ≡ withoutNext branch ⌝ }
 {
     Branch {
+        listed: branch.listed,
         ahead: branch.ahead - 1,
         places: branch.places + 1,
         bit: branch.bit * 2,
@@ -71,17 +75,29 @@ fn fill(
     branch: Branch,
     load: &[u64],
     cost: &[u64],
+    points: &[u64],
+    starts: &[usize],
     row_costs: &[u64],
     row_keys: &[u64],
     costs: &mut [u64],
     keys: &mut [u64],
 )
-    requires { ⌜ BranchFits core branch (now load) (now cost) (now «row_costs») (now «row_keys») (now costs) (now keys) ⌝ }
+    requires { ⌜ BranchFits core branch (now load) (now cost) (now points) (now starts)
+        (now «row_costs») (now «row_keys») (now costs) (now keys) ⌝ }
     ensures { λ _. ⌜ BranchFilled core branch (now (load .entry)) (now (cost .entry)) (now («row_costs» .entry)) (now («row_keys» .entry))
         (now (costs .entry)) (now (keys .entry)) (now (costs .exit)) (now (keys .exit)) ⌝ }
 {
-    if branch.ahead <= STRAIGHT {
-        store_each(core, branch, load, cost, row_costs, row_keys, costs, keys);
+    if branch.ahead == branch.listed {
+        store_listed(
+            core,
+            branch,
+            points,
+            starts,
+            row_costs,
+            row_keys,
+            costs,
+            keys,
+        );
         return;
     }
     fill(
@@ -89,6 +105,8 @@ fn fill(
         without_next(branch),
         load,
         cost,
+        points,
+        starts,
         row_costs,
         row_keys,
         costs,
@@ -108,7 +126,18 @@ fn fill(
         &mut more_costs,
         &mut more_keys,
     );
-    fill(core, with, load, cost, &more_costs, &more_keys, costs, keys);
+    fill(
+        core,
+        with,
+        load,
+        cost,
+        points,
+        starts,
+        &more_costs,
+        &more_keys,
+        costs,
+        keys,
+    );
 }
 
 // The row of every set of n items at the whole capacity, in the entry of the set's number.
@@ -128,7 +157,11 @@ pub(crate) fn fill_rows(
         (now (costs .exit)) (now (keys .exit))) ⌝ }
 {
     let core = Core { levels, capacity };
+    let mut points = [0u64; POINTS];
+    let mut starts = [0usize; STARTS];
+    let listed = list_front(core, n, load, cost, &mut points, &mut starts);
     let all = Branch {
+        listed,
         ahead: n,
         places: 0,
         bit: 1,
@@ -137,5 +170,16 @@ pub(crate) fn fill_rows(
     };
     // The set of no item costs nothing, and has key 0.
     let empty = [0u64; ENTRIES];
-    fill(core, all, load, cost, &empty, &empty, costs, keys);
+    fill(
+        core,
+        all,
+        load,
+        cost,
+        &points,
+        &starts,
+        &empty,
+        &empty,
+        costs,
+        keys,
+    );
 }

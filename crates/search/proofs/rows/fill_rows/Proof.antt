@@ -5,16 +5,32 @@ use borrow.Author.Needs.{needs}
 use Rattle.search.proofs.rows.fill_rows.Statement.{statement}
 use Rattle.search.proofs.rows.fill_rows.Tie as tie
 
+slice-aggregate-list-front : tie.Need-slice-aggregate-list-front
+slice-aggregate-list-front c = search needs
+
+slice-aggregate-list-front-2 : tie.Need-slice-aggregate-list-front-2
+slice-aggregate-list-front-2 c = search needs
+
+list-front-requires : tie.Need-list-front-requires
+list-front-requires c κs = search needs
+
 slice-aggregate-fill : tie.Need-slice-aggregate-fill
 slice-aggregate-fill c = search needs
 
 slice-aggregate-fill-2 : tie.Need-slice-aggregate-fill-2
 slice-aggregate-fill-2 c = search needs
 
+slice-aggregate-fill-3 : tie.Need-slice-aggregate-fill-3
+slice-aggregate-fill-3 c = search needs
+
+slice-aggregate-fill-4 : tie.Need-slice-aggregate-fill-4
+slice-aggregate-fill-4 c = search needs
+
 fill-requires : tie.Need-fill-requires
 fill-requires c κs =
-    let fit = c .before .before .before .before .before .before .before .before .pre in
-    all-sets-fit fit (flat-row 0 0 _ (fit .affordable .capacity-limited))
+    let fit = c .before .before .before .before .before .before .before .before .before .before .before .before .before .before .before .pre in
+    let lists = c .before .before .before .before .before .before .before .before .list-front .ensures in
+    all-sets-fit fit (flat-row 0 0 _ (fit .affordable .capacity-limited)) (lists .0) (lists .1 .1)
 
 same-length : tie.Need-same-length
 same-length c = search needs
@@ -24,16 +40,21 @@ same-length-2 c = search needs
 
 returns : tie.Need-returns
 returns c =
-    let fit = c .before .before .before .before .before .before .before .before .before .before .before .before .before .pre in
+    let fit = c .before .before .before .before .before .before .before .before .before .before .before .before .before .before .before .before .before .before .before .before .pre in
     let called = c .before .before .before .before .fill in
-    all-sets-tabled fit (flat-row 0 0 _ (fit .affordable .capacity-limited)) (called .ensures) (called .kept .1 .1 .1 .1 .1 .1 .0) (called .kept .1 .1 .1 .1 .1 .1 .1 .0)
+    all-sets-tabled fit (flat-row 0 0 _ (fit .affordable .capacity-limited)) (called .ensures) (called .kept .1 .1 .1 .1 .1 .1 .1 .1 .0) (called .kept .1 .1 .1 .1 .1 .1 .1 .1 .1 .0)
 
 pub fill-rows-spec : {M : Type 1} → statement M
 fill-rows-spec =
     tie.close
     (tie.spec
+    slice-aggregate-list-front
+    slice-aggregate-list-front-2
+    list-front-requires
     slice-aggregate-fill
     slice-aggregate-fill-2
+    slice-aggregate-fill-3
+    slice-aggregate-fill-4
     fill-requires
     same-length
     same-length-2
