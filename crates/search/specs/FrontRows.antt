@@ -1,5 +1,4 @@
--- A row of few items read off its definition, from the first item on: no row is kept for them, only entries are looked up in
--- the row of the items behind.
+-- The row of a set from its first item on.
 use Prim.Native.Nat.{ℕ, zero, suc, _+_, _/_, _^_, _<_}
 use mathlib.Core.Path.{_≡_, refl}
 use mathlib.Core.Bool.{Bool, true, false, cond}

@@ -1,6 +1,6 @@
 -- The value of a row read from a list of choices, one after the other.
 use Prim.Native.Nat.{ℕ, suc, _+_, _*_, _-_, _^_, _≤_, _<_}
-use mathlib.Core.Path.{_≡_, refl, sym}
+use mathlib.Core.Path.{_≡_, sym}
 use mathlib.Core.Logic.{_⊎_, inl, inr}
 use mathlib.Core.List.{List}
 use native.Mathlib.Nat.{le-refl, one-le-pow}
@@ -49,6 +49,15 @@ LeastTo capacity from to points rowCosts rowKeys p best =
     (n places : ℕ) (f : (ℕ → Value) → ℕ → Value) → ListRead capacity from to points rowCosts rowKeys n places f →
     Holds (n + places) (leastListed points from (p - from) (rowOf rowCosts rowKeys) capacity) (best .cost) (best .key)
 
+leastListed-more : (points : List ℕ) {from to : ℕ} (rest : ℕ → Value) (w : ℕ) → from ≤ to →
+    leastListed points from (suc to - from) rest w
+    ≡ lesser (leastListed points from (to - from) rest w) (before (pointAt points to) rest w)
+unfolding leastListed leastBelow
+leastListed-more points {from} {to} rest w ordered =
+    let more : suc to - from ≡ suc (to - from) = omega arith in
+    let last : from + (to - from) ≡ to = omega arith in
+    rw (more, last)
+
 module _ {capacity from to : ℕ} {points rowCosts rowKeys : List ℕ} where
   pub least-of-none : LeastTo capacity from to points rowCosts rowKeys from record { cost = noCost; key = 0 }
   unfolding leastListed leastBelow keyBase
@@ -61,75 +70,66 @@ module _ {capacity from to : ℕ} {points rowCosts rowKeys : List ℕ} where
       }
 
   module _ {n places : ℕ} {f : (ℕ → Value) → ℕ → Value} (read : ListRead capacity from to points rowCosts rowKeys n places f)
-      {p : ℕ} (lower : from ≤ p) where
-    one-more : (rest : ℕ → Value) (w : ℕ) →
-        leastListed points from (suc p - from) rest w ≡ lesser (leastListed points from (p - from) rest w) (before (pointAt points p) rest w)
-    unfolding leastListed leastBelow
-    one-more rest w =
-        let steps : suc p - from ≡ suc (p - from) = omega arith in
-        let last : from + (p - from) ≡ p = omega arith in
-        rw (steps, last) refl
+      {p : ℕ} (lower : from ≤ p) (under : p < to) where
+    rest-small : Small places (getD rowCosts (capacity - pointAt points p .load) 0) (getD rowKeys (capacity - pointAt points p .load) 0)
+    rest-small = read .row-held .small (capacity - pointAt points p .load) (omega arith)
 
-    module _ (under : p < to) where
-      rest-small : Small places (getD rowCosts (capacity - pointAt points p .load) 0) (getD rowKeys (capacity - pointAt points p .load) 0)
-      rest-small = read .row-held .small (capacity - pointAt points p .load) (omega arith)
+    key-bound : sumAt capacity p points rowCosts rowKeys .key < keyBase ^ (n + places)
+    key-bound = omega (arith, rest-small .digits, read .listed .small p lower under .digits)
 
-      key-bound : sumAt capacity p points rowCosts rowKeys .key < keyBase ^ (n + places)
-      key-bound = omega (arith, rest-small .digits, read .listed .small p lower under .digits)
+    pub point-read : PointRead capacity p points rowCosts rowKeys
+    point-read =
+        let small = read .listed .small p lower under in
+        record {
+          in-points = omega (arith, read .listed .there);
+          room = small .fits;
+          in-costs = omega (arith, read .row-held .costs-to-capacity);
+          in-keys = omega (arith, read .row-held .keys-to-capacity);
+          cost-fits = omega (arith, small .cheap, rest-small .at-most-none, read .items-limited);
+          key-fits = omega (arith, key-bound, keys-fit (read .items-limited));
+        }
 
-      pub point-read : PointRead capacity p points rowCosts rowKeys
-      point-read =
-          let small = read .listed .small p lower under in
+    point-value : before (pointAt points p) (rowOf rowCosts rowKeys) capacity ≡ worthOf (sumAt capacity p points rowCosts rowKeys)
+    unfolding before rowOf
+    point-value =
+        let small = read .listed .small p lower under in
+        rw (
+          le-leb (pointAt points p .load) capacity (small .fits),
+          ← words-pair (pointAt points p .cost) (pointAt points p .key) (omega (arith, small .cheap, read .items-limited)),
+        )
+        (words-add _ _ _ _ (λ a b. omega (arith, small .cheap, rest-small .real b, read .items-limited)))
+
+    -- the least of one entry more, by what becomes of the best so far
+
+    module _ {best : Worth}
+        (least : Holds (n + places) (leastListed points from (p - from) (rowOf rowCosts rowKeys) capacity) (best .cost) (best .key)) where
+      dearer-holds : best .cost < sumAt capacity p points rowCosts rowKeys .cost →
+          Holds (n + places) (leastListed points from (suc p - from) (rowOf rowCosts rowKeys) capacity) (best .cost) (best .key)
+      dearer-holds dear =
           record {
-            in-points = omega (arith, read .listed .there);
-            room = small .fits;
-            in-costs = omega (arith, read .row-held .costs-to-capacity);
-            in-keys = omega (arith, read .row-held .keys-to-capacity);
-            cost-fits = omega (arith, small .cheap, rest-small .at-most-none, read .items-limited);
-            key-fits = omega (arith, key-bound, keys-fit (read .items-limited));
+            is = rw (leastListed-more points (rowOf rowCosts rowKeys) capacity lower, point-value, ← least .is) (sym (words-lesser-first _ _ _ _ (inl dear)));
+            small = least .small;
           }
 
-      point-value : before (pointAt points p) (rowOf rowCosts rowKeys) capacity ≡ worthOf (sumAt capacity p points rowCosts rowKeys)
-      unfolding before rowOf
-      point-value =
-          let small = read .listed .small p lower under in
-          rw (
-            le-leb (pointAt points p .load) capacity (small .fits),
-            ← words-pair (pointAt points p .cost) (pointAt points p .key) (omega (arith, small .cheap, read .items-limited)),
-          )
-          (words-add _ _ _ _ (λ a b. omega (arith, small .cheap, rest-small .real b, read .items-limited)))
-
-      -- the least of one entry more, by what becomes of the best so far
-
-      module _ {best : Worth}
-          (least : Holds (n + places) (leastListed points from (p - from) (rowOf rowCosts rowKeys) capacity) (best .cost) (best .key)) where
-        dearer-holds : best .cost < sumAt capacity p points rowCosts rowKeys .cost →
-            Holds (n + places) (leastListed points from (suc p - from) (rowOf rowCosts rowKeys) capacity) (best .cost) (best .key)
-        dearer-holds dear =
-            record {
-              is = rw (one-more (rowOf rowCosts rowKeys) capacity, point-value, ← least .is) (sym (words-lesser-first _ _ _ _ (inl dear)));
-              small = least .small;
-            }
-
-        lesser-holds : {next : Worth} → sumAt capacity p points rowCosts rowKeys .cost ≤ best .cost →
-            worthOf next ≡ lesser (worthOf best) (worthOf (sumAt capacity p points rowCosts rowKeys)) →
-            (next ≡ best) ⊎ (next ≡ sumAt capacity p points rowCosts rowKeys) →
-            Holds (n + places) (leastListed points from (suc p - from) (rowOf rowCosts rowKeys) capacity) (next .cost) (next .key)
-        lesser-holds {next} cheap is-lesser either =
-            record {
-              is = rw (one-more (rowOf rowCosts rowKeys) capacity, point-value, ← least .is) is-lesser;
-              small = go either;
-            }
-          where
-            go : (next ≡ best) ⊎ (next ≡ sumAt capacity p points rowCosts rowKeys) → Small (n + places) (next .cost) (next .key)
-            go (inl e) = rw e (least .small)
-            go (inr e) =
-                rw e
-                record {
-                  at-most-none = omega (arith, least .small .at-most-none);
-                  real = λ h. omega (arith, read .listed .small p lower under .cheap, rest-small .real (omega arith));
-                  digits = key-bound;
-                }
+      lesser-holds : {next : Worth} → sumAt capacity p points rowCosts rowKeys .cost ≤ best .cost →
+          worthOf next ≡ lesser (worthOf best) (worthOf (sumAt capacity p points rowCosts rowKeys)) →
+          (next ≡ best) ⊎ (next ≡ sumAt capacity p points rowCosts rowKeys) →
+          Holds (n + places) (leastListed points from (suc p - from) (rowOf rowCosts rowKeys) capacity) (next .cost) (next .key)
+      lesser-holds {next} cheap is-lesser either =
+          record {
+            is = rw (leastListed-more points (rowOf rowCosts rowKeys) capacity lower, point-value, ← least .is) is-lesser;
+            small = go either;
+          }
+        where
+          go : (next ≡ best) ⊎ (next ≡ sumAt capacity p points rowCosts rowKeys) → Small (n + places) (next .cost) (next .key)
+          go (inl e) = rw e (least .small)
+          go (inr e) =
+              rw e
+              record {
+                at-most-none = omega (arith, least .small .at-most-none);
+                real = λ h. omega (arith, read .listed .small p lower under .cheap, rest-small .real (omega arith));
+                digits = key-bound;
+              }
 
   module _ {p : ℕ} (lower : from ≤ p) (under : p < to) {best : Worth}
       (least : LeastTo capacity from to points rowCosts rowKeys p best) where
