@@ -22,8 +22,11 @@ pub mod Offered
 pub mod RowSteps
 pub mod SetNumberLaws
 pub mod FrontRows
+pub mod LeastLaws
 pub mod Listed
 pub mod FallingLaws
+pub mod Spread
+pub mod SpreadLaws
 pub mod RowWords
 pub mod RelaxedRows
 pub mod RelaxedItems
