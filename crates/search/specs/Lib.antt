@@ -27,6 +27,8 @@ pub mod Listed
 pub mod FallingLaws
 pub mod Spread
 pub mod SpreadLaws
+pub mod SpreadLevels
+pub mod SpreadItems
 pub mod RowWords
 pub mod RelaxedRows
 pub mod RelaxedItems

@@ -60,24 +60,28 @@ pub row-of-no-level : {core : Core} {front : Front} {load cost rowCosts rowKeys 
 row-of-no-level none =
     record { least = λ w le. rw (none .each-cost w le, none .each-key w le) (least-of-no-level _ _ _ w) }
 
+-- eight times an item's weight and once more
+pub digit-fits : {places digit : ℕ} → places < mostItems → digit ≡ keyBase ^ places → mostLevels * digit + digit < 2 ^ 64
+unfolding keyBase
+digit-fits {places} few is =
+    let fits = keys-fit {n = suc places} few in
+    omega (arith, pow-suc keyBase places)
+
+pub level-fits : {front : Front} {levels capacity l : ℕ} {load cost : List ℕ} →
+    Affordable (suc (front .item)) levels capacity load cost → front .places < mostItems →
+    front .digit ≡ keyBase ^ front .places → l < levels → ChoiceFits load cost front l
+level-fits affordable few is under =
+    record {
+      level-limited = omega (arith, affordable .levels-limited);
+      load-there = affordable .loads-for-all;
+      cost-there = affordable .costs-for-all;
+      key-fits = omega (arith, digit-fits few is);
+    }
+
 module _ {core : Core} {front : Front} {load cost rowCosts rowKeys : List ℕ}
     (before : ItemBefore core front load cost rowCosts rowKeys) {l : ℕ} (under : l < core .levels) where
-  digit-fits : mostLevels * front .digit + front .digit < 2 ^ 64
-  unfolding keyBase
-  digit-fits =
-      let few = before .places-limited in
-      let fits = keys-fit {n = suc (front .places)} few in
-      omega (arith, before .digit-is, pow-suc keyBase (front .places))
-
   pub choice-fits : ChoiceFits load cost front l
-  choice-fits =
-      let few = before .affordable .levels-limited in
-      record {
-        level-limited = omega arith;
-        load-there = before .affordable .loads-for-all;
-        cost-there = before .affordable .costs-for-all;
-        key-fits = omega (arith, digit-fits);
-      }
+  choice-fits = level-fits (before .affordable) (before .places-limited) (before .digit-is) under
 
   module _ {choice : Choice} (chosen : choice ≡ choiceOf load cost front l) where
     pub row-sums-fit : RowSumsFit (choice .load) (choice .cost) (choice .key) (core .capacity) rowCosts rowKeys
@@ -93,7 +97,7 @@ module _ {core : Core} {front : Front} {load cost rowCosts rowKeys : List ℕ}
               omega (arith, held .small u (omega arith) .at-most-none);
           key-fits = λ u le.
               let most : suc l * front .digit ≤ mostLevels * front .digit = mul-le-mul-right (front .digit) (omega arith) in
-              omega (arith, digit-fits, before .digit-is, held .small u (omega arith) .digits);
+              omega (arith, digit-fits (before .places-limited) (before .digit-is), before .digit-is, held .small u (omega arith) .digits);
         }
 
     -- (d, j) is what (c, k) becomes by the choice
