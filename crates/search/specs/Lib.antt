@@ -29,6 +29,9 @@ pub mod Spread
 pub mod SpreadLaws
 pub mod SpreadLevels
 pub mod SpreadItems
+pub mod Sweep
+pub mod PointLaws
+pub mod SweepLaws
 pub mod RowWords
 pub mod RelaxedRows
 pub mod RelaxedItems

@@ -1,12 +1,10 @@
 -- An item is spread level after level.
 use Prim.Native.Nat.{ℕ, suc, _+_, _*_, _-_, _^_, _≤_, _<_}
 use mathlib.Core.Path.{_≡_, refl, sym, ap, _∙_}
-use mathlib.Core.Bool.{Bool, true, false, cond}
 use mathlib.Core.List.{List}
 use native.Mathlib.Nat.{pow-suc, pow-zero, one-le-pow, add-zero, mul-le-mul-right}
 use native.Mathlib.Omega.{arith}
 use borrow.Author.Tests.{lt-leb}
-use lib.Dec.{leb}
 use lib.ListN.{length, getD}
 use Rattle.search.specs.LeastLaws.{lesser-none, none-lesser, leastBelow-none}
 use Rattle.search.specs.Listed.{before, pointAt, leastListed, PointSmall}
@@ -15,7 +13,7 @@ use Rattle.search.specs.RelaxedItems.{choiceOf, ChoiceFits, digit-fits, 
 use Rattle.search.specs.Rows.{keyBase, atLevel}
 use Rattle.search.specs.Splits.{entryAt}
 use Rattle.search.specs.Spread.{valueBefore, leastSpread, leastSums, Sound, absent, present, SumsSmall, LevelSpread, ItemFits, Cleared, ItemSpread}
-use Rattle.search.specs.SpreadLaws.{leastSums-is}
+use Rattle.search.specs.SpreadLaws.{none-before, leastSums-is}
 use Rattle.search.specs.Values.{Value, none, pair, add, lesser, leastBelow}
 use Rattle.search.specs.Words.{noCost, words-none}
 use Rattle.search.specs.declared.row.Choice.{Choice}
@@ -33,14 +31,6 @@ small-alone {n = n} {places} small =
       digits = rw (pow-zero, add-zero) (omega (arith, small .digits, one-le-pow places keyBase (omega arith)));
     }
 
-nothing-before : (u : ℕ) (rest : ℕ → Value) (w : ℕ) → valueBefore u none rest w ≡ none
-unfolding valueBefore add
-nothing-before u rest w = go (leb u w)
-  where
-    go : (t : Bool) → cond t none none ≡ none
-    go true = refl
-    go false = refl
-
 module _ {core : Core} {front : Front} {from to : ℕ} {load cost points : List ℕ} where
   pub spread-no-level : {costs keys : List ℕ} → Cleared (core .capacity) costs →
       ItemSpread core front from to load cost points 0 costs keys
@@ -49,7 +39,7 @@ module _ {core : Core} {front : Front} {from to : ℕ} {load cost points : List 
       record {
         least = λ rest w under.
             leastBelow-none (suc (core .capacity)) _
-            (λ u below. ap (λ (v : Value). valueBefore u v rest w) (empty u (omega arith)) ∙ nothing-before u rest w);
+            (λ u below. ap (λ (v : Value). valueBefore u v rest w) (empty u (omega arith)) ∙ none-before u rest w);
         sound = λ n places sum small u under. rw (empty u under) absent;
       }
     where

@@ -26,6 +26,14 @@ pub before-none : (choice : Choice) (rest : ℕ → Value) {w : ℕ} → w < cho
 unfolding before
 before-none choice rest {w} over = rw (lt-leb (choice .load) w over)
 
+pub none-before : (u : ℕ) (rest : ℕ → Value) (w : ℕ) → valueBefore u none rest w ≡ none
+unfolding valueBefore add
+none-before u rest w = go (leb u w)
+  where
+    go : (t : Bool) → cond t none none ≡ none
+    go true = refl
+    go false = refl
+
 valueBefore-lesser : (u : ℕ) (a b : Value) (rest : ℕ → Value) (w : ℕ) →
     valueBefore u (lesser a b) rest w ≡ lesser (valueBefore u a rest w) (valueBefore u b rest w)
 unfolding valueBefore

@@ -38,7 +38,7 @@ words-add a x b y h = go (lt-or-le a noCost) (lt-or-le b noCost)
     go (inl p) (inr q) = rw (words-pair a x p, words-none b y q, words-none (a + b) (x + y) (omega arith))
     go (inr p) either = rw (words-none a x p, words-none (a + b) (x + y) (omega arith))
 
-words-atMost : (a x b y : ℕ) → (a < b) ⊎ ((a ≡ b) × (x ≤ y)) → AtMost (valueOf a x) (valueOf b y)
+pub words-atMost : (a x b y : ℕ) → (a < b) ⊎ ((a ≡ b) × (x ≤ y)) → AtMost (valueOf a x) (valueOf b y)
 words-atMost a x b y order = go (lt-or-le b noCost) order
   where
     go : (b < noCost) ⊎ (noCost ≤ b) → (a < b) ⊎ ((a ≡ b) × (x ≤ y)) → AtMost (valueOf a x) (valueOf b y)
