@@ -5,7 +5,9 @@ use mathlib.Core.List.{List}
 use native.Mathlib.Nat.{pow-suc, pow-zero, one-le-pow, add-zero, mul-le-mul-right}
 use native.Mathlib.Omega.{arith}
 use borrow.Author.Tests.{lt-leb}
-use lib.ListN.{length, getD}
+use lib.ListN.{length, getD, set}
+use lib.Seq.{getD-set-same, getD-set-other}
+use Rattle.laws.specs.Below.{below-suc}
 use Rattle.search.specs.LeastLaws.{lesser-none, none-lesser, leastBelow-none}
 use Rattle.search.specs.Listed.{before, pointAt, leastListed, PointSmall}
 use Rattle.search.specs.Offered.{mostLevels, mostCost, entryOf, itemAt, rowItem}
@@ -30,6 +32,13 @@ small-alone {n = n} {places} small =
       cheap = omega (arith, small .cheap);
       digits = rw (pow-zero, add-zero) (omega (arith, small .digits, one-le-pow places keyBase (omega arith)));
     }
+
+pub cleared-more : (costs : List ℕ) (u : ℕ) → u < length costs → ((v : ℕ) → v < u → getD costs v 0 ≡ noCost) →
+    (v : ℕ) → v < suc u → getD (set costs u noCost) v 0 ≡ noCost
+cleared-more costs u there sofar =
+    below-suc (λ v. getD (set costs u noCost) v 0 ≡ noCost) u
+    (λ v below. getD-set-other costs u v noCost 0 (λ same. absurd (omega arith)) ∙ sofar v below)
+    (getD-set-same costs u noCost 0 there)
 
 module _ {core : Core} {front : Front} {from to : ℕ} {load cost points : List ℕ} where
   pub spread-no-level : {costs keys : List ℕ} → Cleared (core .capacity) costs →

@@ -4,6 +4,7 @@ mod choice;
 mod front;
 mod light;
 mod limits;
+mod lists;
 mod partition;
 mod powers;
 mod row;

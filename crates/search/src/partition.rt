@@ -13,7 +13,7 @@ ghost use Rattle.search.specs.Words.{valueOf};
 ghost use Rattle.search.specs.Splits.{sumAt, Lowered, LoweredFrom, SplitsReady};
 
 // Lowers entry s of a table to a cost and a key, where these come first.
-fn lower(s: usize, cost: u64, key: u64, costs: &mut [u64], keys: &mut [u64])
+pub(crate) fn lower(s: usize, cost: u64, key: u64, costs: &mut [u64], keys: &mut [u64])
     requires { ⌜ s < length (now costs) ⌝ }
     requires { ⌜ s < length (now keys) ⌝ }
     ensures { λ _. ⌜ Lowered s (valueOf cost key) (now (costs .entry)) (now (keys .entry)) (now (costs .exit)) (now (keys .exit)) ⌝ }

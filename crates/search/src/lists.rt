@@ -1,0 +1,151 @@
+// The choices of levels for each set of the first few items, as lists: only choices are left out that another one beats,
+// whatever stands behind.
+use crate::partition::lower;
+use crate::row::Choice;
+use crate::row::Core;
+use crate::row::Front;
+use crate::row::choice_at;
+use crate::row::entry;
+use crate::value::NO_COST;
+use crate::value::Worth;
+ghost use mathlib.Core.Path.{_≡_};
+ghost use Prim.Native.Nat.{ℕ, suc, _+_, _*_, _≤_, _<_};
+ghost use lib.ListN.{length};
+ghost use Rattle.search.specs.Limits.{Tells};
+ghost use Rattle.search.specs.Listed.{pointAt};
+ghost use Rattle.search.specs.Spread.{Cleared, ItemFits, ItemSpread, LevelSpread, Long, SumsSmall};
+ghost use Rattle.search.specs.Sweep.{First, Swept, withPoint};
+
+// Three numbers make a point: a load, a cost and a key.
+const WIDTH: usize = 3;
+
+// No choice of any load.
+fn clear(capacity: usize, costs: &mut [u64])
+    requires { ⌜ capacity < length (now costs) ⌝ }
+    ensures { λ _. ⌜ Cleared capacity (now (costs .exit)) ⌝ }
+{
+    let mut u = 0;
+    while u <= capacity {
+        costs[u] = NO_COST;
+        u += 1;
+    }
+}
+
+fn point_at(points: &[u64], p: usize) -> Choice
+    requires { ⌜ suc p * 3 ≤ length (now points) ⌝ }
+    ensures { λ r. ⌜ r ≡ pointAt (now (points .entry)) p ⌝ }
+{
+    Choice {
+        load: points[p * WIDTH] as usize,
+        cost: points[p * WIDTH + 1],
+        key: points[p * WIDTH + 2],
+    }
+}
+
+// The choice with each point from `from` to `to`, as an entry of its load.
+fn spread_level(
+    capacity: usize,
+    choice: Choice,
+    from: usize,
+    to: usize,
+    points: &[u64],
+    costs: &mut [u64],
+    keys: &mut [u64],
+)
+    requires { ⌜ SumsSmall capacity choice from to (now points) ⌝ }
+    requires { ⌜ Long capacity (now costs) (now keys) ⌝ }
+    ensures { λ _. ⌜ LevelSpread capacity choice from to (now (points .entry)) (now (costs .entry)) (now (keys .entry))
+        (now (costs .exit)) (now (keys .exit)) ⌝ }
+{
+    let mut p = from;
+    while p < to {
+        let point = point_at(points, p);
+        let load = choice.load + point.load;
+        if load <= capacity {
+            lower(
+                load,
+                choice.cost + point.cost,
+                choice.key + point.key,
+                costs,
+                keys,
+            );
+        }
+        p += 1;
+    }
+}
+
+// The item at each level.
+fn spread_item(
+    core: Core,
+    front: Front,
+    from: usize,
+    to: usize,
+    load: &[u64],
+    cost: &[u64],
+    points: &[u64],
+    costs: &mut [u64],
+    keys: &mut [u64],
+)
+    requires { ⌜ ItemFits core front from to (now load) (now cost) (now points) ⌝ }
+    requires { ⌜ Long (core .capacity) (now costs) (now keys) ⌝ }
+    requires { ⌜ Cleared (core .capacity) (now costs) ⌝ }
+    ensures { λ _. ⌜ ItemSpread core front from to (now (load .entry)) (now (cost .entry)) (now (points .entry))
+        (core .levels) (now (costs .exit)) (now (keys .exit)) ⌝ }
+{
+    let mut l = 0;
+    while l < core.levels {
+        let choice = choice_at(load, cost, front, l);
+        if choice.load <= core.capacity {
+            spread_level(core.capacity, choice, from, to, points, costs, keys);
+        }
+        l += 1;
+    }
+}
+
+fn comes_first(a: Worth, b: Worth) -> bool
+    ensures { λ r. ⌜ Tells r (First a b) ⌝ }
+{
+    if a.cost < b.cost {
+        return true;
+    }
+    if b.cost < a.cost {
+        return false;
+    }
+    if a.key < b.key {
+        return true;
+    }
+    false
+}
+
+fn store_point(p: usize, load: usize, worth: Worth, points: &mut [u64])
+    requires { ⌜ suc p * 3 ≤ length (now points) ⌝ }
+    ensures { λ _. ⌜ now (points .exit) ≡ withPoint (now (points .entry)) p load worth ⌝ }
+{
+    points[p * WIDTH] = load as u64;
+    points[p * WIDTH + 1] = worth.cost;
+    points[p * WIDTH + 2] = worth.key;
+}
+
+// The entries that come before all of smaller load become points, from the point `from` on. Answers where they end.
+fn sweep(capacity: usize, from: usize, costs: &[u64], keys: &[u64], points: &mut [u64]) -> usize
+    requires { ⌜ Long capacity (now costs) (now keys) ⌝ }
+    requires { ⌜ (from + suc capacity) * 3 ≤ length (now points) ⌝ }
+    ensures { λ r. ⌜ Swept capacity from (now (costs .entry)) (now (keys .entry)) (now (points .entry)) (now (points .exit)) r ⌝ }
+{
+    let mut best = Worth {
+        cost: NO_COST,
+        key: 0,
+    };
+    let mut to = from;
+    let mut u = 0;
+    while u <= capacity {
+        let worth = entry(costs, keys, u);
+        if comes_first(worth, best) {
+            store_point(to, u, worth, points);
+            best = worth;
+            to += 1;
+        }
+        u += 1;
+    }
+    to
+}
