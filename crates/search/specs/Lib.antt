@@ -32,6 +32,9 @@ pub mod SpreadItems
 pub mod Sweep
 pub mod PointLaws
 pub mod SweepLaws
+pub mod ListedSets
+pub mod ListedSetLaws
+pub mod ListedSetSteps
 pub mod RowWords
 pub mod RelaxedRows
 pub mod RelaxedItems

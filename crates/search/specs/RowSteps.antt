@@ -37,7 +37,7 @@ atLevel-same : (item : Item) (places : ℕ) (f g : ℕ → Value) (w l : ℕ) �
 unfolding atLevel
 atLevel-same item places f g w l same = rw (same (w - item .load l) (omega arith))
 
-withItem-same : (levels : ℕ) (item : Item) (places : ℕ) (f g : ℕ → Value) (w : ℕ) → ((u : ℕ) → u ≤ w → f u ≡ g u) →
+pub withItem-same : (levels : ℕ) (item : Item) (places : ℕ) (f g : ℕ → Value) (w : ℕ) → ((u : ℕ) → u ≤ w → f u ≡ g u) →
     withItem levels item places f w ≡ withItem levels item places g w
 unfolding withItem
 withItem-same levels item places f g w same =

@@ -1,0 +1,118 @@
+-- The sets with an item are listed one after the other.
+use Prim.Native.Nat.{ℕ, zero, suc, _+_, _*_, _-_, _^_, _≤_, _<_}
+use mathlib.Core.Path.{_≡_, refl, sym, ap, _∙_}
+use mathlib.Core.Logic.{_⊎_, inl, inr, _≢_}
+use mathlib.Core.Bool.{true, false}
+use mathlib.Core.List.{List}
+use native.Mathlib.Nat.{le-refl, eq-or-lt-of-le, pow-suc, zero-add, add-zero}
+use native.Mathlib.Omega.{arith}
+use Rattle.laws.specs.Below.{below-suc}
+use lib.ListN.{length, getD, set, length-set}
+use lib.Pow.{pow-pos}
+use lib.Seq.{getD-set-same, getD-set-other}
+use Rattle.search.specs.FrontRows.{rowBefore-first, rowBefore-items}
+use Rattle.search.specs.Listed.{Falling, pointAt, leastListed, PointSmall, Listed, SetsListed}
+use Rattle.search.specs.ListedSets.{SetFits, SetAdded, SetsFit, SetsGoing}
+use Rattle.search.specs.Offered.{rowItem}
+use Rattle.search.specs.PointLaws.{listed-older}
+use Rattle.search.specs.Rows.{keyBase}
+use Rattle.search.specs.RowSteps.{withItem, rowBefore, withItem-same}
+use Rattle.search.specs.Spread.{ItemFits, ItemSpread}
+use Rattle.search.specs.SpreadItems.{small-alone}
+use Rattle.search.specs.Sweep.{Older, Swept}
+use Rattle.search.specs.Values.{Value}
+use Rattle.search.specs.declared.row.Choice.{Choice}
+use Rattle.search.specs.declared.row.Core.{Core}
+use Rattle.search.specs.declared.row.Front.{Front}
+
+-- what is spread and swept is listed
+pub set-added : {core : Core} {front : Front} {from to used end : ℕ} {load cost points₀ points costs keys : List ℕ} →
+    ItemSpread core front from to load cost points₀ (core .levels) costs keys →
+    Swept (core .capacity) used costs keys points₀ points end →
+    SetAdded core front from to used load cost points₀ points end
+unfolding withItem
+set-added spread swept =
+    record {
+      older = swept .older;
+      few = swept .few;
+      listed = λ n places sum small.
+          let list = swept .listed (suc n) places (spread .sound n places sum small) in
+          record {
+            ordered = list .ordered;
+            there = list .there;
+            least = λ rest falling w under. list .least rest falling w under ∙ spread .least rest w under;
+            small = list .small;
+          };
+    }
+
+module _ (levels first n places : ℕ) (load cost : List ℕ) {k : ℕ} (there : k < 2 ^ n) (rest : ℕ → Value) where
+  -- the items behind the first, counted from the first and from the one after it
+  behind-first :
+      rowBefore levels (λ i. rowItem load cost (first + suc i)) n places k rest
+      ≡ rowBefore levels (λ i. rowItem load cost (suc first + i)) n places k rest
+  behind-first =
+      rowBefore-items levels _ _ n places k rest
+      (λ i h. let same : first + suc i ≡ suc first + i = omega arith in rw same)
+
+  first-absent :
+      rowBefore levels (λ i. rowItem load cost (first + i)) (suc n) places k rest
+      ≡ rowBefore levels (λ i. rowItem load cost (suc first + i)) n places k rest
+  first-absent =
+      (rw zero-add at (rowBefore-first levels (λ i. rowItem load cost (first + i)) n places k rest false there)) ∙ behind-first
+
+  first-present :
+      rowBefore levels (λ i. rowItem load cost (first + i)) (suc n) places (2 ^ n + k) rest
+      ≡ withItem levels (rowItem load cost first) (n + places) (rowBefore levels (λ i. rowItem load cost (suc first + i)) n places k rest)
+  first-present =
+      (rw add-zero at (rowBefore-first levels (λ i. rowItem load cost (first + i)) n places k rest true there))
+      ∙ ap (withItem levels (rowItem load cost first) (n + places)) behind-first
+
+-- a choice of n items is one of n + 1 that leaves out the first
+small-for-more : {capacity n places : ℕ} {point : Choice} → PointSmall capacity n places point → PointSmall capacity (suc n) places point
+unfolding keyBase
+small-for-more {n = n} {places} small =
+    let more : suc n + places ≡ suc (n + places) = omega arith in
+    let larger = ap (λ (m : ℕ). keyBase ^ m) more in
+    record {
+      fits = small .fits;
+      cheap = omega (arith, small .cheap);
+      digits = omega (arith, small .digits, larger, pow-suc keyBase (n + places));
+    }
+
+module _ (core : Core) (load cost : List ℕ) where
+  -- the row of set number k of n items from `first` on
+  abbrev setRow : (first n places k : ℕ) → (ℕ → Value) → ℕ → Value
+  setRow first n places k = rowBefore (core .levels) (λ i. rowItem load cost (first + i)) n places k
+
+  pub listed-absent : (first k : ℕ) {n places from to : ℕ} {points : List ℕ} → k < 2 ^ n →
+      Listed (core .capacity) n places (setRow (suc first) n places k) points from to →
+      Listed (core .capacity) (suc n) places (setRow first (suc n) places k) points from to
+  listed-absent first k {n} {places} there list =
+      record {
+        ordered = list .ordered;
+        there = list .there;
+        least = λ rest falling w under.
+            list .least rest falling w under
+            ∙ sym (ap (λ (f : ℕ → Value). f w) (first-absent (core .levels) first n places load cost there rest));
+        small = λ p after below. small-for-more (list .small p after below);
+      }
+
+  pub listed-present : (front : Front) (k : ℕ) {n places from to used end : ℕ} {points₀ points : List ℕ} → n + places ≡ front .places →
+      k < 2 ^ n → Listed (core .capacity) n places (setRow (suc (front .item)) n places k) points₀ from to →
+      SetAdded core front from to used load cost points₀ points end →
+      Listed (core .capacity) (suc n) places (setRow (front .item) (suc n) places (2 ^ n + k)) points used end
+  listed-present front k {n} {places} {from} {to} {points₀ = points₀} sum there list added =
+      let new = added .listed n places sum (list .small) in
+      record {
+        ordered = new .ordered;
+        there = new .there;
+        least = λ rest falling w under.
+            new .least rest falling w under
+            ∙ withItem-same (core .levels) (rowItem load cost (front .item)) (front .places) _ _ w
+            (λ u below. list .least rest falling u (omega arith))
+            ∙ ap
+            (λ (m : ℕ). withItem (core .levels) (rowItem load cost (front .item)) m (setRow (suc (front .item)) n places k rest) w)
+            (sym sum)
+            ∙ sym (ap (λ (f : ℕ → Value). f w) (first-present (core .levels) (front .item) n places load cost there rest));
+        small = new .small;
+      }
