@@ -12,7 +12,7 @@ use lib.Pow.{pow-pos}
 use lib.Seq.{getD-set-same, getD-set-other}
 use Rattle.search.specs.FrontRows.{rowBefore-first, rowBefore-items}
 use Rattle.search.specs.Listed.{Falling, pointAt, leastListed, PointSmall, Listed, SetsListed}
-use Rattle.search.specs.ListedSets.{SetFits, SetAdded, SetsFit, SetsGoing}
+use Rattle.search.specs.ListedSets.{SetAdded}
 use Rattle.search.specs.Offered.{rowItem}
 use Rattle.search.specs.PointLaws.{listed-older}
 use Rattle.search.specs.Rows.{keyBase}

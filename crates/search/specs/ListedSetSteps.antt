@@ -2,15 +2,16 @@
 use Prim.Native.Nat.{ℕ, zero, suc, _+_, _*_, _-_, _^_, _≤_, _<_}
 use mathlib.Core.Path.{_≡_, refl, sym, ap, _∙_}
 use mathlib.Core.Logic.{_⊎_, inl, inr}
+use mathlib.Core.Bool.{Bool, true, false, not}
 use mathlib.Core.List.{List}
-use native.Mathlib.Nat.{le-refl, eq-or-lt-of-le, pow-suc, add-zero}
+use native.Mathlib.Nat.{le-refl, eq-or-lt-of-le, pow-suc, pow-le-pow-right, add-zero}
 use native.Mathlib.Omega.{arith}
 use Rattle.laws.specs.Below.{below-suc}
 use lib.ListN.{length, getD, set, length-set}
 use lib.Pow.{pow-pos}
 use lib.Seq.{getD-set-same, getD-set-other}
 use Rattle.search.specs.Listed.{pointAt, PointSmall, Listed, SetsListed}
-use Rattle.search.specs.ListedSets.{mostPoints, SetAdded, SetsFit, SetsGoing}
+use Rattle.search.specs.ListedSets.{mostPoints, SetFits, SetAdded, SetsRoom, WithItem, SetsFit, SetsGoing, NextFits}
 use Rattle.search.specs.ListedSetLaws.{listed-absent, listed-present}
 use Rattle.search.specs.Offered.{rowItem}
 use Rattle.search.specs.PointLaws.{listed-older}
@@ -20,6 +21,11 @@ use Rattle.search.specs.SpreadItems.{small-alone}
 use Rattle.search.specs.Sweep.{Older}
 use Rattle.search.specs.declared.row.Core.{Core}
 use Rattle.search.specs.declared.row.Front.{Front}
+
+-- the other answer of a test for "not"
+pub not-not : (answer : Bool) → not answer ≡ false → answer ≡ true
+not-not true e = refl
+not-not false e = sym e
 
 rises : (f : ℕ → ℕ) (upto j : ℕ) → ((k : ℕ) → k < upto → f k ≤ f (suc k)) → j ≤ upto → f j ≤ f upto
 rises f zero j each le = let is : j ≡ 0 = omega arith in rw is (le-refl (f 0))
@@ -78,36 +84,75 @@ module _ {core : Core} {front : Front} {count : ℕ} {load cost : List ℕ} wher
             };
       }
 
-  module _ (count-behind : count ≤ front .places) {k : ℕ} (there : k < 2 ^ count) {points starts : List ℕ}
-      (going : SetsGoing core front count load cost k points starts) where
+  -- the lengths alone matter
+  pub room-stays : {points starts points' starts' : List ℕ} → length points' ≡ length points → length starts' ≡ length starts →
+      SetsRoom core front count load cost points starts → SetsRoom core front count load cost points' starts'
+  room-stays same-points same-starts room =
+      record {
+        affordable = room .affordable;
+        places-limited = room .places-limited;
+        digit-is = room .digit-is;
+        count-behind = room .count-behind;
+        starts-long = omega (arith, room .starts-long);
+        points-long = same-points ∙ room .points-long;
+      }
+
+  module _ {k : ℕ} {points starts costs keys : List ℕ} (fits : NextFits core front count k load cost points starts costs keys) where
     sum : count + (front .places - count) ≡ front .places
-    sum = omega arith
+    sum = omega (arith, fits .room .count-behind)
 
-    pub list-small : (p : ℕ) → getD starts k 0 ≤ p → p < getD starts (suc k) 0 →
-        PointSmall (core .capacity) (front .places) 0 (pointAt points p)
-    list-small p after below =
-        rw sum at (small-alone (going .behind .each k there .small p after below))
+    pub place-there : suc (2 ^ count + k) < length starts
+    place-there = omega (arith, fits .there, fits .room .starts-long, pow-suc 2 count)
 
-    pub sets-step : {points' : List ℕ} {end : ℕ} → suc (2 ^ count + k) < length starts →
+    pub place-small : suc (2 ^ count + k) ≤ 8192
+    place-small =
+        let some-digit : 0 < 2 = omega arith in
+        let less : count ≤ 12 = omega (arith, fits .room .count-behind, fits .room .places-limited) in
+        let few : 2 ^ count ≤ 2 ^ 12 = pow-le-pow-right some-digit less in
+        omega (arith, fits .there)
+
+    pub used-there : getD starts (2 ^ count + k) 0 ≤ mostPoints
+    used-there = omega (arith, last-there (fits .going .sofar) (omega (arith, pow-pos count)), fits .room .points-long)
+
+    pub set-fits : core .capacity < mostPoints - getD starts (2 ^ count + k) 0 →
+        SetFits core front (getD starts k 0) (getD starts (suc k) 0) (getD starts (2 ^ count + k) 0) load cost points costs keys
+    set-fits free =
+        let list = fits .going .behind .each k (fits .there) in
+        record {
+          item =
+              record {
+                affordable = fits .room .affordable;
+                places-limited = fits .room .places-limited;
+                digit-is = fits .room .digit-is;
+                ordered = list .ordered;
+                there = list .there;
+                small = λ p after below. rw sum at (small-alone (list .small p after below));
+              };
+          room = omega (arith, fits .room .points-long);
+          long = fits .long;
+        }
+
+    pub sets-step : {points' : List ℕ} {end : ℕ} →
         SetAdded core front (getD starts k 0) (getD starts (suc k) 0) (getD starts (2 ^ count + k) 0) load cost points points' end →
         SetsGoing core front count load cost (suc k) points' (set starts (suc (2 ^ count + k)) end)
-    sets-step {points'} {end} room added =
+    sets-step {points'} {end} added =
+        let going = fits .going in
         record {
           behind = sets-stay (going .behind) end (added .older) (ends-before (going .sofar) (2 ^ count) (omega arith)) (omega arith);
           sofar =
               let more : 2 ^ count + suc k ≡ suc (2 ^ count + k) = omega arith in
               rw more
               (sets-more (sets-stay (going .sofar) end (added .older) (le-refl _) (omega arith))
-              (omega (arith, length-set starts (suc (2 ^ count + k)) end))
+              (omega (arith, place-there, length-set starts (suc (2 ^ count + k)) end))
               (rw (
                 getD-set-other starts (suc (2 ^ count + k)) (2 ^ count + k) end 0 (λ same. absurd (omega arith)),
-                getD-set-same starts (suc (2 ^ count + k)) end 0 room,
+                getD-set-same starts (suc (2 ^ count + k)) end 0 place-there,
               )
-              (listed-present core load cost front k sum there (going .behind .each k there) added)));
+              (listed-present core load cost front k sum (fits .there) (going .behind .each k (fits .there)) added)));
         }
 
   pub sets-done : {points starts : List ℕ} → SetsGoing core front count load cost (2 ^ count) points starts →
-      SetsListed core load cost (front .item) (suc count) (front .places - count) (2 ^ suc count) points starts
+      WithItem core front count load cost points starts
   sets-done going =
       let all : 2 ^ suc count ≡ 2 ^ count + 2 ^ count = omega (arith, pow-suc 2 count) in
       rw all (going .sofar)

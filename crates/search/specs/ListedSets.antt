@@ -32,17 +32,36 @@ pub record SetAdded (core : Core) (front : Front) (from to used : ℕ) (load cos
       (λ rest. withItem (core .levels) (rowItem load cost (front .item)) (front .places) (leastListed points₀ from (to - from) rest))
       points used end
 
--- an item in front of `count` others, whose sets are listed
-pub record SetsFit (core : Core) (front : Front) (count : ℕ) (load cost points starts : List ℕ) : Type 0 where
+-- an item in front of `count` others and the `places` behind these, and room for the lists of all sets of these and the item
+pub record SetsRoom (core : Core) (front : Front) (count : ℕ) (load cost points starts : List ℕ) : Type 0 where
   pub affordable : Affordable (suc (front .item)) (core .levels) (core .capacity) load cost
   pub places-limited : front .places < mostItems
   pub digit-is : front .digit ≡ keyBase ^ front .places
   pub count-behind : count ≤ front .places
   pub starts-long : 2 ^ suc count < length starts
   pub points-long : length points ≡ mostPoints * 3
-  pub behind : SetsListed core load cost (suc (front .item)) count (front .places - count) (2 ^ count) points starts
+
+-- the sets without the item are listed
+abbrev pub Without : Core → Front → ℕ → (load cost points starts : List ℕ) → Type 0
+Without core front count load cost =
+    SetsListed core load cost (suc (front .item)) count (front .places - count) (2 ^ count)
+
+-- and those with it
+abbrev pub WithItem : Core → Front → ℕ → (load cost points starts : List ℕ) → Type 0
+WithItem core front count load cost =
+    SetsListed core load cost (front .item) (suc count) (front .places - count) (2 ^ suc count)
+
+pub record SetsFit (core : Core) (front : Front) (count : ℕ) (load cost points starts : List ℕ) : Type 0 where
+  pub room : SetsRoom core front count load cost points starts
+  pub behind : Without core front count load cost points starts
 
 -- the sets without the item, and k of those with it
 pub record SetsGoing (core : Core) (front : Front) (count : ℕ) (load cost : List ℕ) (k : ℕ) (points starts : List ℕ) : Type 0 where
-  pub behind : SetsListed core load cost (suc (front .item)) count (front .places - count) (2 ^ count) points starts
+  pub behind : Without core front count load cost points starts
   pub sofar : SetsListed core load cost (front .item) (suc count) (front .places - count) (2 ^ count + k) points starts
+
+pub record NextFits (core : Core) (front : Front) (count k : ℕ) (load cost points starts costs keys : List ℕ) : Type 0 where
+  pub room : SetsRoom core front count load cost points starts
+  pub going : SetsGoing core front count load cost k points starts
+  pub there : k < 2 ^ count
+  pub long : Long (core .capacity) costs keys

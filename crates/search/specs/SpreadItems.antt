@@ -5,16 +5,16 @@ use mathlib.Core.List.{List}
 use native.Mathlib.Nat.{pow-suc, pow-zero, one-le-pow, add-zero, mul-le-mul-right}
 use native.Mathlib.Omega.{arith}
 use borrow.Author.Tests.{lt-leb}
-use lib.ListN.{length, getD, set}
+use lib.ListN.{length, getD, set, replicate, length-replicate}
 use lib.Seq.{getD-set-same, getD-set-other}
 use Rattle.laws.specs.Below.{below-suc}
 use Rattle.search.specs.LeastLaws.{lesser-none, none-lesser, leastBelow-none}
 use Rattle.search.specs.Listed.{before, pointAt, leastListed, PointSmall}
-use Rattle.search.specs.Offered.{mostLevels, mostCost, entryOf, itemAt, rowItem}
+use Rattle.search.specs.Offered.{mostLevels, mostCapacity, mostCost, entryOf, itemAt, rowItem}
 use Rattle.search.specs.RelaxedItems.{choiceOf, ChoiceFits, digit-fits, level-fits}
 use Rattle.search.specs.Rows.{keyBase, atLevel}
 use Rattle.search.specs.Splits.{entryAt}
-use Rattle.search.specs.Spread.{valueBefore, leastSpread, leastSums, Sound, absent, present, SumsSmall, LevelSpread, ItemFits, Cleared, ItemSpread}
+use Rattle.search.specs.Spread.{valueBefore, leastSpread, leastSums, Sound, absent, present, Long, SumsSmall, LevelSpread, ItemFits, Cleared, ItemSpread}
 use Rattle.search.specs.SpreadLaws.{none-before, leastSums-is}
 use Rattle.search.specs.Values.{Value, none, pair, add, lesser, leastBelow}
 use Rattle.search.specs.Words.{noCost, words-none}
@@ -31,6 +31,14 @@ small-alone {n = n} {places} small =
       fits = small .fits;
       cheap = omega (arith, small .cheap);
       digits = rw (pow-zero, add-zero) (omega (arith, small .digits, one-le-pow places keyBase (omega arith)));
+    }
+
+pub rows-long : (c k : ℕ) {capacity : ℕ} → capacity ≤ mostCapacity →
+    Long capacity (replicate (suc mostCapacity) c) (replicate (suc mostCapacity) k)
+rows-long c k under =
+    record {
+      costs-to-capacity = omega (arith, length-replicate (suc mostCapacity) c);
+      keys-to-capacity = omega (arith, length-replicate (suc mostCapacity) k);
     }
 
 pub cleared-more : (costs : List ℕ) (u : ℕ) → u < length costs → ((v : ℕ) → v < u → getD costs v 0 ≡ noCost) →

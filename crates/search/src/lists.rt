@@ -1,20 +1,27 @@
 // The choices of levels for each set of the first few items, as lists: only choices are left out that another one beats,
 // whatever stands behind.
 use crate::partition::lower;
+use crate::powers::sets_of;
 use crate::row::Choice;
 use crate::row::Core;
+use crate::row::ENTRIES;
 use crate::row::Front;
 use crate::row::choice_at;
 use crate::row::entry;
 use crate::value::NO_COST;
 use crate::value::Worth;
 ghost use mathlib.Core.Path.{_≡_};
-ghost use Prim.Native.Nat.{ℕ, suc, _+_, _*_, _≤_, _<_};
+ghost use mathlib.Core.Bool.{true};
+ghost use Prim.Native.Nat.{suc, _+_, _*_, _-_, _^_, _≤_, _<_};
 ghost use lib.ListN.{length};
 ghost use Rattle.search.specs.Limits.{Tells};
 ghost use Rattle.search.specs.Listed.{pointAt};
+ghost use Rattle.search.specs.ListedSets.{NextFits, SetAdded, SetFits, SetsFit, SetsGoing, WithItem};
 ghost use Rattle.search.specs.Spread.{Cleared, ItemFits, ItemSpread, LevelSpread, Long, SumsSmall};
 ghost use Rattle.search.specs.Sweep.{First, Swept, withPoint};
+
+// As many points are there for all lists.
+pub(crate) const POINTS: usize = 12288;
 
 // Three numbers make a point: a load, a cost and a key.
 const WIDTH: usize = 3;
@@ -148,4 +155,129 @@ fn sweep(capacity: usize, from: usize, costs: &[u64], keys: &[u64], points: &mut
         u += 1;
     }
     to
+}
+
+// The list of a set with the item, behind the first `used` points, from that of the set without it. Answers where it ends.
+fn list_set(
+    core: Core,
+    front: Front,
+    from: usize,
+    to: usize,
+    used: usize,
+    load: &[u64],
+    cost: &[u64],
+    points: &mut [u64],
+    costs: &mut [u64],
+    keys: &mut [u64],
+) -> usize
+    requires { ⌜ SetFits core front from to used (now load) (now cost) (now points) (now costs) (now keys) ⌝ }
+    ensures { λ r. ⌜ SetAdded core front from to used (now (load .entry)) (now (cost .entry)) (now (points .entry)) (now (points .exit)) r ⌝ }
+{
+    clear(core.capacity, costs);
+    spread_item(core, front, from, to, load, cost, points, costs, keys);
+    sweep(core.capacity, used, costs, keys, points)
+}
+
+// The list of the set with the item and set number k of the `count` items behind it. Answers whether there is room for it.
+fn list_next(
+    core: Core,
+    front: Front,
+    count: usize,
+    k: usize,
+    load: &[u64],
+    cost: &[u64],
+    points: &mut [u64],
+    starts: &mut [usize],
+    costs: &mut [u64],
+    keys: &mut [u64],
+) -> bool
+    requires { ⌜ NextFits core front count k (now load) (now cost) (now points) (now starts) (now costs) (now keys) ⌝ }
+    ensures { λ r. ⌜ (r ≡ true → SetsGoing core front count (now (load .entry)) (now (cost .entry)) (suc k)
+        (now (points .exit)) (now (starts .exit))) ⌝ }
+{
+    let at = sets_of(count) + k;
+    let used = starts[at];
+    if POINTS - used <= core.capacity {
+        return false;
+    }
+    let end = list_set(
+        core,
+        front,
+        starts[k],
+        starts[k + 1],
+        used,
+        load,
+        cost,
+        points,
+        costs,
+        keys,
+    );
+    starts[at + 1] = end;
+    true
+}
+
+// The lists of all sets with the item, from those of the sets of the `count` items behind it. Answers whether they fit.
+fn list_each(
+    core: Core,
+    front: Front,
+    count: usize,
+    load: &[u64],
+    cost: &[u64],
+    points: &mut [u64],
+    starts: &mut [usize],
+    costs: &mut [u64],
+    keys: &mut [u64],
+) -> bool
+    requires { ⌜ SetsFit core front count (now load) (now cost) (now points) (now starts) ⌝ }
+    requires { ⌜ Long (core .capacity) (now costs) (now keys) ⌝ }
+    ensures { λ r. ⌜ (r ≡ true → WithItem core front count (now (load .entry)) (now (cost .entry)) (now (points .exit)) (now (starts .exit))) ⌝ }
+{
+    let sets = sets_of(count);
+    let mut k = 0;
+    while k < sets {
+        if !list_next(
+            core,
+            front,
+            count,
+            k,
+            load,
+            cost,
+            points,
+            starts,
+            costs,
+            keys,
+        ) {
+            return false;
+        }
+        k += 1;
+    }
+    true
+}
+
+// The same, with entries to spread choices over.
+fn list_sets(
+    core: Core,
+    front: Front,
+    count: usize,
+    load: &[u64],
+    cost: &[u64],
+    points: &mut [u64],
+    starts: &mut [usize],
+) -> bool
+    requires { ⌜ SetsFit core front count (now load) (now cost) (now points) (now starts) ⌝ }
+    ensures { λ r. ⌜ (r ≡ true → WithItem core front count (now (load .entry)) (now (cost .entry)) (now (points .exit)) (now (starts .exit))) ⌝ }
+{
+    let mut costs = [NO_COST; ENTRIES];
+    let mut keys = [0u64; ENTRIES];
+    list_each(
+        core,
+        front,
+        count,
+        load,
+        cost,
+        points,
+        starts,
+        &mut costs,
+        &mut keys,
+    )
 }
