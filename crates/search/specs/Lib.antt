@@ -35,6 +35,7 @@ pub mod SweepLaws
 pub mod ListedSets
 pub mod ListedSetLaws
 pub mod ListedSetSteps
+pub mod ListedFront
 pub mod RowWords
 pub mod RelaxedRows
 pub mod RelaxedItems

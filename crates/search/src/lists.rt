@@ -1,6 +1,7 @@
 // The choices of levels for each set of the first few items, as lists: only choices are left out that another one beats,
 // whatever stands behind.
 use crate::partition::lower;
+use crate::powers::keys_of;
 use crate::powers::sets_of;
 use crate::row::Choice;
 use crate::row::Core;
@@ -13,12 +14,17 @@ use crate::value::Worth;
 ghost use mathlib.Core.Path.{_≡_};
 ghost use mathlib.Core.Bool.{true};
 ghost use Prim.Native.Nat.{suc, _+_, _*_, _-_, _^_, _≤_, _<_};
-ghost use lib.ListN.{length};
+ghost use lib.ListN.{length, set};
 ghost use Rattle.search.specs.Limits.{Tells};
-ghost use Rattle.search.specs.Listed.{pointAt};
+ghost use Rattle.search.specs.Listed.{FrontListed, pointAt};
+ghost use Rattle.search.specs.ListedFront.{frontAt, ListsFit, nothing};
 ghost use Rattle.search.specs.ListedSets.{NextFits, SetAdded, SetFits, SetsFit, SetsGoing, WithItem};
+ghost use Rattle.search.specs.Offered.{Affordable};
 ghost use Rattle.search.specs.Spread.{Cleared, ItemFits, ItemSpread, LevelSpread, Long, SumsSmall};
 ghost use Rattle.search.specs.Sweep.{First, Swept, withPoint};
+
+// At most so many items have lists.
+const MOST_LISTED: usize = 6;
 
 // As many points are there for all lists.
 pub(crate) const POINTS: usize = 12288;
@@ -280,4 +286,90 @@ fn list_sets(
         &mut costs,
         &mut keys,
     )
+}
+
+// The one set of no item, with the one choice of nothing.
+fn list_none(points: &mut [u64], starts: &mut [usize])
+    requires { ⌜ 3 ≤ length (now points) ⌝ }
+    requires { ⌜ 1 < length (now starts) ⌝ }
+    ensures { λ _. ⌜ now (points .exit) ≡ withPoint (now (points .entry)) 0 0 nothing ⌝ }
+    ensures { λ _. ⌜ now (starts .exit) ≡ set (set (now (starts .entry)) 0 0) 1 1 ⌝ }
+{
+    let nothing = Worth { cost: 0, key: 0 };
+    store_point(0, 0, nothing, points);
+    starts[0] = 0;
+    starts[1] = 1;
+}
+
+// The item before the last c of the first n of all items.
+fn front_at(n: usize, c: usize, items: usize) -> Front
+    requires { ⌜ (c < n) × (n ≤ items) × (items ≤ 12) ⌝ }
+    ensures { λ r. ⌜ r ≡ frontAt n c items ⌝ }
+{
+    let places = items - n + c;
+    Front {
+        item: n - 1 - c,
+        places,
+        digit: keys_of(places),
+    }
+}
+
+// The lists of all sets of the first n items. Answers whether they fit.
+fn list_items(
+    core: Core,
+    n: usize,
+    items: usize,
+    load: &[u64],
+    cost: &[u64],
+    points: &mut [u64],
+    starts: &mut [usize],
+) -> bool
+    requires { ⌜ ListsFit core n items (now load) (now cost) (now points) (now starts) ⌝ }
+    ensures { λ r. ⌜ (r ≡ true → FrontListed core (now (load .entry)) (now (cost .entry)) n (items - n) (now (points .exit)) (now (starts .exit))) ⌝ }
+    ensures { λ r. ⌜ (n ≡ 0 → r ≡ true) ⌝ }
+{
+    list_none(points, starts);
+    let mut c = 0;
+    while c < n {
+        let front = front_at(n, c, items);
+        if !list_sets(core, front, c, load, cost, points, starts) {
+            return false;
+        }
+        c += 1;
+    }
+    true
+}
+
+fn most_listed(items: usize) -> usize
+    ensures { λ r. ⌜ (r ≤ items) × (r ≤ 6) ⌝ }
+{
+    if items < MOST_LISTED {
+        return items;
+    }
+    MOST_LISTED
+}
+
+// The lists of all sets of as many of the first items as fit. Answers how many these are.
+pub(crate) fn list_front(
+    core: Core,
+    items: usize,
+    load: &[u64],
+    cost: &[u64],
+    points: &mut [u64],
+    starts: &mut [usize],
+) -> usize
+    requires { ⌜ items ≤ 12 ⌝ }
+    requires { ⌜ Affordable items (core .levels) (core .capacity) (now load) (now cost) ⌝ }
+    requires { ⌜ length (now points) ≡ 36864 ⌝ }
+    requires { ⌜ length (now starts) ≡ 65 ⌝ }
+    ensures { λ r. ⌜ (r ≤ items) × (r ≤ 6) ⌝ }
+    ensures { λ r. ⌜ FrontListed core (now (load .entry)) (now (cost .entry)) r (items - r) (now (points .exit)) (now (starts .exit)) ⌝ }
+{
+    let mut n = most_listed(items);
+    let mut listed = list_items(core, n, items, load, cost, points, starts);
+    while !listed {
+        n -= 1;
+        listed = list_items(core, n, items, load, cost, points, starts);
+    }
+    n
 }
