@@ -1,6 +1,7 @@
 pub mod Assignment
 pub mod Values
 pub mod ValueLaws
+pub mod LeastLaws
 pub mod Words
 pub mod Worths
 pub mod Sets
@@ -13,6 +14,7 @@ pub mod KeepingLaws
 pub mod RowLaws
 pub mod Peeling
 pub mod PartitionLaws
+pub mod Halves
 pub mod ChoiceLaws
 pub mod KeyLaws
 pub mod Cheapest
@@ -22,7 +24,6 @@ pub mod Offered
 pub mod RowSteps
 pub mod SetNumberLaws
 pub mod FrontRows
-pub mod LeastLaws
 pub mod Listed
 pub mod FallingLaws
 pub mod Spread
