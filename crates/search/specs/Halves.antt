@@ -28,7 +28,7 @@ leastSplit-parts (true ∷ S) same =
     ap₂ lesser (leastSplit-parts S (λ T R p. same (true ∷ T) (false ∷ R) (first p)))
     (leastSplit-parts S (λ T R p. same (false ∷ T) (true ∷ R) (second p)))
 
-lesser-exchange : (a b c d : Value) → lesser (lesser a b) (lesser c d) ≡ lesser (lesser a c) (lesser b d)
+pub lesser-exchange : (a b c d : Value) → lesser (lesser a b) (lesser c d) ≡ lesser (lesser a c) (lesser b d)
 lesser-exchange a b c d =
     lesser-assoc a b (lesser c d)
     ∙ ap (lesser a) (sym (lesser-assoc b c d) ∙ ap (λ (u : Value). lesser u d) (lesser-swap b c) ∙ lesser-assoc c b d)
@@ -87,7 +87,7 @@ leastSplit-assoc (true ∷ S) f =
     in-third : List Bool → List Bool → List Bool → Value
     in-third T U X = f (false ∷ T) (false ∷ U) (true ∷ X)
 
-add-assoc : (u v w : Value) → add u (add v w) ≡ add (add u v) w
+pub add-assoc : (u v w : Value) → add u (add v w) ≡ add (add u v) w
 unfolding add
 add-assoc none v w = refl
 add-assoc (pair a x) none w = refl

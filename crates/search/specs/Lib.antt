@@ -15,6 +15,8 @@ pub mod RowLaws
 pub mod Peeling
 pub mod PartitionLaws
 pub mod Halves
+pub mod Refusing
+pub mod RefusingLaws
 pub mod ChoiceLaws
 pub mod KeyLaws
 pub mod Cheapest
