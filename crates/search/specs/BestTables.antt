@@ -26,7 +26,7 @@ use Rattle.search.specs.CoreLaws.{leastSplit-same}
 
 -- the table of a value for each set of n items, as the rows and the partition fill it
 abbrev pub TableOf : ℕ → (List Bool → Value) → List ℕ → List ℕ → Type 0
-TableOf n = Tabled n (n * mostCost) (keyBase ^ n)
+TableOf n = Tabled n (keyBase ^ n)
 
 -- what the search is given: few items, choices below the key base, and no level that fits above `mostCost`
 pub record Searchable (o : Options) (n : ℕ) : Type 0 where
@@ -137,7 +137,7 @@ module _ {o : Options} {n : ℕ} (given : Searchable o n) {rows rowKeys : List �
             added .holds S of-items ∙ leastSplit-same S (λ T R t r. split-value T R (t ∙ of-items) (r ∙ of-items))
 
         cost-bound : (x : ℕ) → (getD costs' x 0 < noCost) ⊎ ((getD costs' x 0 ≡ noCost) × (getD keys' x 0 ≡ 0)) →
-            getD costs' x 0 ≤ noCost + n * mostCost
+            getD costs' x 0 ≤ noCost
         cost-bound x (inl real) = omega arith
         cost-bound x (inr (none, no-key)) = omega arith
 

@@ -1,92 +1,170 @@
--- The code's choice is the chosen value, where the table holds the best value of every set.
-use Prim.Native.Nat.{ℕ, zero, suc, pred, _+_, _*_, _^_, _≤_, _<_}
+-- The code's choice is the chosen value, where the tables hold the best values of all sets on either half of the cores.
+use Prim.Native.Nat.{ℕ, suc, pred, _+_, _*_, _^_, _≤_, _<_}
 use mathlib.Core.Path.{_≡_, refl, sym, ap, ap₂, _∙_}
-use mathlib.Core.Bool.{Bool, true, false, cond}
-use mathlib.Core.List.{List, [], _∷_}
-use native.Mathlib.Nat.{zero-add, add-zero, add-assoc}
+use mathlib.Core.Bool.{Bool}
+use mathlib.Core.List.{List}
+use native.Mathlib.Nat.{mul-le-mul-right}
 use native.Mathlib.Omega.{arith}
 use lib.ListN.{length, getD}
+use Rattle.laws.specs.JoinedLaws.{length-listOf}
 use Rattle.search.specs.Assignment.{Item, Options}
-use Rattle.search.specs.Values.{Value, none, pair, add, lesser, Within}
-use Rattle.search.specs.Words.{noCost, valueOf, words-pair, words-add}
+use Rattle.search.specs.Values.{Value, pair, add}
 use Rattle.search.specs.Rows.{keyBase}
-use Rattle.search.specs.Partition.{bestOf}
-use Rattle.search.specs.Choice.{leastHolding, refusals, chosen}
-use Rattle.search.specs.OfferedLaws.{listFrom, listOf-from}
-use Rattle.search.specs.Offered.{mostCost, itemAt, itemsOf}
+use Rattle.search.specs.RowWords.{Small}
+use Rattle.search.specs.SetLaws.{numbered}
 use Rattle.search.specs.Sets.{setNumber}
-use Rattle.search.specs.BestTables.{TableOf, Searchable, real-entry, best-is-small}
-use Rattle.search.specs.Holding.{chosenFrom}
+use Rattle.search.specs.Splits.{entryAt}
+use Rattle.search.specs.Partition.{weight, best}
+use Rattle.search.specs.Choice.{chosen}
+use Rattle.search.specs.Moves.{digitSum, WeightsBelow}
+use Rattle.search.specs.MoveLaws.{weight-is-digits}
+use Rattle.search.specs.CoreLaws.{leastSplit-same, room-for-sets}
+use Rattle.search.specs.Halves.{moved}
+use Rattle.search.specs.Refusing.{every, refusing}
+use Rattle.search.specs.RefusingLaws.{refusing-same, chosen-on-one, chosen-in-halves}
+use Rattle.search.specs.RefusedTables.{itemsFrom}
+use Rattle.search.specs.HalvesTables.{SmallTable, OneReady, HalvesReady, keptBest, leastOnOne, leastOverHalves}
+use Rattle.search.specs.HalvesLaws.{every-length}
+use Rattle.search.specs.Offered.{itemAt, itemsOf, offered}
+use Rattle.search.specs.OfferedLaws.{listFrom, listOf-from}
+use Rattle.search.specs.BestTables.{TableOf, Searchable, rowsOf, real-entry, best-is-small, best-of-one-core}
+use Rattle.search.specs.BestFilled.{RowsTabled, BestReady}
+use Rattle.search.specs.Found.{optionsOf}
+use Rattle.search.specs.FoundLaws.{searchable}
+use Rattle.search.specs.Limits.{OfferLimited}
+use Rattle.search.specs.declared.Shape.{Shape}
 
-leastHolding-same : {f g : List Bool → Value} (items : List Item) →
-    ((S : List Bool) → length S ≡ length items → f S ≡ g S) → leastHolding items f ≡ leastHolding items g
-unfolding leastHolding
-leastHolding-same [] same = same [] refl
-leastHolding-same (item ∷ items) same =
-    ap₂ lesser
-    (ap (cond (item .must) none) (leastHolding-same items (λ S h. same (false ∷ S) (ap suc h))))
-    (leastHolding-same items (λ S h. same (true ∷ S) (ap suc h)))
+-- the rows of what is offered
+pub record RowsOffered (shape : Shape) (load cost refusal : List ℕ) (must : List Bool) (rows rowKeys : List ℕ) : Type 0 where
+  pub offer : OfferLimited shape load cost refusal must
+  pub held : TableOf (shape .items) (rowsOf (optionsOf shape load cost refusal must)) rows rowKeys
 
-module _ (load cost refusal : List ℕ) (must : List Bool) where
-  items-from : ℕ → ℕ → List Item
-  items-from = listFrom (itemAt load cost refusal must)
+pub record RowsReady (shape : Shape) (refusal : List ℕ) (must : List Bool) (rows rowKeys : List ℕ) : Type 0 where
+  pub load : List ℕ
+  pub cost : List ℕ
+  pub rows-offered : RowsOffered shape load cost refusal must rows rowKeys
 
-  chosen-over-items : (costs keys : List ℕ) (k i s refused : ℕ) →
-      chosenFrom refusal must costs keys k i s refused
-      ≡ leastHolding (items-from i k)
-      (λ S. valueOf (getD costs (s + setNumber k S) 0 + (refused + refusals (items-from i k) S)) (getD keys (s + setNumber k S) 0))
-  unfolding chosenFrom leastHolding refusals setNumber listFrom itemAt items-from
-  chosen-over-items costs keys zero i s refused = rw (add-zero s, add-zero refused)
-  chosen-over-items costs keys (suc k) i s refused =
-      ap₂ lesser
-      (ap (cond (getD must i false) none) (chosen-over-items costs keys k (suc i) s (refused + getD refusal i 0) ∙ simp (zero-add, add-assoc)))
-      (chosen-over-items costs keys k (suc i) (s + 2 ^ k) refused ∙ simp (zero-add, add-assoc))
+module _ {shape : Shape} {load cost refusal : List ℕ} {must : List Bool} {rows rowKeys : List ℕ}
+    (rows-are : RowsOffered shape load cost refusal must rows rowKeys) where
+  given : Searchable (optionsOf shape load cost refusal must) (shape .items)
+  given = searchable (rows-are .offer .limits)
 
-  refusals-small : (k i : ℕ) → ((j : ℕ) → j < k → getD refusal (i + j) 0 ≤ mostCost) → (S : List Bool) →
-      refusals (items-from i k) S ≤ k * mostCost
-  unfolding refusals listFrom itemAt items-from
-  refusals-small zero i small S = omega arith
-  refusals-small (suc k) i small [] = omega arith
-  refusals-small (suc k) i small (b ∷ S) = go b (refusals-small k (suc i) later S)
+  pub rows-tabled : {cores : ℕ} → cores ≤ shape .cores →
+      RowsTabled (optionsOf shape load cost refusal must) (shape .items) (shape .levels) cores rows rowKeys
+  unfolding optionsOf offered
+  rows-tabled le = record { given = given; same-levels = refl; in-range = le; held = rows-are .held }
+
+  pub best-ready : {cores : ℕ} {weights costs keys : List ℕ} → 1 ≤ cores → cores ≤ shape .cores →
+      4096 ≤ length weights → WeightsBelow (shape .items) (2 ^ shape .items) weights → 4096 ≤ length costs → 4096 ≤ length keys →
+      BestReady (shape .items) (shape .levels) cores weights rows rowKeys costs keys
+  best-ready some le room right costs-room keys-room =
+      let few = room-for-sets (given .few-items) in
+      record {
+        options = optionsOf shape load cost refusal must;
+        tabled = rows-tabled le;
+        some-core = some;
+        weights-for-all = omega arith;
+        weights-right = right;
+        costs-for-all = omega arith;
+        keys-for-all = omega arith;
+      }
+
+  -- no half has more choices than there are digits
+  pub few-choices : {cores : ℕ} → cores ≤ shape .cores → cores * shape .levels < keyBase
+  unfolding optionsOf offered
+  few-choices le = omega (arith, given .few-choices, mul-le-mul-right (shape .levels) le)
+
+  module _ {c : ℕ} (in-range : suc c ≤ shape .cores) {costs keys : List ℕ}
+      (held : TableOf (shape .items) (best (optionsOf shape load cost refusal must) c) costs keys) where
+    small-at : (x : ℕ) → x < 2 ^ shape .items → Small (shape .items) (getD costs x 0) (getD keys x 0)
+    unfolding optionsOf offered
+    small-at x h =
+        let s = numbered (shape .items) x h in
+        record {
+          at-most-none = held .cost-bound x h;
+          real = λ real.
+              rw (s .number) at (real-entry held (s .set) (s .of-items) (best-is-small given c in-range (s .set)) (rw (s .number) real)) .0;
+          digits = held .key-bound x h;
+        }
+
+    pub small-table : SmallTable (shape .items) costs keys
+    small-table = record { costs-for-all = held .costs-for-all; keys-for-all = held .marks-for-all; small = small-at }
+
+    pub one-ready : OneReady (shape .items) refusal must costs keys
+    one-ready =
+        let limits = rows-are .offer .limits in
+        record {
+          few-items = given .few-items;
+          refusals-long = limits .long-enough .refusals-for-all;
+          musts-long = limits .long-enough .musts-for-all;
+          refusal-bound = limits .refusals-limited;
+          table = small-table;
+        }
+
+    -- keeping what is best, by the table
+    kept-best : (R : List Bool) →
+        keptBest (shape .items) load cost refusal must costs keys R
+        ≡ refusing (optionsOf shape load cost refusal must .items) (best (optionsOf shape load cost refusal must) c) R
+    unfolding keptBest optionsOf offered itemsOf entryAt
+    kept-best R =
+        let item = itemAt load cost refusal must in
+        let n = shape .items in
+        let counted : length (listFrom item 0 n) ≡ n = ap length (sym (listOf-from item n)) ∙ length-listOf item n in
+        refusing-same (listFrom item 0 n) (λ S h. held .holds S (h ∙ counted)) R
+        ∙ ap (λ (items : List Item). refusing items (best (optionsOf shape load cost refusal must) c) R) (sym (listOf-from item n))
+
+  pub halves-ready : {below : ℕ} {weights tops topKeys costs keys : List ℕ} → below ≤ shape .cores →
+      4096 ≤ length weights → WeightsBelow (shape .items) (2 ^ shape .items) weights →
+      SmallTable (shape .items) tops topKeys → OneReady (shape .items) refusal must costs keys →
+      HalvesReady (shape .items) (below * shape .levels) weights tops topKeys refusal must costs keys
+  halves-ready le room right small lower =
+      let few = room-for-sets (given .few-items) in
+      record {
+        small-shift = few-choices le;
+        weights-for-all = omega arith;
+        weights-right = right;
+        top-table = small;
+        lower = lower;
+      }
+
+  -- the rows are the values on one core
+  pub rows-best : TableOf (shape .items) (best (optionsOf shape load cost refusal must) 0) rows rowKeys
+  rows-best = best-of-one-core given (rows-are .held)
+
+  pub one-core-chosen : {costs keys : List ℕ} → shape .cores ≡ 1 →
+      TableOf (shape .items) (best (optionsOf shape load cost refusal must) 0) costs keys →
+      leastOnOne (shape .items) load cost refusal must costs keys ≡ chosen (optionsOf shape load cost refusal must)
+  unfolding optionsOf offered
+  one-core-chosen one held =
+      let some : 1 ≤ shape .cores = omega arith in
+      kept-best some held (every (shape .items))
+      ∙ sym (chosen-on-one (optionsOf shape load cost refusal must) one ∙ rw (given .items-counted))
+
+  pub halves-chosen : {below above : ℕ} {tops topKeys costs keys : List ℕ} → 1 ≤ below → 1 ≤ above → shape .cores ≡ below + above →
+      TableOf (shape .items) (best (optionsOf shape load cost refusal must) (pred above)) tops topKeys →
+      TableOf (shape .items) (best (optionsOf shape load cost refusal must) (pred below)) costs keys →
+      leastOverHalves (shape .items) (below * shape .levels) tops topKeys load cost refusal must costs keys
+      ≡ chosen (optionsOf shape load cost refusal must)
+  unfolding leastOverHalves optionsOf offered moved entryAt
+  halves-chosen {below} {above} {tops} {topKeys} {costs} {keys} some-below some-above counted tops-held held =
+      let o = optionsOf shape load cost refusal must in
+      let both : shape .cores ≡ suc (pred below) + suc (pred above) = omega arith in
+      leastSplit-same (every (shape .items)) (λ U R u r. same U R (u ∙ every-length (shape .items)))
+      ∙ sym (chosen-in-halves o (pred below) (pred above) both ∙ rw (given .items-counted))
     where
-      later : (j : ℕ) → j < k → getD refusal (suc i + j) 0 ≤ mostCost
-      later j h = let at : i + suc j ≡ suc i + j = omega arith in rw at at (small (suc j) (omega arith))
+      key : (U : List Bool) →
+          below * shape .levels * digitSum keyBase (shape .items) U
+          ≡ suc (pred below) * shape .levels * weight (optionsOf shape load cost refusal must .items) U
+      key U =
+          let counted-below : suc (pred below) ≡ below = omega arith in
+          let digits = weight-is-digits (optionsOf shape load cost refusal must .items) U in
+          rw (counted-below, digits, given .items-counted)
 
-      go : {rest : ℕ} (b : Bool) → rest ≤ k * mostCost → cond b 0 (getD refusal i 0) + rest ≤ suc k * mostCost
-      go true le = omega arith
-      go false le = let first = rw add-zero at (small 0 (omega arith)) in omega arith
-
-  module _ {o : Options} {n : ℕ} (given : Searchable o n) (items-are : o .items ≡ itemsOf load cost refusal must n)
-      {costs keys : List ℕ} (held : TableOf n (bestOf o) costs keys)
-      (small : (j : ℕ) → j < n → getD refusal j 0 ≤ mostCost) where
-    items-counted-from : items-from 0 n ≡ o .items
-    unfolding itemsOf items-from
-    items-counted-from = sym (items-are ∙ listOf-from (itemAt load cost refusal must) n)
-
-    refused-small : (S : List Bool) → refusals (o .items) S ≤ n * mostCost
-    refused-small S = rw (← items-counted-from) (refusals-small n 0 (λ j h. rw zero-add (small j h)) S)
-
-    best-small : (S : List Bool) → Within (n * mostCost) (keyBase ^ n) (bestOf o S)
-    unfolding bestOf
-    best-small S = let some = given .some-core in best-is-small given (pred (o .cores)) (omega arith) S
-
-    -- the best value of a set, with the refusals of the others
-    with-refusals : (S : List Bool) → length S ≡ n →
-        valueOf (getD costs (0 + setNumber n S) 0 + (0 + refusals (o .items) S)) (getD keys (0 + setNumber n S) 0)
-        ≡ add (pair (refusals (o .items) S) 0) (bestOf o S)
-    with-refusals S of-items =
-        let r = refusals (o .items) S in
-        let a = getD costs (setNumber n S) 0 in
-        let x = getD keys (setNumber n S) 0 in
-        let few = given .few-items in
-        let refused = refused-small S in
-        let real : r < noCost → a < noCost → r + a < noCost = λ p q. omega (arith, real-entry held S of-items (best-small S) q) in
-        rw (zero-add (setNumber n S), zero-add r)
-        (ap₂ valueOf (omega arith) (sym (zero-add x))
-        ∙ sym (ap₂ add (sym (words-pair r 0 (omega arith))) (sym (held .holds S of-items)) ∙ words-add r 0 a x real))
-
-    pub chosen-of-table : chosenFrom refusal must costs keys n 0 0 0 ≡ chosen o
-    unfolding chosen
-    chosen-of-table =
-        chosen-over-items costs keys n 0 0 0
-        ∙ rw items-counted-from (leastHolding-same (o .items) (λ S h. with-refusals S (h ∙ given .items-counted)))
+      same : (U R : List Bool) → length U ≡ shape .items →
+          add (add (pair 0 (below * shape .levels * digitSum keyBase (shape .items) U)) (entryAt tops topKeys (setNumber (shape .items) U)))
+          (keptBest (shape .items) load cost refusal must costs keys R)
+          ≡ add (moved (optionsOf shape load cost refusal must) (suc (pred below)) (best (optionsOf shape load cost refusal must) (pred above)) U)
+          (refusing (optionsOf shape load cost refusal must .items) (best (optionsOf shape load cost refusal must) (pred below)) R)
+      same U R u =
+          let in-range : suc (pred below) ≤ shape .cores = omega arith in
+          ap₂ add (ap₂ add (ap (pair 0) (key U)) (tops-held .holds U u)) (kept-best in-range held R)

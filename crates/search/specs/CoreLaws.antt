@@ -19,7 +19,7 @@ use Rattle.search.specs.Rows.{keyBase}
 use Rattle.search.specs.Sets.{setNumber}
 use Rattle.search.specs.SetLaws.{setNumber-below, numbered}
 use Rattle.search.specs.Partition.{leastSplit}
-use Rattle.search.specs.Splits.{entryAt, sumAt, leastFrom, LoweredFrom, SplitsReady}
+use Rattle.search.specs.Splits.{entryAt, sumAt, leastFrom, LoweredFrom, SumsReady, SplitsReady}
 use Rattle.search.specs.Moves.{digitSum, movedKey, MovesFit}
 use Rattle.search.specs.MoveLaws.{digits-below}
 use Rattle.search.specs.Cores.{CoreReady, splitSum, CoreAdded}
@@ -61,10 +61,8 @@ module _ {n shift : ℕ} {weights rows rowKeys costs keys : List ℕ}
     unfolding movedKey
     moved-at x h = rw is-moved (getD-onto-listOf (movedKey shift weights rowKeys) buffer (2 ^ n) x 0 h)
 
-    pub splits-ready : {next nextKeys : List ℕ} → 4096 ≤ length next → 4096 ≤ length nextKeys →
-        SplitsReady (2 ^ n) 0 0 0 rows moved costs keys next nextKeys
-    splits-ready room key-room =
-        let few = room-for-sets (ready .few-items) in
+    pub sums-ready : SumsReady (2 ^ n) 0 0 rows moved costs keys
+    sums-ready =
         record {
           sets = record { exponent = n; is-power = refl };
           costs-fit = record {
@@ -78,8 +76,6 @@ module _ {n shift : ℕ} {weights rows rowKeys costs keys : List ℕ}
             rests-long = omega (arith, ready .rest-table .keys-for-all);
             sums-fit = moved-sums;
           };
-          costs-long = omega arith;
-          keys-long = omega arith;
         }
       where
         moved-long : 0 + 2 ^ n ≤ length moved
@@ -93,8 +89,20 @@ module _ {n shift : ℕ} {weights rows rowKeys costs keys : List ℕ}
             rw (zero-add x, zero-add y, moved-at x h)
             (omega (arith, shift-of x h, ready .row-table .key-bound x h, ready .rest-table .key-bound y j, keys-fit (ready .few-items)))
 
+    pub splits-ready : {next nextKeys : List ℕ} → 4096 ≤ length next → 4096 ≤ length nextKeys →
+        SplitsReady (2 ^ n) 0 0 0 rows moved costs keys next nextKeys
+    splits-ready room key-room =
+        let few = room-for-sets (ready .few-items) in
+        record {
+          sets = sums-ready .sets;
+          costs-fit = sums-ready .costs-fit;
+          keys-fit = sums-ready .keys-fit;
+          costs-long = omega arith;
+          keys-long = omega arith;
+        }
+
     -- what the sums of the code are
-    sums-same : (S : List Bool) → length S ≡ n →
+    pub sums-same : (S : List Bool) → length S ≡ n →
         leastFrom n (sumAt rows moved costs keys) 0 0 S ≡ leastSplit S (splitSum n shift rows rowKeys costs keys)
     unfolding leastFrom sumAt splitSum
     sums-same S of-items = leastSplit-same S same

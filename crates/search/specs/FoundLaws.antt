@@ -4,14 +4,12 @@ use mathlib.Core.Path.{_≡_, refl, sym, _∙_}
 use mathlib.Core.Logic.{inl, inr}
 use mathlib.Core.Bool.{Bool}
 use mathlib.Core.List.{List}
-use native.Mathlib.Nat.{zero-add}
 use native.Mathlib.Omega.{arith}
 use lib.ListN.{length}
 use Rattle.search.specs.Assignment.{Options, totalCost, Allowed, Best}
 use Rattle.search.specs.Values.{pair, Attained}
 use Rattle.search.specs.Words.{noCost, valueOf, words-none, words-pair}
 use Rattle.search.specs.Rows.{keyBase}
-use Rattle.search.specs.Partition.{bestOf}
 use Rattle.search.specs.Choice.{chosen, digits}
 use Rattle.search.specs.ChoiceLaws.{kept-set, chosen-least}
 use Rattle.search.specs.Keeping.{planKey, planWorth}
@@ -19,11 +17,9 @@ use Rattle.search.specs.KeyLaws.{keeps-in-base, key-below}
 use Rattle.search.specs.SearchTheorem.{BestAnswers, search-finds-best}
 use Rattle.search.specs.Offered.{Affordable, offered}
 use Rattle.search.specs.OfferedLaws.{offered-searchable}
+use Rattle.search.specs.BestTables.{Searchable}
 use Rattle.search.specs.CoreLaws.{room-for-sets}
-use Rattle.search.specs.BestTables.{TableOf, Searchable}
-use Rattle.search.specs.BestFilled.{BestFits}
-use Rattle.search.specs.Holding.{chosenFrom, HoldingReady}
-use Rattle.search.specs.ChosenTables.{chosen-of-table}
+use Rattle.search.specs.TabledRows.{RowsFit}
 use Rattle.search.specs.Limits.{WithinLimits}
 use Rattle.search.specs.Found.{optionsOf}
 use Rattle.search.specs.declared.Shape.{Shape}
@@ -71,37 +67,13 @@ module _ {shape : Shape} {load cost refusal : List ℕ} {must : List Bool} {plan
       offered-searchable load cost refusal must (limits .shape-limited .items) (limits .shape-limited .some-core)
       (limits .shape-limited .cores) affordable
 
-  pub best-fits : {costs keys : List ℕ} → length costs ≡ 4096 → length keys ≡ 4096 → BestFits shape load cost costs keys
-  best-fits as-long keys-as-long =
-      let room = room-for-sets (limits .shape-limited .items) in
+  pub rows-fit : {costs keys : List ℕ} → 4096 ≤ length costs → 4096 ≤ length keys →
+      RowsFit (shape .items) (shape .levels) (shape .capacity) load cost costs keys
+  rows-fit room key-room =
+      let few = room-for-sets (limits .shape-limited .items) in
       record {
         items-limited = limits .shape-limited .items;
-        some-core = limits .shape-limited .some-core;
-        cores-limited = limits .shape-limited .cores;
         affordable = affordable;
         costs-for-all = omega arith;
         keys-for-all = omega arith;
       }
-
-  module _ {costs keys : List ℕ} (held : TableOf (shape .items) (bestOf (optionsOf shape load cost refusal must)) costs keys) where
-    pub holding-ready : {size : ℕ} → size ≡ 2 ^ shape .items → HoldingReady size 0 0 0 refusal must costs keys
-    holding-ready {size} all =
-        record {
-          left = shape .items;
-          is-power = all;
-          refusals-long = omega (arith, limits .long-enough .refusals-for-all);
-          musts-long = omega (arith, limits .long-enough .musts-for-all);
-          costs-long = omega (arith, held .costs-for-all);
-          keys-long = omega (arith, held .marks-for-all);
-          cost-bound = λ x h.
-              let few = limits .shape-limited .items in
-              let under : x < 2 ^ shape .items = omega arith in
-              rw zero-add (omega (arith, held .cost-bound x under));
-          refusal-bound = λ j h. rw zero-add (limits .refusals-limited j h);
-          refused-bound = let few = limits .shape-limited .items in omega arith;
-        }
-
-    pub chosen-is : (w key : ℕ) → valueOf w key ≡ chosenFrom refusal must costs keys (shape .items) 0 0 0 →
-        valueOf w key ≡ chosen (optionsOf shape load cost refusal must)
-    unfolding optionsOf offered
-    chosen-is w key is = is ∙ chosen-of-table load cost refusal must searchable refl held (limits .refusals-limited)

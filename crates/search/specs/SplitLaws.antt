@@ -16,7 +16,7 @@ use Rattle.search.specs.Partition.{leastSplit}
 use Rattle.search.specs.Splits.{entryAt, leastFrom, NoDearer, Kept, Lowered, LoweredFrom, PowerOfTwo, SumsFit, SplitsReady}
 
 module _ (sum : ℕ → ℕ → Value) (t r : ℕ) where
-  leastFrom-nothing : leastFrom 0 sum t r [] ≡ sum t r
+  pub leastFrom-nothing : leastFrom 0 sum t r [] ≡ sum t r
   unfolding leastFrom leastSplit setNumber
   leastFrom-nothing = rw (add-zero t, add-zero r)
 
@@ -24,12 +24,12 @@ module _ (sum : ℕ → ℕ → Value) (t r : ℕ) where
   unfolding leastFrom leastSplit setNumber
   leastFrom-neither k S = simp zero-add
 
-  leastFrom-either : (k : ℕ) (S : List Bool) →
+  pub leastFrom-either : (k : ℕ) (S : List Bool) →
       leastFrom (suc k) sum t r (true ∷ S) ≡ lesser (leastFrom k sum (t + 2 ^ k) r S) (leastFrom k sum t (r + 2 ^ k) S)
   unfolding leastFrom leastSplit setNumber
   leastFrom-either k S = simp (zero-add, add-assoc)
 
-no-dearer-trans : {c k c' k' c'' k'' : List ℕ} → NoDearer c k c' k' → NoDearer c' k' c'' k'' → NoDearer c k c'' k''
+pub no-dearer-trans : {c k c' k' c'' k'' : List ℕ} → NoDearer c k c' k' → NoDearer c' k' c'' k'' → NoDearer c k c'' k''
 no-dearer-trans {c} {k} {c'} {k'} {c''} {k''} p q = record { at = λ x. go x (p .at x) (q .at x) }
   where
     go : (x : ℕ) → (getD c' x 0 < getD c x 0) ⊎ ((getD c' x 0 ≡ getD c x 0) × (getD k' x 0 ≤ getD k x 0)) →
@@ -40,7 +40,7 @@ no-dearer-trans {c} {k} {c'} {k'} {c''} {k''} p q = record { at = λ x. go x (p 
     go x (inr a) (inl b) = inl (omega arith)
     go x (inr a) (inr b) = inr (omega arith)
 
-kept-entry : {c k c' k' : List ℕ} {x : ℕ} → Kept c k c' k' x → entryAt c' k' x ≡ entryAt c k x
+pub kept-entry : {c k c' k' : List ℕ} {x : ℕ} → Kept c k c' k' x → entryAt c' k' x ≡ entryAt c k x
 unfolding entryAt
 kept-entry kept = rw (kept .cost, kept .key)
 
@@ -135,6 +135,21 @@ first-sums-fit {t = t} {r} sets fit =
     let all = sets .is-power in
     rw (add-zero t, add-zero r) at (fit .sums-fit 0 0 (omega arith) (omega arith))
 
+pub half-fits : {size t r t' r' : ℕ} {tops rests : List ℕ} → SumsFit size t r tops rests → t ≤ t' → t' + size / 2 ≤ t + size →
+    r ≤ r' → r' + size / 2 ≤ r + size → SumsFit (size / 2) t' r' tops rests
+half-fits {size} {t} {r} {t'} {r'} {tops} {rests} fit from-t to-t from-r to-r =
+    record {
+      tops-long = omega (arith, fit .tops-long);
+      rests-long = omega (arith, fit .rests-long);
+      sums-fit = sums;
+    }
+  where
+    sums : (x y : ℕ) → x < size / 2 → y < size / 2 → getD tops (t' + x) 0 + getD rests (r' + y) 0 < 2 ^ 64
+    sums x y h j =
+        let at-t : t + (t' - t + x) ≡ t' + x = omega arith in
+        let at-r : r + (r' - r + y) ≡ r' + y = omega arith in
+        rw (at-t, at-r) at (fit .sums-fit (t' - t + x) (r' - r + y) (omega arith) (omega arith))
+
 module _ {size s t r : ℕ} {tops topKeys rests restKeys costs keys : List ℕ}
     (ready : SplitsReady size s t r tops topKeys rests restKeys costs keys) (more : size ≢ 1) where
   some-sets : 0 < size
@@ -142,21 +157,6 @@ module _ {size s t r : ℕ} {tops topKeys rests restKeys costs keys : List ℕ}
 
   pub half-below : size / 2 < size
   half-below = let some = some-sets in omega arith
-
-  half-fits : {tops' rests' : List ℕ} {t' r' : ℕ} → SumsFit size t r tops' rests' → t ≤ t' → t' + size / 2 ≤ t + size →
-      r ≤ r' → r' + size / 2 ≤ r + size → SumsFit (size / 2) t' r' tops' rests'
-  half-fits {tops'} {rests'} {t'} {r'} fit from-t to-t from-r to-r =
-      record {
-        tops-long = omega (arith, fit .tops-long);
-        rests-long = omega (arith, fit .rests-long);
-        sums-fit = sums;
-      }
-    where
-      sums : (x y : ℕ) → x < size / 2 → y < size / 2 → getD tops' (t' + x) 0 + getD rests' (r' + y) 0 < 2 ^ 64
-      sums x y h j =
-          let at-t : t + (t' - t + x) ≡ t' + x = omega arith in
-          let at-r : r + (r' - r + y) ≡ r' + y = omega arith in
-          rw (at-t, at-r) at (fit .sums-fit (t' - t + x) (r' - r + y) (omega arith) (omega arith))
 
   pub half-ready : {costs' keys' : List ℕ} (s' t' r' : ℕ) → (s ≤ s') × (s' + size / 2 ≤ s + size) →
       (t ≤ t') × (t' + size / 2 ≤ t + size) → (r ≤ r') × (r' + size / 2 ≤ r + size) →

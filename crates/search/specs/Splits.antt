@@ -57,6 +57,12 @@ pub record SumsFit (size t r : ℕ) (tops rests : List ℕ) : Type 0 where
   pub rests-long : r + size ≤ length rests
   pub sums-fit : (x y : ℕ) → x < size → y < size → getD tops (t + x) 0 + getD rests (r + y) 0 < 2 ^ 64
 
+-- what the least sum over the splits of all of the last items asks
+pub record SumsReady (size t r : ℕ) (tops topKeys rests restKeys : List ℕ) : Type 0 where
+  pub sets : PowerOfTwo size
+  pub costs-fit : SumsFit size t r tops rests
+  pub keys-fit : SumsFit size t r topKeys restKeys
+
 -- what lowering the entries of `size` sets asks
 pub record SplitsReady (size s t r : ℕ) (tops topKeys rests restKeys costs keys : List ℕ) : Type 0 where
   pub sets : PowerOfTwo size

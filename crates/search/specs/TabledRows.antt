@@ -1,5 +1,5 @@
 -- The branch of all sets: what filling it asks for, and that the filled tables hold the row of every set.
-use Prim.Native.Nat.{ℕ, _*_, _-_, _^_, _≤_, _<_}
+use Prim.Native.Nat.{ℕ, _-_, _^_, _≤_, _<_}
 use mathlib.Core.Path.{_≡_, refl, ap, _∙_}
 use mathlib.Core.Bool.{Bool}
 use mathlib.Core.List.{List}
@@ -9,7 +9,7 @@ use lib.ListN.{length, getD}
 use Rattle.search.specs.Branches.{BranchFits}
 use Rattle.search.specs.FallingLaws.{falling-flat}
 use Rattle.search.specs.Listed.{FrontListed}
-use Rattle.search.specs.Offered.{mostItems, mostCost, Affordable, rowItem, itemsOf}
+use Rattle.search.specs.Offered.{mostItems, Affordable, rowItem, itemsOf}
 use Rattle.search.specs.FilledTables.{Holds, Filled, filled-same}
 use Rattle.search.specs.RelaxedItems.{FlatRow}
 use Rattle.search.specs.Rows.{keyBase, row}
@@ -74,7 +74,7 @@ module _ {n levels capacity : ℕ} {load cost costs₀ keys₀ emptyCosts emptyK
         rw (mul-one x, add-zero x, add-zero n) at (at-last .entries x under)
 
     pub all-sets-tabled : length costs ≡ length costs₀ → length keys ≡ length keys₀ → (refusal : List ℕ) (must : List Bool) →
-        Tabled n (n * mostCost) (keyBase ^ n) (λ S. row levels (itemsOf load cost refusal must n) S capacity) costs keys
+        Tabled n (keyBase ^ n) (λ S. row levels (itemsOf load cost refusal must n) S capacity) costs keys
     all-sets-tabled same-costs same-keys refusal must =
         record {
           costs-for-all = rw same-costs (fit .costs-for-all);

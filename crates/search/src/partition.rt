@@ -167,7 +167,7 @@ pub(crate) fn fill_weights(items: usize, weights: &mut [u64])
 }
 
 // The keys of the rows on another core, where each choice is larger by `shift`.
-fn move_keys(items: usize, shift: u64, weights: &[u64], keys: &[u64], moved: &mut [u64])
+pub(crate) fn move_keys(items: usize, shift: u64, weights: &[u64], keys: &[u64], moved: &mut [u64])
     requires { ⌜ items ≤ 12 ⌝ }
     requires { ⌜ MovesFit items shift (now weights) (now keys) ⌝ }
     requires { ⌜ 2 ^ items ≤ length (now moved) ⌝ }

@@ -12,7 +12,7 @@ ghost use mathlib.Core.List.{List};
 ghost use mathlib.Core.Path.{_≡_};
 ghost use Prim.Native.Nat.{ℕ, _*_, _^_};
 ghost use Rattle.search.specs.Branches.{BranchFilled, BranchFits, NextFits, nextItem, withoutNext, withNext};
-ghost use Rattle.search.specs.Offered.{itemsOf, mostCost};
+ghost use Rattle.search.specs.Offered.{itemsOf};
 ghost use Rattle.search.specs.Rows.{keyBase, row};
 ghost use Rattle.search.specs.Sets.{Tabled};
 ghost use Rattle.search.specs.TabledRows.{RowsFit};
@@ -152,7 +152,7 @@ pub(crate) fn fill_rows(
 )
     requires { ⌜ RowsFit n levels capacity (now load) (now cost) (now costs) (now keys) ⌝ }
     ensures { λ _. ⌜ ((refusal : List ℕ) (must : List Bool) →
-        Tabled n (n * mostCost) (keyBase ^ n)
+        Tabled n (keyBase ^ n)
         (λ S. row levels (itemsOf (now (load .entry)) (now (cost .entry)) refusal must n) S capacity)
         (now (costs .exit)) (now (keys .exit))) ⌝ }
 {

@@ -1,50 +1,54 @@
--- `least_plan` chooses among the values of all sets on all cores.
-use mathlib.Core.Path.{refl}
+-- `least_plan` fills the rows, and takes the least value from them.
+use native.Mathlib.Nat.{le-refl}
 use denote.Ref.{now}
-use Rattle.search.specs.FoundLaws.{best-fits, holding-ready, chosen-is}
+use Rattle.search.specs.Found.{optionsOf}
+use Rattle.search.specs.FoundLaws.{rows-fit}
+use Rattle.search.specs.Offered.{offered}
 use borrow.Author.Needs.{needs}
 use Rattle.search.proofs.best.least_plan.Statement.{statement}
 use Rattle.search.proofs.best.least_plan.Tie as tie
 
-slice-aggregate-fill-best : tie.Need-slice-aggregate-fill-best
-slice-aggregate-fill-best c = search needs
+slice-aggregate-fill-rows : tie.Need-slice-aggregate-fill-rows
+slice-aggregate-fill-rows c = search needs
 
-slice-aggregate-fill-best-2 : tie.Need-slice-aggregate-fill-best-2
-slice-aggregate-fill-best-2 c = search needs
+slice-aggregate-fill-rows-2 : tie.Need-slice-aggregate-fill-rows-2
+slice-aggregate-fill-rows-2 c = search needs
 
-fill-best-requires : tie.Need-fill-best-requires
-fill-best-requires c κs = best-fits (c .before .before .before .before .before .before .pre .limits) refl refl
+fill-rows-requires : tie.Need-fill-rows-requires
+fill-rows-requires c κs =
+    rows-fit (c .before .before .before .before .before .before .pre .limits) (le-refl 4096) (le-refl 4096)
 
-sets-of-requires : tie.Need-sets-of-requires
-sets-of-requires c κs = search needs
+slice-aggregate-least-of-rows : tie.Need-slice-aggregate-least-of-rows
+slice-aggregate-least-of-rows c = search needs
 
-slice-aggregate-least-holding : tie.Need-slice-aggregate-least-holding
-slice-aggregate-least-holding c = search needs
+slice-aggregate-least-of-rows-2 : tie.Need-slice-aggregate-least-of-rows-2
+slice-aggregate-least-of-rows-2 c = search needs
 
-slice-aggregate-least-holding-2 : tie.Need-slice-aggregate-least-holding-2
-slice-aggregate-least-holding-2 c = search needs
-
-least-holding-requires : tie.Need-least-holding-requires
-least-holding-requires c κs =
-    let start = c .before .before .before .before .before .before .before .before .before .before .before .before in
-    holding-ready (start .pre .limits) (c .before .before .before .before .before .fill-best .ensures (now (start .args .refusal)) (now (start .args .must)))
-    (c .before .before .sets-of .ensures)
+least-of-rows-requires : tie.Need-least-of-rows-requires
+unfolding optionsOf offered
+least-of-rows-requires c κs =
+    let a = c .before .before .before .before .before .before .before .before .before .before .before .args in
+    record {
+      load = now (a .load);
+      cost = now (a .cost);
+      rows-offered = record { offer = c .before .before .before .before .before .before .before .before .before .before .before .pre; held = c .before .before .before .before .fill-rows .ensures (now (a .refusal)) (now (a .must)) };
+    }
 
 returns : tie.Need-returns
+unfolding optionsOf offered
 returns c =
-    let start = c .before .before .before .before .before .before .before .before .before .before .before .before .before in
-    chosen-is (start .pre .limits) (c .before .before .before .before .before .before .fill-best .ensures (now (start .args .refusal)) (now (start .args .must))) _ _
-    (c .least-holding .ensures (start .args .shape .items) (c .before .before .before .sets-of .ensures))
+    let a = c .before .before .before .before .before .before .before .before .before .before .before .before .args in
+    c .least-of-rows .ensures (now (a .load)) (now (a .cost))
+    record { offer = c .before .before .before .before .before .before .before .before .before .before .before .before .pre; held = c .before .before .before .before .before .fill-rows .ensures (now (a .refusal)) (now (a .must)) }
 
 pub least-plan-spec : {M : Type 1} → statement M
 least-plan-spec =
     tie.close
     (tie.spec
-    slice-aggregate-fill-best
-    slice-aggregate-fill-best-2
-    fill-best-requires
-    sets-of-requires
-    slice-aggregate-least-holding
-    slice-aggregate-least-holding-2
-    least-holding-requires
+    slice-aggregate-fill-rows
+    slice-aggregate-fill-rows-2
+    fill-rows-requires
+    slice-aggregate-least-of-rows
+    slice-aggregate-least-of-rows-2
+    least-of-rows-requires
     returns)
