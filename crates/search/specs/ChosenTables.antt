@@ -7,8 +7,8 @@ use native.Mathlib.Nat.{mul-le-mul-right}
 use native.Mathlib.Omega.{arith}
 use lib.ListN.{length, getD}
 use Rattle.laws.specs.JoinedLaws.{length-listOf}
-use Rattle.search.specs.Assignment.{Item, Options}
-use Rattle.search.specs.Values.{Value, pair, add}
+use Rattle.search.specs.Assignment.{Item}
+use Rattle.search.specs.Values.{pair, add}
 use Rattle.search.specs.Rows.{keyBase}
 use Rattle.search.specs.RowWords.{Small}
 use Rattle.search.specs.SetLaws.{numbered}
@@ -22,7 +22,6 @@ use Rattle.search.specs.CoreLaws.{leastSplit-same, room-for-sets}
 use Rattle.search.specs.Halves.{moved}
 use Rattle.search.specs.Refusing.{every, refusing}
 use Rattle.search.specs.RefusingLaws.{refusing-same, chosen-on-one, chosen-in-halves}
-use Rattle.search.specs.RefusedTables.{itemsFrom}
 use Rattle.search.specs.HalvesTables.{SmallTable, OneReady, HalvesReady, keptBest, leastOnOne, leastOverHalves}
 use Rattle.search.specs.HalvesLaws.{every-length}
 use Rattle.search.specs.Offered.{itemAt, itemsOf, offered}

@@ -1,6 +1,6 @@
 -- From the code's choice to the best plan.
 use Prim.Native.Nat.{ℕ, _^_, _≤_, _<_}
-use mathlib.Core.Path.{_≡_, refl, sym, _∙_}
+use mathlib.Core.Path.{_≡_, sym, _∙_}
 use mathlib.Core.Logic.{inl, inr}
 use mathlib.Core.Bool.{Bool}
 use mathlib.Core.List.{List}
@@ -15,7 +15,7 @@ use Rattle.search.specs.ChoiceLaws.{kept-set, chosen-least}
 use Rattle.search.specs.Keeping.{planKey, planWorth}
 use Rattle.search.specs.KeyLaws.{keeps-in-base, key-below}
 use Rattle.search.specs.SearchTheorem.{BestAnswers, search-finds-best}
-use Rattle.search.specs.Offered.{Affordable, offered}
+use Rattle.search.specs.Offered.{Affordable}
 use Rattle.search.specs.OfferedLaws.{offered-searchable}
 use Rattle.search.specs.BestTables.{Searchable}
 use Rattle.search.specs.CoreLaws.{room-for-sets}

@@ -9,7 +9,6 @@ use native.Mathlib.Omega.{arith}
 use lib.ListN.{length, getD}
 use lib.Pow.{pow-pos}
 use Rattle.laws.specs.Below.{lt-or-le}
-use Rattle.laws.specs.Lists.{listOf, onto}
 use Rattle.search.specs.Values.{Value, pair, add, Within, absent, present}
 use Rattle.search.specs.Words.{noCost, valueOf, words-none, words-pair, words-add, words-within}
 use Rattle.search.specs.Offered.{mostCost}
@@ -17,14 +16,14 @@ use Rattle.search.specs.Rows.{keyBase}
 use Rattle.search.specs.RowWords.{Small}
 use Rattle.search.specs.Sets.{setNumber}
 use Rattle.search.specs.SetLaws.{setNumber-below, numbered}
-use Rattle.search.specs.Splits.{entryAt, sumAt, leastFrom, NoDearer}
+use Rattle.search.specs.Splits.{entryAt, NoDearer}
 use Rattle.search.specs.Partition.{leastSplit}
-use Rattle.search.specs.Moves.{digitSum, movedKey}
+use Rattle.search.specs.Moves.{digitSum}
 use Rattle.search.specs.Cores.{SetTable, CoreReady, splitSum}
-use Rattle.search.specs.CoreLaws.{leastSplit-same, sums-same}
-use Rattle.search.specs.Refusing.{every, refusing}
+use Rattle.search.specs.CoreLaws.{leastSplit-same}
+use Rattle.search.specs.Refusing.{every}
 use Rattle.search.specs.RefusingLaws.{refusing-same}
-use Rattle.search.specs.RefusedTables.{itemsFrom, RefuseReady, RefusedFrom}
+use Rattle.search.specs.RefusedTables.{RefuseReady, RefusedFrom}
 use Rattle.search.specs.RefusedLaws.{refusing-within}
 use Rattle.search.specs.RefuseSteps.{no-dearer-cost}
 use Rattle.search.specs.HalvesTables.{SmallTable, OneReady, HalvesReady, keptBest, leastOnOne, leastOverHalves}

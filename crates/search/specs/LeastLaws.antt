@@ -10,9 +10,6 @@ use Rattle.search.specs.ValueLaws.{atMost-refl, atMost-antisym, add-mono
 pub lesser-none : (u : Value) → lesser u none ≡ u
 lesser-none u = lesser-is-first to-none
 
-pub none-lesser : (u : Value) → lesser none u ≡ u
-none-lesser u = lesser-is-second to-none
-
 pub in-order : (u v : Value) → AtMost u v ⊎ AtMost v u
 in-order u v = go (lesser-either u v)
   where

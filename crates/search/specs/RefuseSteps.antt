@@ -10,7 +10,7 @@ use native.Mathlib.Omega.{arith}
 use lib.ListN.{length, getD}
 use lib.Pow.{pow-pos}
 use Rattle.search.specs.Values.{Within}
-use Rattle.search.specs.Words.{noCost, words-within}
+use Rattle.search.specs.Words.{words-within}
 use Rattle.search.specs.Offered.{mostCost, itemAt}
 use Rattle.search.specs.OfferedLaws.{listFrom}
 use Rattle.search.specs.Sets.{setNumber}

@@ -1,27 +1,26 @@
 -- Refusing one item is lowering the sets with it one after the other; refusing items is refusing the first after the others.
-use Prim.Native.Nat.{ℕ, zero, suc, _+_, _-_, _*_, _/_, _^_, _≤_, _<_}
+use Prim.Native.Nat.{ℕ, zero, suc, _+_, _*_, _^_, _≤_, _<_}
 use mathlib.Core.Path.{_≡_, refl, sym, ap, ap₂, _∙_}
-use mathlib.Core.Logic.{_⊎_, inl, inr, _≢_}
+use mathlib.Core.Logic.{_⊎_, inl, inr}
 use mathlib.Core.Bool.{Bool, true, false, cond}
 use mathlib.Core.List.{List, [], _∷_}
-use native.Mathlib.Nat.{zero-add, add-zero, add-assoc, eq-or-lt-of-le, le-refl, pow-suc, suc-mul}
-use native.Mathlib.Numerals.{add-one}
+use native.Mathlib.Nat.{zero-add, add-zero, eq-or-lt-of-le, le-refl, pow-suc}
 use native.Mathlib.Omega.{arith}
 use lib.ListN.{length, getD}
 use Rattle.search.specs.Assignment.{Item}
 use Rattle.search.specs.Values.{Value, none, pair, add, lesser, Within, absent, present}
 use Rattle.search.specs.ValueLaws.{lesser-either}
 use Rattle.search.specs.LeastLaws.{lesser-none}
-use Rattle.search.specs.Words.{noCost, valueOf, words-pair, words-add, words-within}
+use Rattle.search.specs.Words.{noCost, valueOf, words-pair, words-add}
 use Rattle.search.specs.Offered.{mostCost, itemAt}
 use Rattle.search.specs.OfferedLaws.{listFrom}
 use Rattle.search.specs.Sets.{setNumber}
-use Rattle.search.specs.SetLaws.{setNumber-below, numbered}
+use Rattle.search.specs.SetLaws.{setNumber-below}
 use Rattle.search.specs.Splits.{entryAt, NoDearer, Kept, Lowered}
-use Rattle.search.specs.SplitLaws.{no-dearer-trans, kept-entry, half-is-power}
+use Rattle.search.specs.SplitLaws.{no-dearer-trans, kept-entry}
 use Rattle.search.specs.Refusing.{refusing}
 use Rattle.search.specs.RefusingLaws.{refusing-same}
-use Rattle.search.specs.RefusedTables.{itemsFrom, ItemReady, ItemRefused, RefuseReady, Refused}
+use Rattle.search.specs.RefusedTables.{itemsFrom, ItemReady, ItemRefused, Refused}
 
 kept-trans : {c k c' k' c'' k'' : List ℕ} {x : ℕ} → Kept c k c' k' x → Kept c' k' c'' k'' x → Kept c k c'' k'' x
 kept-trans p q = record { cost = q .cost ∙ p .cost; key = q .key ∙ p .key }

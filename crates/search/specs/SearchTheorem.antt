@@ -38,8 +38,8 @@ search-finds-best o some-core small =
     go none answer = answer
     go (pair cost key) (first, costs) = (record { allowed = first .has; no-worse = first .no-worse }, costs)
 
--- The same of the plans that keep exactly the items of a set and fit all cores: their costs are without refusals. The search
--- fills its table with these values, one for every set.
+-- The same of the plans that keep exactly the items of a set and fit all cores: their costs are without refusals. `fill_best`
+-- fills a table with these values, one for every set, for any number of cores; planning needs it for half of the cores only.
 pub search-finds-set : (o : Options) → 0 < o .cores → o .cores * o .levels < keyBase → (S : List Bool) →
     Answers (o .items) (RunsSet o S) (keptCost (o .levels) (o .items)) (bestOf o S)
 unfolding keptWorth

@@ -1,9 +1,8 @@
 -- `least_of_rows` fills the table of the lower cores; the upper cores have the rows, or the same table.
-use Prim.Native.Nat.{pred, _-_, _/_, _≤_}
+use Prim.Native.Nat.{pred, _-_, _/_}
 use mathlib.Core.Path.{_≡_, _∙_}
 use native.Mathlib.Nat.{le-refl}
 use native.Mathlib.Omega.{arith}
-use denote.Ref.{now}
 use Rattle.search.specs.Rows.{keyBase}
 use Rattle.search.specs.CoreLaws.{room-for-sets}
 use Rattle.search.specs.ChosenTables.{rows-tabled, best-ready, few-choices, small-table, one-ready, halves-ready, rows-best, one-core-chosen, halves-chosen}

@@ -1,6 +1,5 @@
 -- `least_over_halves` moves the keys of the upper cores, refuses in the table of the lower ones, and takes the least sum.
 use mathlib.Core.Path.{_∙_}
-use denote.Ref.{now}
 use lib.ListN.{replicate}
 use Rattle.search.specs.CoreLaws.{room-for-sets, moves-fit, sums-ready, sums-same}
 use Rattle.search.specs.HalvesLaws.{all-ready, every-length, small-sets, refused-table, halves-core, least-over-halves}

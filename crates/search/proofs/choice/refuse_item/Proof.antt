@@ -3,7 +3,6 @@ use Prim.Native.Nat.{_≤_, _-_}
 use mathlib.Core.Path.{_≡_, refl, _∙_}
 use native.Mathlib.Omega.{arith}
 use borrow.Author.Needs.{needs}
-use denote.Ref.{now}
 use lib.ListN.{length}
 use Rattle.search.specs.RefusedTables.{ItemRefused}
 use Rattle.search.specs.RefusedLaws.{no-set-yet, one-refusal-fits, one-more-set}
