@@ -5,10 +5,13 @@ use mathlib.Core.Logic.{_⊎_, inl, inr, _≢_}
 use native.Mathlib.Nat.{eq-or-lt-of-le}
 use native.Mathlib.Omega.{arith}
 use Rattle.search.specs.Values.{Value, none, pair, add, lesser, leastBelow, AtMost, to-none}
-use Rattle.search.specs.ValueLaws.{atMost-refl, atMost-antisym, add-mono, lesser-first, lesser-second, lesser-either, lesser-is-first, lesser-is-second, lesser-assoc}
+use Rattle.search.specs.ValueLaws.{atMost-refl, add-mono, lesser-first, lesser-second, lesser-either, lesser-is-first, lesser-is-second, lesser-assoc}
 
 pub lesser-none : (u : Value) → lesser u none ≡ u
 lesser-none u = lesser-is-first to-none
+
+pub none-lesser : (u : Value) → lesser none u ≡ u
+none-lesser u = lesser-is-second to-none
 
 pub in-order : (u v : Value) → AtMost u v ⊎ AtMost v u
 in-order u v = go (lesser-either u v)

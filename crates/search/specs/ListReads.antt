@@ -11,6 +11,7 @@ use Rattle.search.specs.Bounds.{keys-fit}
 use Rattle.search.specs.FilledTables.{Holds}
 use Rattle.search.specs.Listed.{before, Falling, pointAt, leastListed, Listed}
 use Rattle.search.specs.Offered.{mostItems}
+use Rattle.search.specs.PointLaws.{leastListed-more}
 use Rattle.search.specs.Rows.{keyBase}
 use Rattle.search.specs.RowWords.{Small, RowHeld, rowOf}
 use Rattle.search.specs.Values.{Value, leastBelow, lesser}
@@ -48,15 +49,6 @@ abbrev pub LeastTo : (capacity from to : ℕ) (points rowCosts rowKeys : List �
 LeastTo capacity from to points rowCosts rowKeys p best =
     (n places : ℕ) (f : (ℕ → Value) → ℕ → Value) → ListRead capacity from to points rowCosts rowKeys n places f →
     Holds (n + places) (leastListed points from (p - from) (rowOf rowCosts rowKeys) capacity) (best .cost) (best .key)
-
-leastListed-more : (points : List ℕ) {from to : ℕ} (rest : ℕ → Value) (w : ℕ) → from ≤ to →
-    leastListed points from (suc to - from) rest w
-    ≡ lesser (leastListed points from (to - from) rest w) (before (pointAt points to) rest w)
-unfolding leastListed leastBelow
-leastListed-more points {from} {to} rest w ordered =
-    let more : suc to - from ≡ suc (to - from) = omega arith in
-    let last : from + (to - from) ≡ to = omega arith in
-    rw (more, last)
 
 module _ {capacity from to : ℕ} {points rowCosts rowKeys : List ℕ} where
   pub least-of-none : LeastTo capacity from to points rowCosts rowKeys from record { cost = noCost; key = 0 }

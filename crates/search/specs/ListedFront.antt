@@ -1,10 +1,10 @@
 -- Item after item is put in front of those whose sets are listed, from the last of the first few to the first of all.
 use Prim.Native.Nat.{ℕ, suc, _+_, _*_, _-_, _^_, _≤_, _<_}
-use mathlib.Core.Path.{_≡_, refl, sym, ap, ap₂, _∙_}
+use mathlib.Core.Path.{_≡_, refl, ap, ap₂, _∙_}
 use mathlib.Core.Logic.{_⊎_, inl, inr}
 use mathlib.Core.Bool.{Bool, true, false, not}
 use mathlib.Core.List.{List}
-use native.Mathlib.Nat.{le-refl, pow-le-pow-right, zero-add}
+use native.Mathlib.Nat.{pow-le-pow-right, zero-add}
 use native.Mathlib.Omega.{arith}
 use borrow.Author.Tests.{le-leb}
 use Rattle.laws.specs.Below.{lt-or-le}
@@ -12,14 +12,14 @@ use Rattle.laws.specs.Truth.{false-not-true}
 use lib.ListN.{length, getD, set, length-set}
 use lib.Seq.{getD-set-same, getD-set-other}
 use Rattle.search.specs.LeastLaws.{none-lesser}
-use Rattle.search.specs.Listed.{before, pointAt, leastListed, PointSmall, Listed, SetsListed, FrontListed}
-use Rattle.search.specs.ListedSets.{mostPoints, SetsRoom, WithItem, SetsFit}
-use Rattle.search.specs.Offered.{mostItems, mostLevels, rowItem, Affordable}
+use Rattle.search.specs.Listed.{before, pointAt, leastListed, Listed, SetsListed, FrontListed}
+use Rattle.search.specs.ListedSets.{mostPoints, WithItem, SetsFit}
+use Rattle.search.specs.Offered.{mostItems, Affordable}
 use Rattle.search.specs.PointLaws.{leastListed-more, with-point-older, with-point-there}
 use Rattle.search.specs.Rows.{keyBase}
 use Rattle.search.specs.RowSteps.{rowBefore}
 use Rattle.search.specs.Sweep.{withPoint}
-use Rattle.search.specs.Values.{Value, none, pair, add, lesser, leastBelow}
+use Rattle.search.specs.Values.{Value, none, pair, add, leastBelow}
 use Rattle.search.specs.declared.row.Choice.{Choice}
 use Rattle.search.specs.declared.row.Core.{Core}
 use Rattle.search.specs.declared.row.Front.{Front}

@@ -1,25 +1,19 @@
 -- The sets with an item are listed one after the other.
-use Prim.Native.Nat.{ℕ, zero, suc, _+_, _*_, _-_, _^_, _≤_, _<_}
-use mathlib.Core.Path.{_≡_, refl, sym, ap, _∙_}
-use mathlib.Core.Logic.{_⊎_, inl, inr, _≢_}
+use Prim.Native.Nat.{ℕ, suc, _+_, _-_, _^_, _<_}
+use mathlib.Core.Path.{_≡_, sym, ap, _∙_}
 use mathlib.Core.Bool.{true, false}
 use mathlib.Core.List.{List}
-use native.Mathlib.Nat.{le-refl, eq-or-lt-of-le, pow-suc, zero-add, add-zero}
+use native.Mathlib.Nat.{pow-suc, zero-add, add-zero}
 use native.Mathlib.Omega.{arith}
-use Rattle.laws.specs.Below.{below-suc}
-use lib.ListN.{length, getD, set, length-set}
-use lib.Pow.{pow-pos}
-use lib.Seq.{getD-set-same, getD-set-other}
+use lib.ListN.{set}
 use Rattle.search.specs.FrontRows.{rowBefore-first, rowBefore-items}
-use Rattle.search.specs.Listed.{Falling, pointAt, leastListed, PointSmall, Listed, SetsListed}
+use Rattle.search.specs.Listed.{PointSmall, Listed}
 use Rattle.search.specs.ListedSets.{SetAdded}
 use Rattle.search.specs.Offered.{rowItem}
-use Rattle.search.specs.PointLaws.{listed-older}
 use Rattle.search.specs.Rows.{keyBase}
 use Rattle.search.specs.RowSteps.{withItem, rowBefore, withItem-same}
-use Rattle.search.specs.Spread.{ItemFits, ItemSpread}
-use Rattle.search.specs.SpreadItems.{small-alone}
-use Rattle.search.specs.Sweep.{Older, Swept}
+use Rattle.search.specs.Spread.{ItemSpread}
+use Rattle.search.specs.Sweep.{Swept}
 use Rattle.search.specs.Values.{Value}
 use Rattle.search.specs.declared.row.Choice.{Choice}
 use Rattle.search.specs.declared.row.Core.{Core}

@@ -1,6 +1,6 @@
 -- One set more is listed, and the lists before it stay.
 use Prim.Native.Nat.{ℕ, zero, suc, _+_, _*_, _-_, _^_, _≤_, _<_}
-use mathlib.Core.Path.{_≡_, refl, sym, ap, _∙_}
+use mathlib.Core.Path.{_≡_, refl, sym, _∙_}
 use mathlib.Core.Logic.{_⊎_, inl, inr}
 use mathlib.Core.Bool.{Bool, true, false, not}
 use mathlib.Core.List.{List}
@@ -10,13 +10,12 @@ use Rattle.laws.specs.Below.{below-suc}
 use lib.ListN.{length, getD, set, length-set}
 use lib.Pow.{pow-pos}
 use lib.Seq.{getD-set-same, getD-set-other}
-use Rattle.search.specs.Listed.{pointAt, PointSmall, Listed, SetsListed}
+use Rattle.search.specs.Listed.{Listed, SetsListed}
 use Rattle.search.specs.ListedSets.{mostPoints, SetFits, SetAdded, SetsRoom, WithItem, SetsFit, SetsGoing, NextFits}
 use Rattle.search.specs.ListedSetLaws.{listed-absent, listed-present}
 use Rattle.search.specs.Offered.{rowItem}
 use Rattle.search.specs.PointLaws.{listed-older}
 use Rattle.search.specs.RowSteps.{rowBefore}
-use Rattle.search.specs.Spread.{ItemFits}
 use Rattle.search.specs.SpreadItems.{small-alone}
 use Rattle.search.specs.Sweep.{Older}
 use Rattle.search.specs.declared.row.Core.{Core}

@@ -1,15 +1,14 @@
 -- Entries of a list are stored behind the others, which stay as they are.
 use Prim.Native.Nat.{ℕ, suc, _+_, _*_, _-_, _≤_, _<_}
-use mathlib.Core.Path.{_≡_, refl, sym, ap, _∙_}
+use mathlib.Core.Path.{_≡_, _∙_}
 use mathlib.Core.List.{List}
 use native.Mathlib.Omega.{arith}
 use lib.ListN.{length, getD, set, length-set}
 use lib.Seq.{getD-set-same, getD-set-other}
 use Rattle.search.specs.LeastLaws.{leastBelow-alike}
-use Rattle.search.specs.Listed.{before, pointAt, leastListed, PointSmall, Listed}
+use Rattle.search.specs.Listed.{before, pointAt, leastListed, Listed}
 use Rattle.search.specs.Sweep.{withPoint, Older}
 use Rattle.search.specs.Values.{Value, lesser, leastBelow}
-use Rattle.search.specs.declared.row.Choice.{Choice}
 use Rattle.search.specs.declared.value.Worth.{Worth}
 
 -- a list is that of its entries

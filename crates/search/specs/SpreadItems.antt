@@ -1,6 +1,6 @@
 -- An item is spread level after level.
 use Prim.Native.Nat.{ℕ, suc, _+_, _*_, _-_, _^_, _≤_, _<_}
-use mathlib.Core.Path.{_≡_, refl, sym, ap, _∙_}
+use mathlib.Core.Path.{_≡_, sym, ap, _∙_}
 use mathlib.Core.List.{List}
 use native.Mathlib.Nat.{pow-suc, pow-zero, one-le-pow, add-zero, mul-le-mul-right}
 use native.Mathlib.Omega.{arith}
@@ -8,15 +8,15 @@ use borrow.Author.Tests.{lt-leb}
 use lib.ListN.{length, getD, set, replicate, length-replicate}
 use lib.Seq.{getD-set-same, getD-set-other}
 use Rattle.laws.specs.Below.{below-suc}
-use Rattle.search.specs.LeastLaws.{lesser-none, none-lesser, leastBelow-none}
-use Rattle.search.specs.Listed.{before, pointAt, leastListed, PointSmall}
+use Rattle.search.specs.LeastLaws.{lesser-none, leastBelow-none}
+use Rattle.search.specs.Listed.{before, leastListed, PointSmall}
 use Rattle.search.specs.Offered.{mostLevels, mostCapacity, mostCost, entryOf, itemAt, rowItem}
 use Rattle.search.specs.RelaxedItems.{choiceOf, ChoiceFits, digit-fits, level-fits}
 use Rattle.search.specs.Rows.{keyBase, atLevel}
 use Rattle.search.specs.Splits.{entryAt}
 use Rattle.search.specs.Spread.{valueBefore, leastSpread, leastSums, Sound, absent, present, Long, SumsSmall, LevelSpread, ItemFits, Cleared, ItemSpread}
 use Rattle.search.specs.SpreadLaws.{none-before, leastSums-is}
-use Rattle.search.specs.Values.{Value, none, pair, add, lesser, leastBelow}
+use Rattle.search.specs.Values.{Value, none, pair, lesser, leastBelow}
 use Rattle.search.specs.Words.{noCost, words-none}
 use Rattle.search.specs.declared.row.Choice.{Choice}
 use Rattle.search.specs.declared.row.Core.{Core}

@@ -1,18 +1,17 @@
 -- A choice is spread with one entry of a list after the other.
 use Prim.Native.Nat.{ℕ, suc, _+_, _-_, _≤_, _<_}
-use mathlib.Core.Path.{_≡_, refl, sym, ap, _∙_, subst}
-use mathlib.Core.Logic.{_⊎_, inl, inr, _≢_}
+use mathlib.Core.Path.{_≡_, sym, ap, _∙_}
+use mathlib.Core.Logic.{_⊎_, inl, inr}
 use mathlib.Core.List.{List}
 use native.Mathlib.Decide.{ℕ-discrete}
 use native.Mathlib.Omega.{arith}
-use lib.ListN.{length, getD}
 use Rattle.search.specs.LeastLaws.{lesser-none}
-use Rattle.search.specs.Listed.{before, pointAt, leastListed}
+use Rattle.search.specs.Listed.{before, pointAt}
 use Rattle.search.specs.Splits.{entryAt, Lowered}
-use Rattle.search.specs.Spread.{valueBefore, leastSpread, sumOf, leastSums, Sound, AllSound, SumsSmall, LevelSpread}
+use Rattle.search.specs.Spread.{valueBefore, leastSpread, sumOf, leastSums, Sound, LevelSpread}
 use Rattle.search.specs.SpreadLaws.{before-none, leastSpread-lowered}
 use Rattle.search.specs.ValueLaws.{lesser-assoc, lesser-either}
-use Rattle.search.specs.Values.{Value, none, pair, lesser, leastBelow}
+use Rattle.search.specs.Values.{Value, pair, lesser, leastBelow}
 use Rattle.search.specs.Words.{noCost, valueOf, words-pair}
 use Rattle.search.specs.declared.row.Choice.{Choice}
 

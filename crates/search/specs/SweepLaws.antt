@@ -1,22 +1,22 @@
 -- What each load adds to a list, and what it does not.
 use Prim.Native.Nat.{ℕ, suc, _+_, _*_, _-_, _≤_, _<_}
 use mathlib.Core.Path.{_≡_, refl, sym, ap, _∙_}
-use mathlib.Core.Logic.{_⊎_, inl, inr, _≢_}
+use mathlib.Core.Logic.{_⊎_, inl, inr}
 use mathlib.Core.List.{List}
 use native.Mathlib.Nat.{le-refl}
 use native.Mathlib.Omega.{arith}
 use borrow.Author.Tests.{le-leb, lt-leb}
 use Rattle.laws.specs.Below.{lt-or-le}
 use lib.ListN.{length, getD}
-use Rattle.search.specs.Listed.{before, Falling, pointAt, leastListed, PointSmall, Listed}
+use Rattle.search.specs.Listed.{before, Falling, pointAt, leastListed, PointSmall}
 use Rattle.search.specs.PointLaws.{leastListed-alike, leastListed-more, point-alike, with-point-older, with-point-there}
 use Rattle.search.specs.Splits.{entryAt}
-use Rattle.search.specs.Spread.{valueBefore, leastSpread, Sound, absent, present, AllSound}
+use Rattle.search.specs.Spread.{valueBefore, leastSpread, Sound, present, AllSound}
 use Rattle.search.specs.SpreadLaws.{none-before}
 use Rattle.search.specs.Sweep.{First, withPoint, Older, Gathered, Swept}
 use Rattle.search.specs.ValueLaws.{atMost-refl, atMost-trans, add-mono, lesser-second, lesser-is-first}
-use Rattle.search.specs.Values.{Value, none, pair, add, lesser, leastBelow, AtMost, to-none, cheaper, tied}
-use Rattle.search.specs.Words.{noCost, valueOf, words-none, words-pair, words-atMost}
+use Rattle.search.specs.Values.{Value, pair, lesser, leastBelow, AtMost, to-none}
+use Rattle.search.specs.Words.{noCost, words-none, words-pair, words-atMost}
 use Rattle.search.specs.Worths.{worthOf}
 use Rattle.search.specs.declared.row.Choice.{Choice}
 use Rattle.search.specs.declared.value.Worth.{Worth}

@@ -13,7 +13,7 @@ use crate::value::NO_COST;
 use crate::value::Worth;
 ghost use mathlib.Core.Path.{_≡_};
 ghost use mathlib.Core.Bool.{true};
-ghost use Prim.Native.Nat.{suc, _+_, _*_, _-_, _^_, _≤_, _<_};
+ghost use Prim.Native.Nat.{suc, _+_, _*_, _-_, _≤_, _<_};
 ghost use lib.ListN.{length, set};
 ghost use Rattle.search.specs.Limits.{Tells};
 ghost use Rattle.search.specs.Listed.{FrontListed, pointAt};

@@ -30,7 +30,7 @@ fill-requires : tie.Need-fill-requires
 fill-requires c κs =
     let fit = c .before .before .before .before .before .before .before .before .before .before .before .before .before .before .before .pre in
     let lists = c .before .before .before .before .before .before .before .before .list-front .ensures in
-    all-sets-fit fit (flat-row 0 0 _ (fit .affordable .capacity-limited)) (lists .0) (lists .1 .1)
+    all-sets-fit fit (flat-row 0 0 _ (fit .affordable .capacity-limited)) (lists .0 .0) (lists .1)
 
 same-length : tie.Need-same-length
 same-length c = search needs
