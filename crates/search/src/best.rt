@@ -1,7 +1,7 @@
 // The least value of every set of the items on several cores, and the best plan of all.
 use crate::Shape;
-use crate::choice::least_parted;
-use crate::choice::refuse;
+use crate::keeping::least_parted;
+use crate::keeping::refuse;
 use crate::partition::add_core;
 use crate::partition::copy_entries;
 use crate::partition::fill_weights;

@@ -1,7 +1,7 @@
 // The exact search for the cheapest plan. It knows nothing of text, words or tables: only of loads, costs and a capacity.
 mod best;
-mod choice;
 mod front;
+mod keeping;
 mod light;
 mod limits;
 mod lists;
@@ -12,7 +12,7 @@ mod rows;
 mod value;
 
 use best::least_plan;
-use choice::write_plan;
+use keeping::write_plan;
 use light::light_plan;
 use limits::within_limits;
 use value::NO_COST;

@@ -16,17 +16,14 @@ Inv-loop items levels cores weights rows rowkeys costs₀ keys₀ c₀ costs key
 abbrev μ-loop : tie.MeasureT-loop
 μ-loop items levels cores weights rows rowkeys costs₀ keys₀ c₀ costs keys c = cores - c
 
--- src/best.rt:41:5
 copy-entries-requires : tie.Need-copy-entries-requires Inv-loop μ-loop
 copy-entries-requires c κs =
     let ready = c .before .before .before .before .before .before .pre in (ready .tabled .given .few-items, (ready .tabled .held .costs-for-all, ready .costs-for-all))
 
--- src/best.rt:42:5
 copy-entries-requires-2 : tie.Need-copy-entries-requires-2 Inv-loop μ-loop
 copy-entries-requires-2 c κs =
     let ready = c .before .before .before .before .before .before .before .before .before .before .pre in (ready .tabled .given .few-items, (ready .tabled .held .marks-for-all, ready .keys-for-all))
 
--- src/best.rt:44:5
 loop-holds : tie.Need-loop-holds Inv-loop μ-loop
 loop-holds c =
     let start = c .before .before .before .before .before .before .before .before .before .before .before .before .before in
@@ -37,26 +34,21 @@ loop-holds c =
           (omega (arith, ready .costs-for-all, c .before .before .before .before .before .before .copy-entries .kept .1 .1 .0)) (omega (arith, ready .keys-for-all, c .before .before .copy-entries2 .kept .1 .1 .0)),
     )
 
--- src/best.rt:45:22
 mul-shift : tie.Need-mul-shift Inv-loop μ-loop
 unfolding keyBase
 mul-shift c =
     omega (arith, next-choices (c .before .before .before .before .before .before .before .before .before .before .before .before .before .before .before .pre) (c .before .loop .inv .2) (omega arith))
 
--- src/best.rt:46:9
 add-core-requires : tie.Need-add-core-requires Inv-loop μ-loop
 add-core-requires c κs =
     core-ready (c .before .before .before .before .before .before .before .before .before .before .before .before .before .before .before .before .before .pre) (c .before .before .before .loop .inv .2) (omega arith)
 
--- src/best.rt:47:9
 add-c : tie.Need-add-c Inv-loop μ-loop
 add-c c = search needs
 
--- src/best.rt:44:5
 loop-less : tie.Need-loop-less Inv-loop μ-loop
 loop-less c = search needs
 
--- src/best.rt:44:5
 loop-again : tie.Need-loop-again Inv-loop μ-loop
 loop-again c =
     let at = c .before .before .before .before .before .before .before .before .loop in
@@ -68,15 +60,12 @@ loop-again c =
       next-core (c .before .before .before .before .before .before .before .before .before .before .before .before .before .before .before .before .before .before .before .before .before .before .pre) (at .inv .2) (omega arith) (added .ensures) same-costs same-keys,
     )
 
--- src/best.rt:27:1
 same-length : tie.Need-same-length Inv-loop μ-loop
 same-length c = search needs
 
--- src/best.rt:27:1
 same-length-2 : tie.Need-same-length-2 Inv-loop μ-loop
 same-length-2 c = search needs
 
--- src/best.rt:27:1
 returns : tie.Need-returns Inv-loop μ-loop
 returns c =
     all-cores (c .before .before .before .before .before .before .before .before .before .before .before .before .before .before .before .pre) (c .before .loop .inv .2) (omega arith)

@@ -11,12 +11,12 @@ use Rattle.search.specs.SplitLaws.{first-sums-fit, half-is-power}
 use Rattle.search.specs.PartedLaws.{parted-nothing, parted-either, half-of-parts, in-top-ready, in-rest-ready}
 use borrow.Fn.Kinds.{In}
 use borrow.Fn.PlainCycle.{Measures, is, falls, and}
-use Rattle.search.proofs.choice.least_parted.Reads as least-parted
-use Rattle.search.proofs.choice.least_parted.Kinds as least-parted-kinds
-use Rattle.search.proofs.choice.+least_parted.Lts-least_parted as least-parted-lts
+use Rattle.search.proofs.keeping.least_parted.Reads as least-parted
+use Rattle.search.proofs.keeping.least_parted.Kinds as least-parted-kinds
+use Rattle.search.proofs.keeping.+least_parted.Lts-least_parted as least-parted-lts
 use Rattle.search.proofs.value.lesser.Reads as lesser-reads
-use Rattle.search.proofs.choice.+least_parted.{statement}
-use Rattle.search.proofs.choice.+least_parted.Tie.{close}
+use Rattle.search.proofs.keeping.+least_parted.{statement}
+use Rattle.search.proofs.keeping.+least_parted.Tie.{close}
 
 abbrev μ-least-parted : Measures 4 least-parted-kinds.ps ℕ
 μ-least-parted κs a = a .0

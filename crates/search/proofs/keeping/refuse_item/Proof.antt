@@ -6,8 +6,8 @@ use borrow.Author.Needs.{needs}
 use lib.ListN.{length}
 use Rattle.search.specs.RefusedTables.{ItemRefused}
 use Rattle.search.specs.RefusedLaws.{no-set-yet, one-refusal-fits, one-more-set}
-use Rattle.search.proofs.choice.refuse_item.Statement.{statement}
-use Rattle.search.proofs.choice.refuse_item.Tie as tie
+use Rattle.search.proofs.keeping.refuse_item.Statement.{statement}
+use Rattle.search.proofs.keeping.refuse_item.Tie as tie
 
 abbrev Inv-loop : tie.InvT-loop
 Inv-loop half s refusal costs₀ keys₀ x₀ costs keys x = (length costs ≡ length costs₀) × (length keys ≡ length keys₀) × (x ≤ half) × ItemRefused half s refusal x costs₀ keys₀ costs keys
@@ -15,61 +15,47 @@ Inv-loop half s refusal costs₀ keys₀ x₀ costs keys x = (length costs ≡ l
 abbrev μ-loop : tie.MeasureT-loop
 μ-loop half s refusal costs₀ keys₀ x₀ costs keys x = half - x
 
--- src/choice.rt:26:5
 loop-holds : tie.Need-loop-holds Inv-loop μ-loop
 loop-holds c = (refl, refl, search needs, no-set-yet)
 
--- src/choice.rt:28:13
 add-lower : tie.Need-add-lower Inv-loop μ-loop
 add-lower c = search needs
 
--- src/choice.rt:28:13
 add-lower-2 : tie.Need-add-lower-2 Inv-loop μ-loop
 add-lower-2 c = search needs
 
--- src/choice.rt:29:19
 add-lower-3 : tie.Need-add-lower-3 Inv-loop μ-loop
 add-lower-3 c = search needs
 
--- src/choice.rt:29:13
 mul-lower : tie.Need-mul-lower Inv-loop μ-loop
 mul-lower c = search needs
 
--- src/choice.rt:29:13
 slice-read-lower : tie.Need-slice-read-lower Inv-loop μ-loop
 slice-read-lower c = search needs
 
--- src/choice.rt:29:13
 add-lower-4 : tie.Need-add-lower-4 Inv-loop μ-loop
 add-lower-4 c =
     record { fits = one-refusal-fits (c .before .before .before .before .before .pre) (c .before .before .loop .inv .3) (omega arith) }
 
--- src/choice.rt:30:18
 add-lower-5 : tie.Need-add-lower-5 Inv-loop μ-loop
 add-lower-5 c = search needs
 
--- src/choice.rt:30:13
 mul-lower-2 : tie.Need-mul-lower-2 Inv-loop μ-loop
 mul-lower-2 c = search needs
 
--- src/choice.rt:30:13
 slice-read-lower-2 : tie.Need-slice-read-lower-2 Inv-loop μ-loop
 slice-read-lower-2 c = search needs
 
--- src/choice.rt:27:9
 lower-requires : tie.Need-lower-requires Inv-loop μ-loop
 lower-requires c κs =
     search needs
 
--- src/choice.rt:34:9
 add-x : tie.Need-add-x Inv-loop μ-loop
 add-x c = search needs
 
--- src/choice.rt:26:5
 loop-less : tie.Need-loop-less Inv-loop μ-loop
 loop-less c = search needs
 
--- src/choice.rt:26:5
 loop-again : tie.Need-loop-again Inv-loop μ-loop
 loop-again c =
     let at = c .before .before .before .before .before .before .before .before .before .before .loop in
@@ -80,15 +66,12 @@ loop-again c =
       one-more-set (c .before .before .before .before .before .before .before .before .before .before .before .before .before .pre) (at .inv .3) (omega arith) (c .before .before .before .before .lower .ensures),
     )
 
--- src/choice.rt:21:1
 same-length : tie.Need-same-length Inv-loop μ-loop
 same-length c = search needs
 
--- src/choice.rt:21:1
 same-length-2 : tie.Need-same-length-2 Inv-loop μ-loop
 same-length-2 c = search needs
 
--- src/choice.rt:21:1
 returns : tie.Need-returns Inv-loop μ-loop
 returns c =
     let at = c .before .loop in

@@ -6,12 +6,12 @@ use Rattle.search.specs.RefuseSteps.{half-of-sets, next-item, without-re
 use Prim.Native.Nat.{ℕ, _<_}
 use borrow.Fn.Kinds.{In}
 use borrow.Fn.PlainCycle.{Measures, is, falls, and}
-use Rattle.search.proofs.choice.refuse.Reads as refuse
-use Rattle.search.proofs.choice.refuse.Kinds as refuse-kinds
-use Rattle.search.proofs.choice.+refuse.Lts-refuse as refuse-lts
-use Rattle.search.proofs.choice.refuse_item.Reads as refuse-item-reads
-use Rattle.search.proofs.choice.+refuse.{statement}
-use Rattle.search.proofs.choice.+refuse.Tie.{close}
+use Rattle.search.proofs.keeping.refuse.Reads as refuse
+use Rattle.search.proofs.keeping.refuse.Kinds as refuse-kinds
+use Rattle.search.proofs.keeping.+refuse.Lts-refuse as refuse-lts
+use Rattle.search.proofs.keeping.refuse_item.Reads as refuse-item-reads
+use Rattle.search.proofs.keeping.+refuse.{statement}
+use Rattle.search.proofs.keeping.+refuse.Tie.{close}
 
 abbrev μ-refuse : Measures 4 refuse-kinds.ps ℕ
 μ-refuse κs a = a .0

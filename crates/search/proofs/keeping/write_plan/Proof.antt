@@ -6,8 +6,8 @@ use borrow.Author.Needs.{needs}
 use denote.Ref.{now}
 use lib.ListN.{length, length-set}
 use Rattle.search.specs.PlanLaws.{PlanWritten, nothing-written, next-digit, one-more-digit, all-written}
-use Rattle.search.proofs.choice.write_plan.Statement.{statement}
-use Rattle.search.proofs.choice.write_plan.Tie as tie
+use Rattle.search.proofs.keeping.write_plan.Statement.{statement}
+use Rattle.search.proofs.keeping.write_plan.Tie as tie
 
 abbrev Inv-loop : tie.InvT-loop
 Inv-loop items key plan₀ power₀ rest₀ i₀ plan power rest i = (length plan ≡ length plan₀) × PlanWritten items key plan₀ plan power rest i
