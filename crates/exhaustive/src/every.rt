@@ -1,23 +1,17 @@
-// The second planner. It prices every plan, in choice order, and keeps the first of least cost. It shares no code with the
-// search.
+// Every plan is priced, in choice order, and the first of least cost is kept.
 use crate::site::Site;
-use crate::tally;
-use crate::tally::add;
-use crate::tally::add_if;
+use crate::tried::Tried;
+use crate::tried::after_plans;
+use crate::tried::is_cheaper;
+use crate::tried::none_tried;
+use crate::tried::refused;
+use crate::tried::with_price;
 use instance::Refusal;
 use schedule::Price;
 use schedule::Priced;
 
-// More than the plans of any instance drawn here, which are at most 13 * 13 * 13 * 13.
-const MOST_PLANS: u32 = 30_000;
-
-// The least cost among the plans tried, and how many cost as little: none before a plan is allowed.
-struct Best {
-    energy: u64,
-    penalty: u64,
-    cost: u64,
-    equals: u64,
-}
+// More than the plans of four tasks on three cores with four levels, which are 13 * 13 * 13 * 13.
+const MOST_PLANS: u64 = 30_000;
 
 // Copies the first n choices.
 fn copy(plan: &mut [u32; 12], choices: &[u32; 12], n: usize) {
@@ -30,28 +24,18 @@ fn copy(plan: &mut [u32; 12], choices: &[u32; 12], n: usize) {
     }
 }
 
-// The best with one more plan, that comes later in choice order; the first of least cost stands in `plan`.
+// With one more plan, that comes later in choice order; the first of least cost stands in `plan`.
 fn with_plan(
-    best: Best,
+    so_far: Tried,
     price: Price,
     choices: &[u32; 12],
     n: usize,
     plan: &mut [u32; 12],
-) -> Best {
-    if best.equals == 0 || price.cost < best.cost {
+) -> Tried {
+    if is_cheaper(so_far, price) {
         copy(plan, choices, n);
-        return Best {
-            energy: price.energy,
-            penalty: price.penalty,
-            cost: price.cost,
-            equals: 1,
-        };
     }
-    let mut again = best;
-    if price.cost == best.cost {
-        again.equals = std::num::wrapping_add_u64(best.equals, 1);
-    }
-    again
+    with_price(so_far, price)
 }
 
 fn price_front(words: &[u32], choices: &[u32; 12], n: usize) -> Priced {
@@ -66,18 +50,30 @@ fn after_trying(
     words: &[u32],
     choices: &[u32; 12],
     n: usize,
-    best: Best,
+    so_far: Tried,
     plan: &mut [u32; 12],
-    counts: &mut [u64; 28],
-) -> Best {
-    add(counts, tally::PLANS_TRIED, 1);
+) -> Tried {
     match price_front(words, choices, n) {
-        Priced::Refused(_) => best,
-        Priced::Cost(price) => {
-            add(counts, tally::PLANS_PRICED, 1);
-            with_plan(best, price, choices, n, plan)
-        }
+        Priced::Refused(_) => so_far,
+        Priced::Cost(price) => with_plan(so_far, price, choices, n, plan),
     }
+}
+
+// The choice after this one, 0 after the last.
+fn next_choice(choice: u32, most: u32) -> u32 {
+    if choice < most {
+        return choice + 1;
+    }
+    0
+}
+
+// Steps choice i; false where it begins again at 0.
+fn step_choice(choices: &mut [u32; 12], i: usize, most: u32) -> bool {
+    if 12 <= i {
+        return false;
+    }
+    choices[i] = next_choice(choices[i], most);
+    0 < choices[i]
 }
 
 // Steps to the next plan in choice order, the last choice the fastest; false after the last plan.
@@ -85,57 +81,25 @@ fn step(choices: &mut [u32; 12], n: usize, most: u32) -> bool {
     let mut i = n;
     while 0 < i {
         i -= 1;
-        if i < 12 {
-            if choices[i] < most {
-                choices[i] += 1;
-                return true;
-            }
-            choices[i] = 0;
+        if step_choice(choices, i, most) {
+            return true;
         }
     }
     false
 }
 
-fn best_of_all(
-    words: &[u32],
-    n: usize,
-    most: u32,
-    plan: &mut [u32; 12],
-    counts: &mut [u64; 28],
-) -> Best {
-    let mut best = Best {
-        energy: 0,
-        penalty: 0,
-        cost: 0,
-        equals: 0,
-    };
+fn try_all(words: &[u32], n: usize, most: u32, plan: &mut [u32; 12]) -> Tried {
+    let mut so_far = none_tried();
     let mut choices = [0; 12];
-    let mut turns = MOST_PLANS;
-    while 0 < turns {
-        best = after_trying(words, &choices, n, best, plan, counts);
+    let mut tried = 0;
+    while tried < MOST_PLANS {
+        so_far = after_trying(words, &choices, n, so_far, plan);
+        tried += 1;
         if !step(&mut choices, n, most) {
-            return best;
+            return after_plans(so_far, tried, true);
         }
-        turns -= 1;
     }
-    add(counts, tally::PLANS_UNTRIED, 1);
-    best
-}
-
-// The answer with the best plan of n tasks.
-fn best_answer(
-    words: &[u32],
-    n: usize,
-    most: u32,
-    plan: &mut [u32; 12],
-    counts: &mut [u64; 28],
-) -> [u64; 5] {
-    let best = best_of_all(words, n, most, plan, counts);
-    add_if(counts, tally::SEVERAL_LEAST, 1 < best.equals);
-    if best.equals == 0 {
-        return [5, 0, 0, 0, 0];
-    }
-    [0, 0, best.energy, best.penalty, best.cost]
+    after_plans(so_far, tried, false)
 }
 
 // What the instance is refused for, before it is planned: an answer of zeros where it is for nothing.
@@ -159,23 +123,27 @@ fn tabulate_front(words: &[u32], plan: &[u32; 12], n: usize, table: &mut [u8; 12
     }
 }
 
-// Plans into buffers of which so many elements are lent.
-pub(crate) fn plan(
+// Plans an instance that is not refused before.
+fn plan_site(words: &[u32], site: Site, plan: &mut [u32; 12], table: &mut [u8; 128]) -> Tried {
+    let tried = try_all(words, site.tasks, site.most, plan);
+    if tried.priced != 0 {
+        tabulate_front(words, plan, site.tasks, table);
+    }
+    tried
+}
+
+// Plans into buffers of which so many elements are lent. The site is that of the words.
+pub fn plan(
     words: &[u32],
     site: Site,
     plan: &mut [u32; 12],
     plan_room: usize,
     table: &mut [u8; 128],
     table_room: usize,
-    counts: &mut [u64; 28],
-) -> [u64; 5] {
+) -> Tried {
     let refusal = refusal_before(site, plan_room, table_room);
     if refusal[0] != 0 {
-        return refusal;
+        return refused(refusal);
     }
-    let answer = best_answer(words, site.tasks, site.most, plan, counts);
-    if answer[0] == 0 {
-        tabulate_front(words, plan, site.tasks, table);
-    }
-    answer
+    plan_site(words, site, plan, table)
 }

@@ -5,14 +5,14 @@ use instance::read_instance;
 
 // The number and place of the refusal of its words, 0 where they are accepted; and its sizes, which are 0 where they are
 // refused: tasks, levels, ticks of the span, slots of a table, and the largest choice of a plan.
-pub(crate) struct Site {
-    pub(crate) refusal: u64,
-    pub(crate) place: u64,
-    pub(crate) tasks: usize,
-    pub(crate) levels: u32,
-    pub(crate) span: u32,
-    pub(crate) slots: usize,
-    pub(crate) most: u32,
+pub struct Site {
+    pub refusal: u64,
+    pub place: u64,
+    pub tasks: usize,
+    pub levels: u32,
+    pub span: u32,
+    pub slots: usize,
+    pub most: u32,
 }
 
 fn sizes_of(inst: Instance, refusal: u64, place: u64) -> Site {
@@ -28,7 +28,7 @@ fn sizes_of(inst: Instance, refusal: u64, place: u64) -> Site {
     }
 }
 
-pub(crate) fn site_of(words: &[u32]) -> Site {
+pub fn site_of(words: &[u32]) -> Site {
     let read = read_instance(words);
     let verdict = read.verdict;
     match verdict {
@@ -44,7 +44,7 @@ pub(crate) fn site_of(words: &[u32]) -> Site {
 }
 
 // The product of two numbers up to 4,096, else 0.
-pub(crate) fn product(a: u32, b: u32) -> u32 {
+pub fn product(a: u32, b: u32) -> u32 {
     if a <= 4096 {
         if b <= 4096 {
             return a * b;

@@ -1,0 +1,95 @@
+// Both planners, each with buffers of its own.
+use crate::answers::count_differences;
+use crate::answers::numbers_of;
+use crate::buffers::bytes_differ;
+use crate::buffers::words_differ;
+use crate::tally;
+use crate::tally::add;
+use crate::tally::add_if;
+use exhaustive::Site;
+use exhaustive::Tried;
+
+// How many elements of each buffer are lent.
+pub(crate) struct Rooms {
+    pub(crate) plan: usize,
+    pub(crate) table: usize,
+}
+
+// What a planner answers, and what stands in the whole buffers afterwards.
+pub(crate) struct Outcome {
+    pub(crate) answer: [u64; 5],
+    pub(crate) plan: [u32; 12],
+    pub(crate) table: [u8; 128],
+}
+
+fn count_tried(tried: Tried, counts: &mut [u64; 28]) {
+    add(counts, tally::PLANS_TRIED, tried.tried);
+    add(counts, tally::PLANS_PRICED, tried.priced);
+    add_if(counts, tally::SEVERAL_LEAST, 1 < tried.cheapest);
+    add_if(counts, tally::PLANS_UNTRIED, !tried.complete);
+}
+
+pub(crate) fn plan_by_trying(
+    words: &[u32],
+    site: Site,
+    rooms: Rooms,
+    counts: &mut [u64; 28],
+) -> Outcome {
+    let mut plan = [7_777_777u32; 12];
+    let mut table = [77u8; 128];
+    let tried = exhaustive::plan(words, site, &mut plan, rooms.plan, &mut table, rooms.table);
+    count_tried(tried, counts);
+    let answer = tried.answer;
+    Outcome {
+        answer,
+        plan,
+        table,
+    }
+}
+
+fn search_with_table(words: &[u32], plan: &mut [u32], table: &mut [u8], room: usize) -> [u64; 5] {
+    if room <= table.len() {
+        return numbers_of(planner::plan(words, plan, &mut table[0..room]));
+    }
+    [0; 5]
+}
+
+fn search_with_plan(words: &[u32], plan: &mut [u32], table: &mut [u8], rooms: Rooms) -> [u64; 5] {
+    let room = rooms.plan;
+    if room <= plan.len() {
+        return search_with_table(words, &mut plan[0..room], table, rooms.table);
+    }
+    [0; 5]
+}
+
+pub(crate) fn plan_by_search(words: &[u32], rooms: Rooms) -> Outcome {
+    let mut plan = [7_777_777u32; 12];
+    let mut table = [77u8; 128];
+    let answer = search_with_plan(words, &mut plan, &mut table, rooms);
+    Outcome {
+        answer,
+        plan,
+        table,
+    }
+}
+
+// Counts what differs between two outcomes.
+pub(crate) fn count_outcomes(a: Outcome, b: Outcome, counts: &mut [u64; 28]) {
+    let answer = a.answer;
+    let other_answer = b.answer;
+    let plan = a.plan;
+    let other_plan = b.plan;
+    let table = a.table;
+    let other_table = b.table;
+    count_differences(counts, tally::ANSWERS_DIFFER, &answer, &other_answer);
+    add_if(
+        counts,
+        tally::PLANS_DIFFER,
+        words_differ(&plan, &other_plan),
+    );
+    add_if(
+        counts,
+        tally::TABLES_DIFFER,
+        bytes_differ(&table, &other_table),
+    );
+}

@@ -1,0 +1,42 @@
+// A fixed generator, so that every run draws the same instances: Lehmer's, whose state is the last number drawn.
+ghost use Prim.Native.Nat.{_<_};
+
+// The next number below n.
+pub(crate) fn next_below(state: &mut u32, n: u32) -> u32
+    requires { ⌜ 0 < n ⌝ }
+    ensures { λ r. ⌜ r < n ⌝ }
+{
+    let next = (*state as u64 * 48271 % 2147483647) as u32;
+    *state = next;
+    next % n
+}
+
+// A number below n, or 0 where there is none.
+pub fn below(state: &mut u32, n: u32) -> u32 {
+    if n == 0 {
+        return 0;
+    }
+    next_below(state, n)
+}
+
+// Whether the next number below n is 0: once in n times.
+pub(crate) fn once_in(state: &mut u32, n: u32) -> bool {
+    below(state, n) == 0
+}
+
+// A number from 1 to `most`, or 0 where there is none.
+pub(crate) fn up_to(state: &mut u32, most: u32) -> u32 {
+    if most == 0 {
+        return 0;
+    }
+    1 + next_below(state, most)
+}
+
+// One of the words of a short list.
+pub(crate) fn one_of(state: &mut u32, words: &[u32]) -> u32 {
+    let n = words.len();
+    if 0 < n && n < 100 {
+        return words[next_below(state, n as u32) as usize];
+    }
+    0
+}

@@ -1,0 +1,143 @@
+// Instances as words: 0 to 4 tasks, 1 to 3 cores, 1 to 4 levels. Numbers are small, so that costs are often equal and cores
+// are often exactly full; periods divide 24, so that a table has at most 72 slots.
+use crate::draw::below;
+use crate::draw::next_below;
+use crate::draw::once_in;
+use crate::draw::one_of;
+use crate::draw::up_to;
+use exhaustive::product;
+use instance::MAY_NOT_BE_REFUSED;
+
+const PERIODS: [u32; 8] = [1, 2, 3, 4, 6, 8, 12, 24];
+
+// How many times their period cycles are: the first three exactly, the others at most. Most fit with ease, some only at
+// high speeds, some never.
+const TIMES: [u32; 16] = [1, 2, 3, 8, 40, 4, 4, 2, 2, 2, 1, 1, 1, 1, 1, 1];
+
+// The largest penalty, 0 for a task that may not be refused.
+const PENALTIES: [u32; 8] = [0, 0, 4, 4, 20, 20, 200, 200];
+
+// Mostly three or four tasks, now and then none.
+const TASKS: [u32; 16] = [0, 1, 1, 2, 2, 2, 3, 3, 3, 3, 3, 4, 4, 4, 4, 4];
+
+// Words that are in few ranges.
+const ODD_WORDS: [u32; 8] = [0, 0, 5, 5, 13, 4095, 4095, 100_000_001];
+
+fn put(words: &mut [u32; 32], at: usize, word: u32) {
+    if at < 32 {
+        words[at] = word;
+    }
+}
+
+// The number of settings, the two weights, and the cores.
+fn put_settings(words: &mut [u32; 32], state: &mut u32) {
+    words[0] = 3;
+    words[1] = up_to(state, 3);
+    words[2] = up_to(state, 3);
+    words[3] = up_to(state, 3);
+}
+
+// Levels whose speeds rise by 1 to 3, and powers by 1 to 4; answers where the next word goes.
+fn put_levels(words: &mut [u32; 32], count: u32, state: &mut u32) -> usize {
+    let mut at = 5;
+    let mut speed = 0;
+    let mut power = 0;
+    let mut l = 0;
+    while l < count {
+        speed = std::num::wrapping_add_u32(speed, up_to(state, 3));
+        power = std::num::wrapping_add_u32(power, up_to(state, 4));
+        put(words, at, speed);
+        put(words, std::num::wrapping_add_usize(at, 1), power);
+        at = std::num::wrapping_add_usize(at, 2);
+        l += 1;
+    }
+    at
+}
+
+// Cycles that fill the period exactly at some speed, or up to some times the period.
+fn cycles(state: &mut u32, period: u32) -> u32 {
+    let drawn = next_below(state, 16);
+    let cycles = product(period, TIMES[drawn as usize]);
+    if drawn < 3 {
+        return cycles;
+    }
+    up_to(state, cycles)
+}
+
+fn penalty(state: &mut u32) -> u32 {
+    let most = one_of(state, &PENALTIES);
+    if most == 0 {
+        return MAY_NOT_BE_REFUSED;
+    }
+    up_to(state, most)
+}
+
+// Period, cycles and penalty.
+fn new_task(state: &mut u32) -> [u32; 3] {
+    let period = one_of(state, &PERIODS);
+    let cycles = cycles(state, period);
+    [period, cycles, penalty(state)]
+}
+
+fn put_task(words: &mut [u32; 32], at: usize, task: [u32; 3]) {
+    if at < 30 {
+        words[at] = task[0];
+        words[at + 1] = task[1];
+        words[at + 2] = task[2];
+    }
+}
+
+// One task in five equals the one before it. Answers where the list ends.
+fn put_tasks(words: &mut [u32; 32], from: usize, count: u32, state: &mut u32) -> usize {
+    let mut task = [0u32; 3];
+    let mut at = from;
+    let mut i = 0;
+    while i < count {
+        if i == 0 || !once_in(state, 5) {
+            task = new_task(state);
+        }
+        put_task(words, at, task);
+        at = std::num::wrapping_add_usize(at, 3);
+        i += 1;
+    }
+    at
+}
+
+fn put_instance(words: &mut [u32; 32], state: &mut u32) -> usize {
+    put_settings(words, state);
+    let levels = up_to(state, 4);
+    words[4] = levels;
+    let at = put_levels(words, levels, state);
+    let tasks = one_of(state, &TASKS);
+    put(words, at, tasks);
+    put_tasks(words, std::num::wrapping_add_usize(at, 1), tasks, state)
+}
+
+// The list with a word too many, another length, 4,095 for the last period, or a word changed: mostly one that reading
+// refuses.
+fn spoil(words: &mut [u32; 32], end: usize, state: &mut u32) -> usize {
+    let kind = below(state, 8);
+    if kind == 0 {
+        put(words, end, below(state, 5));
+        return std::num::wrapping_add_usize(end, 1);
+    }
+    if kind == 1 {
+        return below(state, 32) as usize;
+    }
+    if kind < 4 {
+        put(words, std::num::wrapping_sub_usize(end, 3), 4095);
+        return end;
+    }
+    let word = one_of(state, &ODD_WORDS);
+    put(words, below(state, 27) as usize, word);
+    end
+}
+
+// Draws an instance, one in ten spoilt, and answers how many words it has.
+pub fn draw_instance(words: &mut [u32; 32], state: &mut u32) -> usize {
+    let end = put_instance(words, state);
+    if once_in(state, 10) {
+        return spoil(words, end, state);
+    }
+    end
+}

@@ -1,0 +1,139 @@
+// Tables that are not made by earliest deadline first: task after task takes the free slots that its jobs' windows have left.
+use crate::draw::below;
+use crate::draw::once_in;
+use exhaustive::Site;
+use exhaustive::product;
+
+// In place of the slot of its window that a job tries first: it tries them from the end.
+const FROM_THE_END: u32 = 24;
+
+// A kept task: its number, its row's first slot, and the slot of a window that it tries first.
+struct Kept {
+    number: u8,
+    row: u32,
+    period: u32,
+    ticks: u32,
+    first: u32,
+}
+
+// The slot of a window that is tried after x others.
+fn slot_of_window(first: u32, period: u32, x: u32) -> u32 {
+    if first == FROM_THE_END {
+        return std::num::wrapping_sub_u32(period, std::num::wrapping_add_u32(x, 1));
+    }
+    if period == 0 {
+        return 0;
+    }
+    std::num::wrapping_add_u32(first, x) % period
+}
+
+// Takes a slot that is free, for a job with ticks left; answers the ticks left then.
+fn take_slot(table: &mut [u8; 128], t: usize, number: u8, left: u32) -> u32 {
+    if t < 128 {
+        if 0 < left && table[t] == 0 {
+            table[t] = number;
+            return left - 1;
+        }
+    }
+    left
+}
+
+// Turn y of a task, in which its job tries one slot; answers the ticks that the job has left then.
+fn take_turn(table: &mut [u8; 128], task: Kept, y: u32, left: u32) -> u32 {
+    if task.period == 0 {
+        return 0;
+    }
+    let x = y % task.period;
+    let slot = slot_of_window(task.first, task.period, x);
+    let release = std::num::wrapping_add_u32(task.row, std::num::wrapping_sub_u32(y, x));
+    let at = std::num::wrapping_add_u32(release, slot) as usize;
+    if x == 0 {
+        return take_slot(table, at, task.number, task.ticks);
+    }
+    take_slot(table, at, task.number, left)
+}
+
+// All jobs of a task: as many turns as its row has slots.
+fn fill_row(table: &mut [u8; 128], task: Kept, span: u32) {
+    let mut left = 0;
+    let mut y = 0;
+    while y < span {
+        left = take_turn(table, task, y, left);
+        y += 1;
+    }
+}
+
+// The word at a place of the list, 0 past its end.
+fn word(words: &[u32], at: usize) -> u32 {
+    if at < words.len() {
+        return words[at];
+    }
+    0
+}
+
+// The speed of a level, counted from 0.
+fn speed_of(words: &[u32], level: u32) -> u32 {
+    if level < 8 {
+        return word(words, 5 + 2 * level as usize);
+    }
+    0
+}
+
+// Task i, which has this choice: its three words come after the levels and those of the tasks before.
+fn fill_task(table: &mut [u8; 128], words: &[u32], site: Site, choice: u32, i: usize, first: u32) {
+    let levels = site.levels;
+    if choice == 0 {
+        return;
+    }
+    if 12 <= i {
+        return;
+    }
+    if levels == 0 {
+        return;
+    }
+    if 8 < levels {
+        return;
+    }
+    let at = 6 + 2 * levels as usize + 3 * i;
+    let task = Kept {
+        number: i as u8 + 1,
+        row: product((choice - 1) / levels, site.span),
+        period: word(words, at),
+        ticks: schedule::ticks_of(word(words, at + 1), speed_of(words, (choice - 1) % levels)),
+        first,
+    };
+    fill_row(table, task, site.span);
+}
+
+// All tasks, from task `turn` on and round.
+fn fill_tasks(
+    table: &mut [u8; 128],
+    words: &[u32],
+    site: Site,
+    plan: &[u32],
+    turn: u32,
+    first: u32,
+) {
+    let mut i = 0;
+    while i < plan.len() {
+        let next = std::num::wrapping_add_usize(turn as usize, i) % plan.len();
+        if next < plan.len() {
+            fill_task(table, words, site, plan[next], next, first);
+        }
+        i += 1;
+    }
+}
+
+fn draw_first(state: &mut u32) -> u32 {
+    if once_in(state, 2) {
+        return FROM_THE_END;
+    }
+    below(state, 24)
+}
+
+// Fills an idle table for a plan, in an order that is drawn. A job may get fewer slots than it has ticks.
+pub fn fill_table(table: &mut [u8; 128], words: &[u32], site: Site, plan: &[u32], state: &mut u32) {
+    let first = draw_first(state);
+    let turn = below(state, 4);
+    fill_tasks(table, words, site, plan, turn, first);
+}

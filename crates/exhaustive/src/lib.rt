@@ -1,0 +1,10 @@
+// A second planner, which tries every plan. It knows what a plan costs and which table it gives, and nothing of the search.
+mod every;
+mod site;
+mod tried;
+
+pub use every::plan;
+pub use site::Site;
+pub use site::product;
+pub use site::site_of;
+pub use tried::Tried;

@@ -1,0 +1,76 @@
+// What comes of trying plans one after another.
+use schedule::Price;
+
+// The answer as five numbers: the refusal's number and place, energy, penalty and cost; and how many plans were tried, how
+// many of them were priced, which is not refused, how many of these cost as little as the best, and whether all were tried.
+pub struct Tried {
+    pub answer: [u64; 5],
+    pub tried: u64,
+    pub priced: u64,
+    pub cheapest: u64,
+    pub complete: bool,
+}
+
+// Before the first plan: the answer is that there is none.
+pub(crate) fn none_tried() -> Tried {
+    Tried {
+        answer: [5, 0, 0, 0, 0],
+        tried: 0,
+        priced: 0,
+        cheapest: 0,
+        complete: false,
+    }
+}
+
+// Where the instance is refused, no plan is left to try.
+pub(crate) fn refused(answer: [u64; 5]) -> Tried {
+    Tried {
+        answer,
+        tried: 0,
+        priced: 0,
+        cheapest: 0,
+        complete: true,
+    }
+}
+
+pub(crate) fn is_cheaper(so_far: Tried, price: Price) -> bool {
+    let answer = so_far.answer;
+    so_far.priced == 0 || price.cost < answer[4]
+}
+
+// With a price that is below all before it.
+fn with_cheaper(so_far: Tried, price: Price) -> Tried {
+    Tried {
+        answer: [0, 0, price.energy, price.penalty, price.cost],
+        tried: so_far.tried,
+        priced: std::num::wrapping_add_u64(so_far.priced, 1),
+        cheapest: 1,
+        complete: so_far.complete,
+    }
+}
+
+// With a price that is not below all before it: the answer stands.
+fn with_other(so_far: Tried, price: Price) -> Tried {
+    let answer = so_far.answer;
+    let mut next = so_far;
+    next.priced = std::num::wrapping_add_u64(so_far.priced, 1);
+    if price.cost == answer[4] {
+        next.cheapest = std::num::wrapping_add_u64(so_far.cheapest, 1);
+    }
+    next
+}
+
+pub(crate) fn with_price(so_far: Tried, price: Price) -> Tried {
+    if is_cheaper(so_far, price) {
+        return with_cheaper(so_far, price);
+    }
+    with_other(so_far, price)
+}
+
+// After so many plans, which are all there are or not.
+pub(crate) fn after_plans(so_far: Tried, tried: u64, complete: bool) -> Tried {
+    let mut all = so_far;
+    all.tried = tried;
+    all.complete = complete;
+    all
+}
