@@ -18,10 +18,6 @@ pub(crate) fn numbers_of(answer: Priced) -> [u64; 5] {
     }
 }
 
-pub(crate) fn price_of(words: &[u32], plan: &[u32]) -> [u64; 5] {
-    numbers_of(schedule::price(words, plan))
-}
-
 // Counts the numbers in which two answers differ, each at its place.
 pub(crate) fn count_differences(counts: &mut [u64; 28], first: usize, a: &[u64; 5], b: &[u64; 5]) {
     let mut i = 0;

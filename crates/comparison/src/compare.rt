@@ -1,8 +1,4 @@
 // Has both planners plan an instance, compares what they answer and what they leave in the buffers, and looks at the answer.
-use crate::buffers::has_busy_slots;
-use crate::drawings::is_table_of;
-use crate::drawings::try_drawn_plans;
-use crate::drawings::try_plan;
 use crate::planners::Outcome;
 use crate::planners::Rooms;
 use crate::planners::count_outcomes;
@@ -11,7 +7,13 @@ use crate::planners::plan_by_trying;
 use crate::tally;
 use crate::tally::add;
 use crate::tally::add_if;
+use crate::tally::add_refusal;
+use drawn::Trials;
 use drawn::below;
+use drawn::has_busy_slots;
+use drawn::is_table_of;
+use drawn::try_drawn_plans;
+use drawn::try_tables;
 use exhaustive::Site;
 use exhaustive::site_of;
 
@@ -30,24 +32,36 @@ fn room_for(size: usize, most: usize, state: &mut u32) -> usize {
     size
 }
 
-// What kind of plan it is, by its answer and its table.
-fn count_plan(site: Site, answer: &[u64; 5], table: &[u8; 128], counts: &mut [u64; 28]) {
+// Whether all tasks are kept or refused, by the answer.
+fn count_kept(answer: &[u64; 5], counts: &mut [u64; 28]) {
+    add_if(counts, tally::KEEPING_ALL, answer[3] == 0);
+    add_if(counts, tally::REFUSING_ALL, answer[2] == 0);
+}
+
+// Which cores are used, by the table.
+fn count_cores(site: Site, table: &[u8; 128], counts: &mut [u64; 28]) {
     let span = site.span as usize;
+    let others = has_busy_slots(table, span, span, site.slots, 1);
+    let full = has_busy_slots(table, span, 0, site.slots, span);
+    add_if(counts, tally::OTHER_CORES, others);
+    add_if(counts, tally::FULL_ROWS, full);
+}
+
+// What kind of plan it is.
+fn count_plan(site: Site, answer: &[u64; 5], table: &[u8; 128], counts: &mut [u64; 28]) {
     add(counts, tally::PLANNED, 1);
+    count_cores(site, table, counts);
     if 0 < site.tasks {
-        add_if(counts, tally::KEEPING_ALL, answer[3] == 0);
-        add_if(counts, tally::REFUSING_ALL, answer[2] == 0);
+        count_kept(answer, counts);
     }
-    add_if(
-        counts,
-        tally::OTHER_CORES,
-        has_busy_slots(table, span, span, site.slots, 1),
-    );
-    add_if(
-        counts,
-        tally::FULL_ROWS,
-        has_busy_slots(table, span, 0, site.slots, span),
-    );
+}
+
+fn count_trials(trials: Trials, counts: &mut [u64; 28]) {
+    add(counts, tally::TABLES_TRIED, trials.tried);
+    add(counts, tally::DRAWINGS, trials.drawings);
+    add(counts, tally::OTHER_DRAWINGS, trials.others);
+    add(counts, tally::UNFIT_DRAWINGS, trials.unfit);
+    add(counts, tally::CHEAPER_DRAWINGS, trials.cheaper);
 }
 
 // A plan's table passes the check, and no drawing is cheaper.
@@ -62,17 +76,18 @@ fn look_at_plan(
     let plan = outcome.plan;
     let table = outcome.table;
     count_plan(site, &answer, &table, counts);
-    add_if(
-        counts,
-        tally::TABLES_FAIL,
-        !is_table_of(words, site, &plan, &table),
-    );
-    try_plan(words, site, &plan, answer[4], state, counts);
-    try_plan(words, site, &plan, answer[4], state, counts);
-    try_drawn_plans(words, site, answer[4], state, counts);
+    let fails = !is_table_of(words, site, &plan, &table);
+    add_if(counts, tally::TABLES_FAIL, fails);
+    count_trials(try_tables(words, site, &plan, answer[4], state), counts);
 }
 
-// A refusal is counted under its number; where there is no plan, there is no drawing either: every one would be too cheap.
+// Where there is no plan, there is no drawing either: every one would be too cheap.
+fn look_at_no_plan(words: &[u32], site: Site, state: &mut u32, counts: &mut [u64; 28]) {
+    let trials = try_drawn_plans(words, site, 18446744073709551615, state);
+    count_trials(trials, counts);
+}
+
+// A refusal is counted under its number.
 fn look_at_refusal(
     words: &[u32],
     site: Site,
@@ -80,11 +95,9 @@ fn look_at_refusal(
     state: &mut u32,
     counts: &mut [u64; 28],
 ) {
-    if 2 <= number && number <= 6 {
-        add(counts, number as usize, 1);
-    }
+    add_refusal(counts, number);
     if number == 5 {
-        try_drawn_plans(words, site, 18446744073709551615, state, counts);
+        look_at_no_plan(words, site, state, counts);
     }
 }
 

@@ -3,9 +3,7 @@
 // The numbers that it prints are the generator's, and nobody works them out by hand: they show that no comparison is empty.
 // Those under the last heading must be 0, whatever is drawn.
 mod answers;
-mod buffers;
 mod compare;
-mod drawings;
 mod planners;
 mod tally;
 

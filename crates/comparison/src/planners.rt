@@ -1,13 +1,15 @@
 // Both planners, each with buffers of its own.
 use crate::answers::count_differences;
 use crate::answers::numbers_of;
-use crate::buffers::bytes_differ;
-use crate::buffers::words_differ;
 use crate::tally;
 use crate::tally::add;
 use crate::tally::add_if;
+use drawn::bytes_differ;
+use drawn::words_differ;
 use exhaustive::Site;
 use exhaustive::Tried;
+use instance::Refusal;
+use schedule::Priced;
 
 // How many elements of each buffer are lent.
 pub(crate) struct Rooms {
@@ -47,25 +49,25 @@ pub(crate) fn plan_by_trying(
     }
 }
 
-fn search_with_table(words: &[u32], plan: &mut [u32], table: &mut [u8], room: usize) -> [u64; 5] {
+fn search_with_table(words: &[u32], plan: &mut [u32], table: &mut [u8], room: usize) -> Priced {
     if room <= table.len() {
-        return numbers_of(planner::plan(words, plan, &mut table[0..room]));
+        return planner::plan(words, plan, &mut table[0..room]);
     }
-    [0; 5]
+    Priced::Refused(Refusal::NoPlan)
 }
 
-fn search_with_plan(words: &[u32], plan: &mut [u32], table: &mut [u8], rooms: Rooms) -> [u64; 5] {
+fn search_with_plan(words: &[u32], plan: &mut [u32], table: &mut [u8], rooms: Rooms) -> Priced {
     let room = rooms.plan;
     if room <= plan.len() {
         return search_with_table(words, &mut plan[0..room], table, rooms.table);
     }
-    [0; 5]
+    Priced::Refused(Refusal::NoPlan)
 }
 
 pub(crate) fn plan_by_search(words: &[u32], rooms: Rooms) -> Outcome {
     let mut plan = [7_777_777u32; 12];
     let mut table = [77u8; 128];
-    let answer = search_with_plan(words, &mut plan, &mut table, rooms);
+    let answer = numbers_of(search_with_plan(words, &mut plan, &mut table, rooms));
     Outcome {
         answer,
         plan,

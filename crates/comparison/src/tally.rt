@@ -51,6 +51,12 @@ pub(crate) fn add_if(counts: &mut [u64; 28], which: usize, holds: bool) {
     }
 }
 
+pub(crate) fn add_refusal(counts: &mut [u64; 28], number: u64) {
+    if 2 <= number && number <= 6 {
+        add(counts, number as usize, 1);
+    }
+}
+
 // Prints a byte, or for 35, which is #, the next count; answers the place of the count after it.
 fn print_byte(counts: &[u64; 28], place: usize, byte: u8) -> usize {
     if byte == 35 {

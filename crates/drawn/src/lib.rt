@@ -1,8 +1,16 @@
-// What a fixed generator draws: instances, and tables for their plans.
+// What a fixed generator draws: instances, and tables for their plans, which are tried.
+mod buffers;
 mod draw;
 mod instances;
 mod other_tables;
+mod trials;
 
+pub use buffers::bytes_differ;
+pub use buffers::has_busy_slots;
+pub use buffers::words_differ;
 pub use draw::below;
 pub use instances::draw_instance;
-pub use other_tables::fill_table;
+pub use trials::Trials;
+pub use trials::is_table_of;
+pub use trials::try_drawn_plans;
+pub use trials::try_tables;

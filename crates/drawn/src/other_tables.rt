@@ -132,7 +132,13 @@ fn draw_first(state: &mut u32) -> u32 {
 }
 
 // Fills an idle table for a plan, in an order that is drawn. A job may get fewer slots than it has ticks.
-pub fn fill_table(table: &mut [u8; 128], words: &[u32], site: Site, plan: &[u32], state: &mut u32) {
+pub(crate) fn fill_table(
+    table: &mut [u8; 128],
+    words: &[u32],
+    site: Site,
+    plan: &[u32],
+    state: &mut u32,
+) {
     let first = draw_first(state);
     let turn = below(state, 4);
     fill_tasks(table, words, site, plan, turn, first);

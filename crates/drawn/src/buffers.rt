@@ -1,6 +1,6 @@
 // Buffers, compared whole, and what kind of table stands in one.
 
-pub(crate) fn words_differ(a: &[u32; 12], b: &[u32; 12]) -> bool {
+pub fn words_differ(a: &[u32; 12], b: &[u32; 12]) -> bool {
     let mut i = 0;
     while i < 12 {
         if a[i] != b[i] {
@@ -11,7 +11,7 @@ pub(crate) fn words_differ(a: &[u32; 12], b: &[u32; 12]) -> bool {
     false
 }
 
-pub(crate) fn bytes_differ(a: &[u8; 128], b: &[u8; 128]) -> bool {
+pub fn bytes_differ(a: &[u8; 128], b: &[u8; 128]) -> bool {
     let mut i = 0;
     while i < 128 {
         if a[i] != b[i] {
@@ -34,7 +34,7 @@ fn busy_up_to(table: &[u8; 128], span: usize, x: usize, before: usize) -> usize 
 }
 
 // Whether, from slot `from` on, there are somewhere `many` busy slots of one row without an idle one between.
-pub(crate) fn has_busy_slots(
+pub fn has_busy_slots(
     table: &[u8; 128],
     span: usize,
     from: usize,

@@ -1,7 +1,7 @@
 use borrow.Author.Needs.{needs}
 use Prim.Native.Nat.{_-_}
-use Rattle.comparison.proofs.buffers.words_differ.Statement.{statement}
-use Rattle.comparison.proofs.buffers.words_differ.Tie as tie
+use Rattle.drawn.proofs.buffers.words_differ.Statement.{statement}
+use Rattle.drawn.proofs.buffers.words_differ.Tie as tie
 
 abbrev Inv-loop : tie.InvT-loop
 Inv-loop a b i₀ i = Unit {0}

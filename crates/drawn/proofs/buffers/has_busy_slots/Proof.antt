@@ -1,7 +1,7 @@
 use borrow.Author.Needs.{needs}
 use Prim.Native.Nat.{_-_}
-use Rattle.comparison.proofs.buffers.has_busy_slots.Statement.{statement}
-use Rattle.comparison.proofs.buffers.has_busy_slots.Tie as tie
+use Rattle.drawn.proofs.buffers.has_busy_slots.Statement.{statement}
+use Rattle.drawn.proofs.buffers.has_busy_slots.Tie as tie
 
 abbrev Inv-loop : tie.InvT-loop
 Inv-loop table span from slots many busy₀ x₀ busy x = Unit {0}

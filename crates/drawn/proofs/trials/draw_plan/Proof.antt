@@ -1,7 +1,7 @@
 use borrow.Author.Needs.{needs}
 use Prim.Native.Nat.{_-_}
-use Rattle.comparison.proofs.drawings.draw_plan.Statement.{statement}
-use Rattle.comparison.proofs.drawings.draw_plan.Tie as tie
+use Rattle.drawn.proofs.trials.draw_plan.Statement.{statement}
+use Rattle.drawn.proofs.trials.draw_plan.Tie as tie
 
 abbrev Inv-loop : tie.InvT-loop
 Inv-loop plan₀ n most state₀ choices i₀ plan state i = Unit {0}
