@@ -9,28 +9,13 @@ use crate::tally::add;
 use crate::tally::add_if;
 use crate::tally::add_refusal;
 use drawn::Trials;
-use drawn::below;
+use drawn::draw_room;
 use drawn::has_busy_slots;
 use drawn::is_table_of;
 use drawn::try_drawn_plans;
 use drawn::try_tables;
 use exhaustive::Site;
 use exhaustive::site_of;
-
-// Room for a result of `size` elements: all there is, exactly enough, or now and then too little.
-fn room_for(size: usize, most: usize, state: &mut u32) -> usize {
-    let drawn = below(state, 64);
-    if most <= size || drawn < 32 {
-        return most;
-    }
-    if drawn == 32 && 0 < size {
-        return size - 1;
-    }
-    if drawn == 33 {
-        return below(state, 4) as usize;
-    }
-    size
-}
 
 // Whether all tasks are kept or refused, by the answer.
 fn count_kept(answer: &[u64; 5], counts: &mut [u64; 28]) {
@@ -65,7 +50,7 @@ fn count_trials(trials: Trials, counts: &mut [u64; 28]) {
 }
 
 // A plan's table passes the check, and no drawing is cheaper.
-fn look_at_plan(
+fn look_at_tables(
     words: &[u32],
     site: Site,
     outcome: Outcome,
@@ -75,10 +60,23 @@ fn look_at_plan(
     let answer = outcome.answer;
     let plan = outcome.plan;
     let table = outcome.table;
+    let passes = is_table_of(words, site, &plan, &table);
+    let trials = try_tables(words, site, &plan, answer[4], state);
+    add_if(counts, tally::TABLES_FAIL, !passes);
+    count_trials(trials, counts);
+}
+
+fn look_at_plan(
+    words: &[u32],
+    site: Site,
+    outcome: Outcome,
+    state: &mut u32,
+    counts: &mut [u64; 28],
+) {
+    let answer = outcome.answer;
+    let table = outcome.table;
     count_plan(site, &answer, &table, counts);
-    let fails = !is_table_of(words, site, &plan, &table);
-    add_if(counts, tally::TABLES_FAIL, fails);
-    count_trials(try_tables(words, site, &plan, answer[4], state), counts);
+    look_at_tables(words, site, outcome, state, counts);
 }
 
 // Where there is no plan, there is no drawing either: every one would be too cheap.
@@ -112,8 +110,8 @@ fn look_at(words: &[u32], site: Site, outcome: Outcome, state: &mut u32, counts:
 
 pub(crate) fn compare(words: &[u32], state: &mut u32, counts: &mut [u64; 28]) {
     let site = site_of(words);
-    let plan_room = room_for(site.tasks, 12, state);
-    let table_room = room_for(site.slots, 128, state);
+    let plan_room = draw_room(site.tasks, 12, state);
+    let table_room = draw_room(site.slots, 128, state);
     let rooms = Rooms {
         plan: plan_room,
         table: table_room,

@@ -75,23 +75,23 @@ pub(crate) fn plan_by_search(words: &[u32], rooms: Rooms) -> Outcome {
     }
 }
 
+fn plans_differ(a: Outcome, b: Outcome) -> bool {
+    let plan = a.plan;
+    let other = b.plan;
+    words_differ(&plan, &other)
+}
+
+fn tables_differ(a: Outcome, b: Outcome) -> bool {
+    let table = a.table;
+    let other = b.table;
+    bytes_differ(&table, &other)
+}
+
 // Counts what differs between two outcomes.
 pub(crate) fn count_outcomes(a: Outcome, b: Outcome, counts: &mut [u64; 28]) {
     let answer = a.answer;
-    let other_answer = b.answer;
-    let plan = a.plan;
-    let other_plan = b.plan;
-    let table = a.table;
-    let other_table = b.table;
-    count_differences(counts, tally::ANSWERS_DIFFER, &answer, &other_answer);
-    add_if(
-        counts,
-        tally::PLANS_DIFFER,
-        words_differ(&plan, &other_plan),
-    );
-    add_if(
-        counts,
-        tally::TABLES_DIFFER,
-        bytes_differ(&table, &other_table),
-    );
+    let other = b.answer;
+    count_differences(counts, tally::ANSWERS_DIFFER, &answer, &other);
+    add_if(counts, tally::PLANS_DIFFER, plans_differ(a, b));
+    add_if(counts, tally::TABLES_DIFFER, tables_differ(a, b));
 }

@@ -1,4 +1,20 @@
-// Buffers, compared whole, and what kind of table stands in one.
+// How much of a buffer is lent; buffers compared whole; what kind of table stands in one.
+use crate::draw::below;
+
+// Room for a result of `size` elements: all there is, exactly enough, or now and then too little.
+pub fn draw_room(size: usize, most: usize, state: &mut u32) -> usize {
+    let drawn = below(state, 64);
+    if most <= size || drawn < 32 {
+        return most;
+    }
+    if drawn == 32 && 0 < size {
+        return size - 1;
+    }
+    if drawn == 33 {
+        return below(state, 4) as usize;
+    }
+    size
+}
 
 pub fn words_differ(a: &[u32; 12], b: &[u32; 12]) -> bool {
     let mut i = 0;

@@ -2,7 +2,7 @@
 ghost use Prim.Native.Nat.{_<_};
 
 // The next number below n.
-pub(crate) fn next_below(state: &mut u32, n: u32) -> u32
+pub(crate) fn below(state: &mut u32, n: u32) -> u32
     requires { ⌜ 0 < n ⌝ }
     ensures { λ r. ⌜ r < n ⌝ }
 {
@@ -11,16 +11,10 @@ pub(crate) fn next_below(state: &mut u32, n: u32) -> u32
     next % n
 }
 
-// A number below n, or 0 where there is none.
-pub fn below(state: &mut u32, n: u32) -> u32 {
-    if n == 0 {
-        return 0;
-    }
-    next_below(state, n)
-}
-
 // Whether the next number below n is 0: once in n times.
-pub(crate) fn once_in(state: &mut u32, n: u32) -> bool {
+pub(crate) fn once_in(state: &mut u32, n: u32) -> bool
+    requires { ⌜ 0 < n ⌝ }
+{
     below(state, n) == 0
 }
 
@@ -29,14 +23,14 @@ pub(crate) fn up_to(state: &mut u32, most: u32) -> u32 {
     if most == 0 {
         return 0;
     }
-    1 + next_below(state, most)
+    1 + below(state, most)
 }
 
 // One of the words of a short list.
 pub(crate) fn one_of(state: &mut u32, words: &[u32]) -> u32 {
     let n = words.len();
     if 0 < n && n < 100 {
-        return words[next_below(state, n as u32) as usize];
+        return words[below(state, n as u32) as usize];
     }
     0
 }

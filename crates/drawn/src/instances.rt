@@ -1,7 +1,6 @@
 // Instances as words: 0 to 4 tasks, 1 to 3 cores, 1 to 4 levels. Numbers are small, so that costs are often equal and cores
 // are often exactly full; periods divide 24, so that a table has at most 72 slots.
 use crate::draw::below;
-use crate::draw::next_below;
 use crate::draw::once_in;
 use crate::draw::one_of;
 use crate::draw::up_to;
@@ -56,7 +55,7 @@ fn put_levels(words: &mut [u32; 32], count: u32, state: &mut u32) -> usize {
 
 // Cycles that fill the period exactly at some speed, or up to some times the period.
 fn cycles(state: &mut u32, period: u32) -> u32 {
-    let drawn = next_below(state, 16);
+    let drawn = below(state, 16);
     let cycles = product(period, TIMES[drawn as usize]);
     if drawn < 3 {
         return cycles;

@@ -6,9 +6,9 @@ mod other_tables;
 mod trials;
 
 pub use buffers::bytes_differ;
+pub use buffers::draw_room;
 pub use buffers::has_busy_slots;
 pub use buffers::words_differ;
-pub use draw::below;
 pub use instances::draw_instance;
 pub use trials::Trials;
 pub use trials::is_table_of;

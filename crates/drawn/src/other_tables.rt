@@ -71,38 +71,41 @@ fn word(words: &[u32], at: usize) -> u32 {
     0
 }
 
-// The speed of a level, counted from 0.
-fn speed_of(words: &[u32], level: u32) -> u32 {
-    if level < 8 {
-        return word(words, 5 + 2 * level as usize);
+// The core of a kept task, counted from 0.
+fn core_of(choice: u32, levels: u32) -> u32 {
+    if levels == 0 {
+        return 0;
     }
-    0
+    std::num::wrapping_sub_u32(choice, 1) / levels
+}
+
+// The level of a kept task, counted from 0.
+fn level_of(choice: u32, levels: u32) -> u32 {
+    if levels == 0 {
+        return 0;
+    }
+    std::num::wrapping_sub_u32(choice, 1) % levels
 }
 
 // Task i, which has this choice: its three words come after the levels and those of the tasks before.
-fn fill_task(table: &mut [u8; 128], words: &[u32], site: Site, choice: u32, i: usize, first: u32) {
+fn kept_task(words: &[u32], site: Site, choice: u32, i: u8, first: u32) -> Kept {
     let levels = site.levels;
-    if choice == 0 {
-        return;
-    }
-    if 12 <= i {
-        return;
-    }
-    if levels == 0 {
-        return;
-    }
-    if 8 < levels {
-        return;
-    }
-    let at = 6 + 2 * levels as usize + 3 * i;
-    let task = Kept {
-        number: i as u8 + 1,
-        row: product((choice - 1) / levels, site.span),
+    let at = 6 + 2 * levels as usize + 3 * i as usize;
+    let speed = word(words, 5 + 2 * level_of(choice, levels) as usize);
+    Kept {
+        number: std::num::wrapping_add_u8(i, 1),
+        row: product(core_of(choice, levels), site.span),
         period: word(words, at),
-        ticks: schedule::ticks_of(word(words, at + 1), speed_of(words, (choice - 1) % levels)),
+        ticks: schedule::ticks_of(word(words, at + 1), speed),
         first,
-    };
-    fill_row(table, task, site.span);
+    }
+}
+
+fn fill_task(table: &mut [u8; 128], words: &[u32], site: Site, choice: u32, i: usize, first: u32) {
+    if choice != 0 && i < 12 {
+        let task = kept_task(words, site, choice, i as u8, first);
+        fill_row(table, task, site.span);
+    }
 }
 
 // All tasks, from task `turn` on and round.

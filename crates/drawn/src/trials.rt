@@ -1,7 +1,7 @@
 // Tables for plans that are drawn, and other tables for the plan that was answered. One that passes the check is a drawing,
 // and no drawing is cheaper than the answered plan.
 use crate::buffers::bytes_differ;
-use crate::draw::below;
+use crate::draw::up_to;
 use crate::other_tables::fill_table;
 use exhaustive::Site;
 use instance::Verdict;
@@ -48,14 +48,18 @@ pub fn is_table_of(words: &[u32], site: Site, plan: &[u32; 12], table: &[u8; 128
 
 // Draws a choice from 0 to `most` for each of n tasks.
 fn draw_plan(plan: &mut [u32; 12], n: usize, most: u32, state: &mut u32) {
-    let choices = std::num::wrapping_add_u32(most, 1);
     let mut i = 0;
     while i < 12 {
         if i < n {
-            plan[i] = below(state, choices);
+            plan[i] = drawn_choice(most, state);
         }
         i += 1;
     }
+}
+
+fn drawn_choice(most: u32, state: &mut u32) -> u32 {
+    let choices = std::num::wrapping_add_u32(most, 1);
+    std::num::wrapping_sub_u32(up_to(state, choices), 1)
 }
 
 fn count_if(count: u64, holds: bool) -> u64 {

@@ -4,19 +4,16 @@ use Rattle.drawn.proofs.trials.draw_plan.Statement.{statement}
 use Rattle.drawn.proofs.trials.draw_plan.Tie as tie
 
 abbrev Inv-loop : tie.InvT-loop
-Inv-loop plan₀ n most state₀ choices i₀ plan state i = Unit {0}
+Inv-loop plan₀ n most state₀ i₀ plan state i = Unit {0}
 
 abbrev μ-loop : tie.MeasureT-loop
-μ-loop plan₀ n most state₀ choices i₀ plan state i = 12 - i
-
-wrapping-add-u32-requires : tie.Need-wrapping-add-u32-requires Inv-loop μ-loop
-wrapping-add-u32-requires c κs = search needs
+μ-loop plan₀ n most state₀ i₀ plan state i = 12 - i
 
 loop-holds : tie.Need-loop-holds Inv-loop μ-loop
 loop-holds c = search needs
 
-below-requires : tie.Need-below-requires Inv-loop μ-loop
-below-requires c κs = search needs
+drawn-choice-requires : tie.Need-drawn-choice-requires Inv-loop μ-loop
+drawn-choice-requires c κs = search needs
 
 mul-plan : tie.Need-mul-plan Inv-loop μ-loop
 mul-plan c = search needs
@@ -42,9 +39,8 @@ draw-plan-spec =
     (tie.spec
     Inv-loop
     μ-loop
-    wrapping-add-u32-requires
     loop-holds
-    below-requires
+    drawn-choice-requires
     mul-plan
     element-write-plan
     add-i

@@ -1,7 +1,7 @@
 use native.Mathlib.Nat.{mod-lt}
 use borrow.Author.Needs.{needs}
-use Rattle.drawn.proofs.draw.next_below.Statement.{statement}
-use Rattle.drawn.proofs.draw.next_below.Tie as tie
+use Rattle.drawn.proofs.draw.below.Statement.{statement}
+use Rattle.drawn.proofs.draw.below.Tie as tie
 
 mul-next : tie.Need-mul-next
 mul-next c = search needs
@@ -15,5 +15,5 @@ rem-result c = search needs
 returns : tie.Need-returns
 returns c = mod-lt _ (c .before .pre)
 
-pub next-below-spec : {M : Type 1} → statement M
-next-below-spec = tie.close (tie.spec mul-next cast-next rem-result returns)
+pub below-spec : {M : Type 1} → statement M
+below-spec = tie.close (tie.spec mul-next cast-next rem-result returns)
