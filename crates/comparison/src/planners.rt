@@ -49,19 +49,21 @@ pub(crate) fn plan_by_trying(
     }
 }
 
+// Lends so much of the table; a room above the buffers is never drawn.
 fn search_with_table(words: &[u32], plan: &mut [u32], table: &mut [u8], room: usize) -> Priced {
     if room <= table.len() {
         return planner::plan(words, plan, &mut table[0..room]);
     }
-    Priced::Refused(Refusal::NoPlan)
+    Priced::Refused(Refusal::ShortBuffer(room))
 }
 
+// Lends so much of the plan.
 fn search_with_plan(words: &[u32], plan: &mut [u32], table: &mut [u8], rooms: Rooms) -> Priced {
     let room = rooms.plan;
     if room <= plan.len() {
         return search_with_table(words, &mut plan[0..room], table, rooms.table);
     }
-    Priced::Refused(Refusal::NoPlan)
+    Priced::Refused(Refusal::ShortBuffer(room))
 }
 
 pub(crate) fn plan_by_search(words: &[u32], rooms: Rooms) -> Outcome {
