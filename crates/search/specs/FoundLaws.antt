@@ -22,20 +22,23 @@ use Rattle.search.specs.CoreLaws.{room-for-sets}
 use Rattle.search.specs.TabledRows.{RowsFit}
 use Rattle.search.specs.Limits.{WithinLimits}
 use Rattle.search.specs.Found.{optionsOf}
+use Rattle.search.specs.Light.{BestTold}
+use Rattle.search.specs.Worths.{worthOf}
 use Rattle.search.specs.declared.Shape.{Shape}
+use Rattle.search.specs.declared.value.Worth.{Worth}
 
--- what a chosen pair of cost and key says
-module _ (o : Options) (n : ℕ) (given : Searchable o n) (cost key : ℕ) (is : valueOf cost key ≡ chosen o) where
+-- what a chosen pair of cost and key tells
+module _ (o : Options) (n : ℕ) (given : Searchable o n) (worth : Worth) (is : worthOf worth ≡ chosen o) where
+  abbrev cost : ℕ
+  cost = worth .cost
+
+  abbrev key : ℕ
+  key = worth .key
+
   answers : BestAnswers o (valueOf cost key)
   answers = rw is (search-finds-best o (given .some-core) (given .few-choices))
 
-  pub none-allowed : noCost ≤ cost → (plan : List ℕ) → ¬ (Allowed o plan)
-  none-allowed dear = rw (words-none cost key dear) at answers
-
-  pub best-found : cost < noCost → Best o (digits n key) × (totalCost (o .levels) (o .items) (digits n key) ≡ cost)
-  best-found real = rw (words-pair cost key real, given .items-counted) at answers
-
-  pub key-of-plan : cost < noCost → key < keyBase ^ n
+  key-of-plan : cost < noCost → key < keyBase ^ n
   unfolding planWorth
   key-of-plan real = go (chosen-least o (given .some-core) .attained)
     where
@@ -48,6 +51,17 @@ module _ (o : Options) (n : ℕ) (given : Searchable o n) (cost key : ℕ) (is :
           let same : key ≡ planKey (o .items) plan = cc real-pair in
           let below = key-below (keeps-in-base (given .few-choices) (kept-set (allowed .choices) .keeps)) in
           rw same (rw (given .items-counted) at below)
+
+  best-found : cost < noCost → Best o (digits n key) × (totalCost (o .levels) (o .items) (digits n key) ≡ cost)
+  best-found real = rw (words-pair cost key real, given .items-counted) at answers
+
+  pub chosen-tells : BestTold o n worth
+  chosen-tells =
+      record {
+        best = λ real.
+            let found = best-found real in record { is-best = found .0; costs = found .1; key-below = key-of-plan real };
+        none-allowed = λ dear. rw (words-none cost key dear) at answers;
+      }
 
 module _ {shape : Shape} {load cost refusal : List ℕ} {must : List Bool} {plan : List ℕ}
     (limits : WithinLimits shape load cost refusal must plan) where

@@ -4,13 +4,14 @@ use mathlib.Core.Path.{_≡_}
 use mathlib.Core.Bool.{Bool}
 use mathlib.Core.List.{List}
 use Rattle.laws.specs.Lists.{listOf}
-use Rattle.search.specs.Assignment.{Options, totalCost, coreLoad, Best}
+use Rattle.search.specs.Assignment.{Options, totalCost, coreLoad, Allowed, Best}
 use Rattle.search.specs.CheapestChoices.{CheapestChoices}
 use Rattle.search.specs.Choice.{digits}
 use Rattle.search.specs.Found.{optionsOf}
 use Rattle.search.specs.Keeping.{planKey}
 use Rattle.search.specs.Offered.{mostCost, itemAt}
 use Rattle.search.specs.Rows.{keyBase}
+use Rattle.search.specs.Words.{noCost}
 use Rattle.search.specs.declared.Shape.{Shape}
 use Rattle.search.specs.declared.value.Worth.{Worth}
 
@@ -19,6 +20,11 @@ pub record BestKey (o : Options) (n : ℕ) (worth : Worth) : Type 0 where
   pub is-best : Best o (digits n (worth .key))
   pub costs : totalCost (o .levels) (o .items) (digits n (worth .key)) ≡ worth .cost
   pub key-below : worth .key < keyBase ^ n
+
+-- what a cost and a key tell of the best plan: its key, or, where they stand for none, that no plan is allowed
+pub record BestTold (o : Options) (n : ℕ) (worth : Worth) : Type 0 where
+  pub best : worth .cost < noCost → BestKey o n worth
+  pub none-allowed : noCost ≤ worth .cost → (plan : List ℕ) → ¬ (Allowed o plan)
 
 -- the first cheapest choices of the items below i: their load on core 0, their cost and their key
 pub record LightBelow (shape : Shape) (load cost refusal : List ℕ) (must : List Bool) (i used total key : ℕ) : Type 0 where

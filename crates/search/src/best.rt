@@ -2,12 +2,14 @@
 use crate::Shape;
 use crate::keeping::least_parted;
 use crate::keeping::refuse;
+use crate::light::light_plan;
 use crate::partition::add_core;
 use crate::partition::copy_entries;
 use crate::partition::fill_weights;
 use crate::partition::move_keys;
 use crate::powers::sets_of;
 use crate::rows::fill_rows;
+use crate::value::NO_COST;
 use crate::value::Worth;
 ghost use mathlib.Core.List.{List};
 ghost use mathlib.Core.Path.{_≡_};
@@ -19,6 +21,7 @@ ghost use Rattle.search.specs.Choice.{chosen};
 ghost use Rattle.search.specs.ChosenTables.{RowsOffered, RowsReady};
 ghost use Rattle.search.specs.Found.{optionsOf};
 ghost use Rattle.search.specs.HalvesTables.{HalvesReady, leastOverHalves, OneReady, leastOnOne};
+ghost use Rattle.search.specs.Light.{BestTold};
 ghost use Rattle.search.specs.Limits.{OfferLimited};
 ghost use Rattle.search.specs.Partition.{best};
 ghost use Rattle.search.specs.Worths.{worthOf};
@@ -156,14 +159,8 @@ fn least_of_rows(
     )
 }
 
-// What the best plan is worth.
-pub(crate) fn least_plan(
-    shape: Shape,
-    load: &[u64],
-    cost: &[u64],
-    refusal: &[u64],
-    must: &[bool],
-) -> Worth
+// What the best plan is worth, from the rows of all sets.
+fn least_plan(shape: Shape, load: &[u64], cost: &[u64], refusal: &[u64], must: &[bool]) -> Worth
     requires { ⌜ OfferLimited shape (now load) (now cost) (now refusal) (now must) ⌝ }
     ensures { λ r. ⌜ worthOf r
         ≡ chosen (optionsOf shape (now (load .entry)) (now (cost .entry)) (now (refusal .entry)) (now (must .entry))) ⌝ }
@@ -180,4 +177,24 @@ pub(crate) fn least_plan(
         &mut rowkeys,
     );
     least_of_rows(shape, refusal, must, &rows, &rowkeys)
+}
+
+// What the best plan is worth: that of the first cheapest choices, where core 0 takes them together.
+pub(crate) fn best_plan(
+    shape: Shape,
+    load: &[u64],
+    cost: &[u64],
+    refusal: &[u64],
+    must: &[bool],
+) -> Worth
+    requires { ⌜ OfferLimited shape (now load) (now cost) (now refusal) (now must) ⌝ }
+    ensures { λ r. ⌜ BestTold
+        (optionsOf shape (now (load .entry)) (now (cost .entry)) (now (refusal .entry)) (now (must .entry)))
+        (shape .items) r ⌝ }
+{
+    let light = light_plan(shape, load, cost, refusal, must);
+    if light.cost < NO_COST {
+        return light;
+    }
+    least_plan(shape, load, cost, refusal, must)
 }

@@ -11,9 +11,8 @@ mod row;
 mod rows;
 mod value;
 
-use best::least_plan;
+use best::best_plan;
 use keeping::write_plan;
-use light::light_plan;
 use limits::within_limits;
 use value::NO_COST;
 ghost use Rattle.search.specs.Found.{Searched};
@@ -51,15 +50,10 @@ pub fn cheapest_plan(
     if !within_limits(shape, load, cost, refusal, must, plan) {
         return Found::OutOfLimits;
     }
-    let light = light_plan(shape, load, cost, refusal, must);
-    if light.cost < NO_COST {
-        write_plan(shape.items, light.key, plan);
-        return Found::Cheapest(light.cost);
-    }
-    let least = least_plan(shape, load, cost, refusal, must);
-    if NO_COST <= least.cost {
+    let best = best_plan(shape, load, cost, refusal, must);
+    if NO_COST <= best.cost {
         return Found::NoPlan;
     }
-    write_plan(shape.items, least.key, plan);
-    Found::Cheapest(least.cost)
+    write_plan(shape.items, best.key, plan);
+    Found::Cheapest(best.cost)
 }
