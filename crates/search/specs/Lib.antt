@@ -69,6 +69,7 @@ pub mod Found
 pub mod BestFilled
 pub mod FoundLaws
 pub mod ChosenTables
+pub mod HalfCores
 pub mod AlikeLaws
 pub mod CheapestChoices
 pub mod CheapestChoiceLaws
