@@ -61,11 +61,11 @@ refuse-shared-slice-read-if2 t c =
 
 refuse-same-length : (t : ℕ) → refuse-lts.Need-same-length (known t) (refuse-at t) refuse.Post
 refuse-same-length t c =
-    search needs
+    c .before .before .before .before .before .before .refuse2 .kept .1 .1 .1 .1 .1 .0 ∙ c .before .before .before .before .before .before .before .before .before .before .before .before .before .refuse .kept .1 .1 .1 .1 .1 .0
 
 refuse-same-length-2 : (t : ℕ) → refuse-lts.Need-same-length-2 (known t) (refuse-at t) refuse.Post
 refuse-same-length-2 t c =
-    search needs
+    c .before .before .before .before .before .before .refuse2 .kept .1 .1 .1 .1 .1 .1 .0 ∙ c .before .before .before .before .before .before .before .before .before .before .before .before .before .refuse .kept .1 .1 .1 .1 .1 .1 .0
 
 refuse-returns-2 : (t : ℕ) → refuse-lts.Need-returns-2 (known t) (refuse-at t) refuse.Post
 refuse-returns-2 t c =
@@ -87,11 +87,11 @@ refuse-refuse-item-requires t c κs =
 
 refuse-same-length-3 : (t : ℕ) → refuse-lts.Need-same-length-3 (known t) (refuse-at t) refuse.Post
 refuse-same-length-3 t c =
-    search needs
+    c .before .before .before .before .refuse-item .kept .1 .1 .1 .0 ∙ c .before .before .before .before .before .before .before .before .before .before .before .before .before .before .refuse2 .kept .1 .1 .1 .1 .1 .0 ∙ c .before .before .before .before .before .before .before .before .before .before .before .before .before .before .before .before .before .before .before .before .before .refuse .kept .1 .1 .1 .1 .1 .0
 
 refuse-same-length-4 : (t : ℕ) → refuse-lts.Need-same-length-4 (known t) (refuse-at t) refuse.Post
 refuse-same-length-4 t c =
-    search needs
+    c .before .before .before .before .refuse-item .kept .1 .1 .1 .1 .0 ∙ c .before .before .before .before .before .before .before .before .before .before .before .before .before .before .refuse2 .kept .1 .1 .1 .1 .1 .1 .0 ∙ c .before .before .before .before .before .before .before .before .before .before .before .before .before .before .before .before .before .before .before .before .before .refuse .kept .1 .1 .1 .1 .1 .1 .0
 
 refuse-returns-3 : (t : ℕ) → refuse-lts.Need-returns-3 (known t) (refuse-at t) refuse.Post
 refuse-returns-3 t c =
