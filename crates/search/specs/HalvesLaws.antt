@@ -24,7 +24,7 @@ use Rattle.search.specs.CoreLaws.{leastSplit-same}
 use Rattle.search.specs.Refusing.{every}
 use Rattle.search.specs.RefusingLaws.{refusing-same}
 use Rattle.search.specs.RefusedTables.{RefuseReady, RefusedFrom}
-use Rattle.search.specs.RefusedLaws.{refusing-within}
+use Rattle.search.specs.RefusingBounds.{refusing-within}
 use Rattle.search.specs.RefuseSteps.{no-dearer-cost}
 use Rattle.search.specs.HalvesTables.{SmallTable, OneReady, HalvesReady, keptBest, leastOnOne, leastOverHalves}
 

@@ -60,6 +60,7 @@ pub mod OfferedLaws
 pub mod PartedLaws
 pub mod RefusedTables
 pub mod RefusedLaws
+pub mod RefusingBounds
 pub mod RefuseSteps
 pub mod HalvesTables
 pub mod HalvesLaws

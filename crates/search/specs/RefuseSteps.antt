@@ -18,7 +18,8 @@ use Rattle.search.specs.SetLaws.{setNumber-below, numbered}
 use Rattle.search.specs.Splits.{entryAt, NoDearer, Kept}
 use Rattle.search.specs.SplitLaws.{kept-entry, same-power, half-is-power}
 use Rattle.search.specs.RefusedTables.{ItemReady, ItemRefused, RefuseReady, RefusedFrom}
-use Rattle.search.specs.RefusedLaws.{refused-nothing, at-without, refused-with-must, refused-either, refusing-within}
+use Rattle.search.specs.RefusedLaws.{refused-nothing, at-without, refused-with-must, refused-either}
+use Rattle.search.specs.RefusingBounds.{refusing-within}
 
 pub no-dearer-cost : {c k c' k' : List ℕ} → NoDearer c k c' k' → (x : ℕ) → getD c' x 0 ≤ getD c x 0
 no-dearer-cost {c} {k} {c'} {k'} no-dearer x = go (no-dearer .at x)
