@@ -72,6 +72,9 @@ pub mod FoundLaws
 pub mod ChosenTables
 pub mod HalfCores
 pub mod AlikeLaws
+pub mod AppendItems
+pub mod AppendLaws
+pub mod Appended
 pub mod CheapestChoices
 pub mod CheapestChoiceLaws
 pub mod Picks

@@ -36,6 +36,10 @@ pub point-alike : (points₀ points : List ℕ) (p : ℕ) → ((i : ℕ) → i <
 point-alike points₀ points p same =
     rw (same (p * 3) (omega arith), same (p * 3 + 1) (omega arith), same (p * 3 + 2) (omega arith))
 
+pub point-older : {used : ℕ} {points₀ points : List ℕ} → Older used points₀ points → (p : ℕ) → p < used →
+    pointAt points p ≡ pointAt points₀ p
+point-older {points₀ = points₀} {points} older p below = point-alike points₀ points p (λ i less. older .as-before i (omega arith))
+
 pub listed-older : {capacity n places from to used : ℕ} {f : (ℕ → Value) → ℕ → Value} {points₀ points : List ℕ} →
     Older used points₀ points → to ≤ used → Listed capacity n places f points₀ from to → Listed capacity n places f points from to
 listed-older {capacity} {n} {places} {from} {to} {points₀ = points₀} {points} older below listed =
@@ -46,8 +50,7 @@ listed-older {capacity} {n} {places} {from} {to} {points₀ = points₀} {points
           leastListed-alike points₀ points from (to - from) rest w
           (λ i less. older .as-before i (omega (arith, listed .ordered)))
           ∙ listed .least rest falling w under;
-      small = λ p after less.
-          rw (point-alike points₀ points p (λ i le. older .as-before i (omega arith))) (listed .small p after less);
+      small = λ p after less. rw (point-older older p (omega arith)) (listed .small p after less);
     }
 
 -- an entry is put behind the others

@@ -90,7 +90,7 @@ module _ {core : Core} {front : Front} {from to : ℕ} {load cost points : List 
                 omega (arith, digits, most-key, digit-fits (fits .places-limited) (fits .digit-is), fits .digit-is, ap (λ (x : Choice). x .key) chosen);
           }
 
-      sum-sound : {n places : ℕ} {point : Choice} → choice .load ≤ core .capacity → n + places ≡ front .places →
+      pub sum-sound : {n places : ℕ} {point : Choice} → choice .load ≤ core .capacity → n + places ≡ front .places →
           PointSmall (core .capacity) n places point →
           Sound (suc n) places (pair (choice .cost + point .cost) (choice .key + point .key))
       unfolding keyBase
@@ -101,32 +101,45 @@ module _ {core : Core} {front : Front} {from to : ℕ} {load cost points : List 
           present (choice .cost + point .cost) (choice .key + point .key) (omega (arith, cheap room, small .cheap))
           (omega (arith, small .digits, most-key, power, larger, pow-suc keyBase (n + places), ap (λ (x : Choice). x .key) chosen))
 
+      -- what the level comes to before a row
+      pub at-level-over : core .capacity < choice .load → (rest : ℕ → Value) {w : ℕ} → w ≤ core .capacity →
+          atLevel (rowItem load cost (front .item)) (front .places) rest w l ≡ none
+      unfolding atLevel itemAt
+      at-level-over over rest {w} below =
+          let above : w < entryOf load (front .item) l = omega (arith, ap (λ (x : Choice). x .load) chosen) in
+          rw (lt-leb _ _ above)
+
+      pub at-level-sums : (rest : ℕ → Value) (w : ℕ) →
+          leastSums choice points from (to - from) rest w
+          ≡ atLevel (rowItem load cost (front .item)) (front .places) (leastListed points from (to - from) rest) w l
+      unfolding before atLevel itemAt
+      at-level-sums rest w = leastSums-is choice points from (to - from) rest w ∙ level (leastListed points from (to - from) rest)
+        where
+          level : (row : ℕ → Value) → before choice row w ≡ atLevel (rowItem load cost (front .item)) (front .places) row w l
+          level row = rw (chosen, fits .digit-is)
+
       module _ {costs₀ keys₀ : List ℕ} (sofar : ItemSpread core front from to load cost points l costs₀ keys₀) where
         pub spread-no-room : core .capacity < choice .load → ItemSpread core front from to load cost points (suc l) costs₀ keys₀
-        unfolding leastBelow atLevel itemAt
+        unfolding leastBelow
         spread-no-room over =
             record {
               least = λ rest w below.
-                  let above : w < entryOf load (front .item) l = omega (arith, ap (λ (x : Choice). x .load) chosen) in
-                  sofar .least rest w below ∙ sym (rw (lt-leb _ _ above) (lesser-none _));
+                  sofar .least rest w below
+                  ∙ sym (ap (lesser _) (at-level-over over (leastListed points from (to - from) rest) below) ∙ lesser-none _);
               sound = sofar .sound;
             }
 
         pub spread-one-level : {costs keys : List ℕ} → choice .load ≤ core .capacity →
             LevelSpread (core .capacity) choice from to points costs₀ keys₀ costs keys →
             ItemSpread core front from to load cost points (suc l) costs keys
-        unfolding leastBelow before atLevel itemAt
+        unfolding leastBelow
         spread-one-level room spread =
             record {
               least = λ rest w below.
                   spread .least rest w below
                   ∙ ap (λ (v : Value). lesser v (leastSums choice points from (to - from) rest w)) (sofar .least rest w below)
-                  ∙ ap (lesser _) (leastSums-is choice points from (to - from) rest w ∙ level (leastListed points from (to - from) rest) w);
+                  ∙ ap (lesser _) (at-level-sums rest w);
               sound = λ n places sum small.
                   spread .sound (suc n) places (sofar .sound n places sum small)
                   (λ p after below. sum-sound room sum (small p after below));
             }
-          where
-            level : (rest : ℕ → Value) (w : ℕ) →
-                before choice rest w ≡ atLevel (rowItem load cost (front .item)) (front .places) rest w l
-            level rest w = rw (chosen, fits .digit-is)

@@ -15,6 +15,16 @@ use Rattle.search.specs.Values.{Value, pair, lesser, leastBelow}
 use Rattle.search.specs.Words.{noCost, valueOf, words-pair}
 use Rattle.search.specs.declared.row.Choice.{Choice}
 
+-- the sums with one entry more
+pub one-more-sum : (choice : Choice) (points : List ℕ) {from p : ℕ} → from ≤ p → (rest : ℕ → Value) (w : ℕ) →
+    leastSums choice points from (suc p - from) rest w
+    ≡ lesser (leastSums choice points from (p - from) rest w) (before (sumOf choice (pointAt points p)) rest w)
+unfolding leastSums leastBelow
+one-more-sum choice points {from} {p} behind rest w =
+    let more : suc p - from ≡ suc (p - from) = omega arith in
+    let last : from + (p - from) ≡ p = omega arith in
+    rw (more, last)
+
 module _ {capacity from : ℕ} {choice : Choice} {points : List ℕ} where
   pub spread-nothing : (costs keys : List ℕ) → LevelSpread capacity choice from from points costs keys costs keys
   unfolding leastSums leastBelow
@@ -24,16 +34,6 @@ module _ {capacity from : ℕ} {choice : Choice} {points : List ℕ} where
 
   module _ {p : ℕ} (behind : from ≤ p) {costs₀ keys₀ costs keys : List ℕ}
       (sofar : LevelSpread capacity choice from p points costs₀ keys₀ costs keys) where
-    -- the sums with one entry more
-    one-more-sum : (rest : ℕ → Value) (w : ℕ) →
-        leastSums choice points from (suc p - from) rest w
-        ≡ lesser (leastSums choice points from (p - from) rest w) (before (sumOf choice (pointAt points p)) rest w)
-    unfolding leastSums leastBelow
-    one-more-sum rest w =
-        let more : suc p - from ≡ suc (p - from) = omega arith in
-        let last : from + (p - from) ≡ p = omega arith in
-        rw (more, last)
-
     pub spread-over : capacity < choice .load + pointAt points p .load →
         LevelSpread capacity choice from (suc p) points costs₀ keys₀ costs keys
     spread-over over =
@@ -42,7 +42,7 @@ module _ {capacity from : ℕ} {choice : Choice} {points : List ℕ} where
               sofar .least rest w under
               ∙ ap (lesser (leastSpread capacity costs₀ keys₀ rest w))
               (sym
-              (one-more-sum rest w
+              (one-more-sum choice points behind rest w
               ∙ ap (lesser (leastSums choice points from (p - from) rest w)) (before-none (sumOf choice (pointAt points p)) rest (omega arith))
               ∙ lesser-none _));
           sound = λ n places entries sums. sofar .sound n places entries (λ q after below. sums q after (omega arith));
@@ -74,7 +74,7 @@ module _ {capacity from : ℕ} {choice : Choice} {points : List ℕ} where
         ends : (rest : ℕ → Value) (w : ℕ) →
             lesser (leastSums choice points from (p - from) rest w) (valueBefore (choice .load + pointAt points p .load) sum rest w)
             ≡ leastSums choice points from (suc p - from) rest w
-        ends rest w = rw sum-is (sym (one-more-sum rest w))
+        ends rest w = rw sum-is (sym (one-more-sum choice points behind rest w))
 
         new : (n places : ℕ) → Sound n places (pair (choice .cost + pointAt points p .cost) (choice .key + pointAt points p .key)) →
             {u : ℕ} → Sound n places (entryAt costs keys u) → Dec (u ≡ choice .load + pointAt points p .load) →

@@ -9,6 +9,7 @@ mod partition;
 mod powers;
 mod row;
 mod rows;
+mod short;
 mod value;
 
 use best::best_plan;

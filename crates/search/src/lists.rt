@@ -44,7 +44,7 @@ fn clear(capacity: usize, costs: &mut [u64])
     }
 }
 
-fn point_at(points: &[u64], p: usize) -> Choice
+pub(crate) fn point_at(points: &[u64], p: usize) -> Choice
     requires { ⌜ suc p * 3 ≤ length (now points) ⌝ }
     ensures { λ r. ⌜ r ≡ pointAt (now (points .entry)) p ⌝ }
 {
@@ -130,7 +130,7 @@ fn comes_first(a: Worth, b: Worth) -> bool
     false
 }
 
-fn store_point(p: usize, load: usize, worth: Worth, points: &mut [u64])
+pub(crate) fn store_point(p: usize, load: usize, worth: Worth, points: &mut [u64])
     requires { ⌜ suc p * 3 ≤ length (now points) ⌝ }
     ensures { λ _. ⌜ now (points .exit) ≡ withPoint (now (points .entry)) p load worth ⌝ }
 {
