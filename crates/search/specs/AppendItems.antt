@@ -1,12 +1,11 @@
 -- An item is appended level after level.
-use Prim.Native.Nat.{ℕ, zero, suc, _+_, _*_, _-_, _≤_, _<_}
+use Prim.Native.Nat.{ℕ, zero, suc, _+_, _-_, _≤_, _<_}
 use mathlib.Core.Path.{_≡_, refl, sym, ap, subst, _∙_}
 use mathlib.Core.Logic.{_⊎_, inl, inr}
 use mathlib.Core.List.{List}
 use native.Mathlib.Nat.{le-refl, add-zero, suc-mul, mul-le-mul-right}
 use native.Mathlib.Omega.{arith}
 use Rattle.laws.specs.Below.{lt-or-le}
-use lib.ListN.{length}
 use Rattle.search.specs.Appended.{LevelRoom, LevelAppended, ItemRoom, ItemAppended}
 use Rattle.search.specs.LeastLaws.{lesser-none, leastBelow-alike}
 use Rattle.search.specs.Listed.{before, pointAt, leastListed, PointSmall}
@@ -14,7 +13,6 @@ use Rattle.search.specs.PointLaws.{leastListed-alike, point-older}
 use Rattle.search.specs.RelaxedItems.{choiceOf}
 use Rattle.search.specs.Spread.{sumOf, leastSums, Sound, ItemFits}
 use Rattle.search.specs.SpreadItems.{sums-small, sum-sound, at-level-over, at-level-sums}
-use Rattle.search.specs.Sweep.{Older}
 use Rattle.search.specs.ValueLaws.{lesser-assoc}
 use Rattle.search.specs.Values.{Value, pair, lesser, leastBelow}
 use Rattle.search.specs.declared.row.Choice.{Choice}

@@ -7,7 +7,7 @@ use native.Mathlib.Nat.{le-refl}
 use native.Mathlib.Omega.{arith}
 use Rattle.laws.specs.Below.{lt-or-le}
 use lib.ListN.{length}
-use Rattle.search.specs.Appended.{LevelRoom, LevelAppended}
+use Rattle.search.specs.Appended.{LevelAppended}
 use Rattle.search.specs.LeastLaws.{lesser-none}
 use Rattle.search.specs.Listed.{before, pointAt, leastListed, PointSmall}
 use Rattle.search.specs.PointLaws.{leastListed-alike, leastListed-more, point-older, with-point-older, with-point-there}

@@ -1,5 +1,5 @@
 -- Item after item is put in front of those whose sets are listed, from the last of the first few to the first of all.
-use Prim.Native.Nat.{ℕ, suc, _+_, _*_, _-_, _^_, _≤_, _<_}
+use Prim.Native.Nat.{ℕ, suc, _+_, _-_, _^_, _≤_, _<_}
 use mathlib.Core.Path.{_≡_, refl, ap, ap₂, _∙_}
 use mathlib.Core.Logic.{_⊎_, inl, inr}
 use mathlib.Core.Bool.{Bool, true, false, not}
@@ -13,7 +13,7 @@ use lib.ListN.{length, getD, set, length-set}
 use lib.Seq.{getD-set-same, getD-set-other}
 use Rattle.search.specs.LeastLaws.{none-lesser}
 use Rattle.search.specs.Listed.{before, pointAt, leastListed, Listed, SetsListed, FrontListed}
-use Rattle.search.specs.ListedSets.{mostPoints, WithItem, SetsFit}
+use Rattle.search.specs.ListedSets.{WithItem, SetsFit}
 use Rattle.search.specs.Offered.{mostItems, Affordable}
 use Rattle.search.specs.PointLaws.{leastListed-more, with-point-older, with-point-there}
 use Rattle.search.specs.Rows.{keyBase}
@@ -39,8 +39,8 @@ pub record ListsFit (core : Core) (n items : ℕ) (load cost points starts : Lis
   pub some-items : n ≤ items
   pub few : n ≤ mostListed
   pub affordable : Affordable items (core .levels) (core .capacity) load cost
-  pub points-long : length points ≡ mostPoints * 3
-  pub starts-long : length starts ≡ 65
+  pub some-points : 3 ≤ length points
+  pub starts-long : 65 ≤ length starts
 
 -- the lengths alone matter
 pub lists-stay : {core : Core} {n items : ℕ} {load cost points starts points' starts' : List ℕ} → length points' ≡ length points →
@@ -51,8 +51,8 @@ lists-stay same-points same-starts fits =
       some-items = fits .some-items;
       few = fits .few;
       affordable = fits .affordable;
-      points-long = same-points ∙ fits .points-long;
-      starts-long = same-starts ∙ fits .starts-long;
+      some-points = rw same-points (fits .some-points);
+      starts-long = rw same-starts (fits .starts-long);
     }
 
 -- with one item less, where there is one
@@ -65,7 +65,7 @@ fewer-fit fits =
       some-items = omega (arith, fits .some-items);
       few = omega (arith, fits .few);
       affordable = fits .affordable;
-      points-long = fits .points-long;
+      some-points = fits .some-points;
       starts-long = fits .starts-long;
     }
 
@@ -159,7 +159,6 @@ module _ {core : Core} {n items : ℕ} {load cost points starts : List ℕ} (fit
               digit-is = refl;
               count-behind = omega arith;
               starts-long = omega (arith, fits .starts-long);
-              points-long = fits .points-long;
             };
         behind = rw (next, behind-all) listed;
       }

@@ -1,18 +1,22 @@
 -- The sets with an item are listed one after the other.
-use Prim.Native.Nat.{ℕ, suc, _+_, _-_, _^_, _<_}
-use mathlib.Core.Path.{_≡_, sym, ap, _∙_}
-use mathlib.Core.Bool.{true, false}
+use Prim.Native.Nat.{ℕ, suc, _+_, _*_, _-_, _^_, _≤_, _<_}
+use mathlib.Core.Path.{_≡_, refl, sym, ap, _∙_}
+use mathlib.Core.Bool.{Bool, true, false}
 use mathlib.Core.List.{List}
-use native.Mathlib.Nat.{pow-suc, zero-add, add-zero}
+use native.Mathlib.Nat.{pow-suc, zero-add, add-zero, mul-le-mul-right}
 use native.Mathlib.Omega.{arith}
-use lib.ListN.{set}
+use borrow.Author.Tests.{leb-true, leb-false}
+use lib.Dec.{leb}
+use lib.ListN.{length}
+use Rattle.search.specs.Appended.{ItemRoom, ItemAppended}
 use Rattle.search.specs.FrontRows.{rowBefore-first, rowBefore-items}
+use Rattle.search.specs.Limits.{Tells}
 use Rattle.search.specs.Listed.{PointSmall, Listed}
-use Rattle.search.specs.ListedSets.{SetAdded}
+use Rattle.search.specs.ListedSets.{mostShort, Short, SetFits, SetAdded}
 use Rattle.search.specs.Offered.{rowItem}
 use Rattle.search.specs.Rows.{keyBase}
 use Rattle.search.specs.RowSteps.{withItem, rowBefore, withItem-same}
-use Rattle.search.specs.Spread.{ItemSpread}
+use Rattle.search.specs.Spread.{ItemFits, ItemSpread}
 use Rattle.search.specs.Sweep.{Swept}
 use Rattle.search.specs.Values.{Value}
 use Rattle.search.specs.declared.row.Choice.{Choice}
@@ -28,7 +32,6 @@ unfolding withItem
 set-added spread swept =
     record {
       older = swept .older;
-      few = swept .few;
       listed = λ n places sum small.
           let list = swept .listed (suc n) places (spread .sound n places sum small) in
           record {
@@ -38,6 +41,49 @@ set-added spread swept =
             small = list .small;
           };
     }
+
+-- and so is what is appended
+pub set-appended : {core : Core} {front : Front} {from to used end : ℕ} {load cost points₀ points : List ℕ} →
+    ItemRoom core front from to used load cost points₀ →
+    ItemAppended core front from to used load cost points₀ (core .levels) points end →
+    SetAdded core front from to used load cost points₀ points end
+unfolding withItem
+set-appended fits appended =
+    record {
+      older = appended .older;
+      listed = λ n places sum small.
+          record {
+            ordered = appended .ordered;
+            there = omega (arith, appended .few, appended .older .same-length, fits .room);
+            least = λ rest falling w under. appended .least rest w under;
+            small = appended .small n places sum small;
+          };
+    }
+
+pub tells-short : (core : Core) (from to : ℕ) → Tells (leb (core .levels * (to - from)) mostShort) (Short core from to)
+tells-short core from to = go (leb (core .levels * (to - from)) mostShort) refl
+  where
+    go : (answer : Bool) → leb (core .levels * (to - from)) mostShort ≡ answer → Tells answer (Short core from to)
+    go true e = leb-true (core .levels * (to - from)) mostShort e
+    go false e = λ le. absurd (omega (arith, leb-false (core .levels * (to - from)) mostShort e))
+
+module _ {core : Core} {front : Front} {from to : ℕ} {load cost points : List ℕ} where
+  -- the sums of all levels are no more than 64 bits count
+  pub sums-counted : ItemFits core front from to load cost points → length points * 8 < 2 ^ 63 → core .levels * (to - from) < 2 ^ 64
+  sums-counted fits counted =
+      omega (arith, counted, fits .there, mul-le-mul-right (to - from) (fits .affordable .levels-limited))
+
+  module _ {used : ℕ} (fits : SetFits core front from to used load cost points) where
+    pub room-short : Short core from to → ItemRoom core front from to used load cost points
+    room-short short =
+        record {
+          item = fits .item;
+          behind = fits .behind;
+          room = omega (arith, short, fits .room .short short, fits .there);
+        }
+
+    pub room-long : ¬ (Short core from to) → (used + suc (core .capacity)) * 3 ≤ length points
+    room-long long = omega (arith, fits .room .long long, fits .there)
 
 module _ (levels first n places : ℕ) (load cost : List ℕ) {k : ℕ} (there : k < 2 ^ n) (rest : ℕ → Value) where
   -- the items behind the first, counted from the first and from the one after it

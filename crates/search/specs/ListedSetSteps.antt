@@ -1,21 +1,22 @@
 -- One set more is listed, and the lists before it stay.
-use Prim.Native.Nat.{ℕ, zero, suc, _+_, _*_, _-_, _^_, _≤_, _<_}
-use mathlib.Core.Path.{_≡_, refl, sym, _∙_}
+use Prim.Native.Nat.{ℕ, zero, suc, _+_, _*_, _-_, _/_, _^_, _≤_, _<_}
+use mathlib.Core.Path.{_≡_, refl, sym}
 use mathlib.Core.Logic.{_⊎_, inl, inr}
 use mathlib.Core.Bool.{Bool, true, false, not}
 use mathlib.Core.List.{List}
-use native.Mathlib.Nat.{le-refl, eq-or-lt-of-le, pow-suc, pow-le-pow-right, add-zero}
+use native.Mathlib.Nat.{le-refl, eq-or-lt-of-le, pow-suc, add-zero}
 use native.Mathlib.Omega.{arith}
 use Rattle.laws.specs.Below.{below-suc}
 use lib.ListN.{length, getD, set, length-set}
 use lib.Pow.{pow-pos}
 use lib.Seq.{getD-set-same, getD-set-other}
 use Rattle.search.specs.Listed.{Listed, SetsListed}
-use Rattle.search.specs.ListedSets.{mostPoints, SetFits, SetAdded, SetsRoom, WithItem, SetsFit, SetsGoing, NextFits}
+use Rattle.search.specs.ListedSets.{Enough, SetFits, SetAdded, SetsRoom, WithItem, SetsFit, SetsGoing, NextFits}
 use Rattle.search.specs.ListedSetLaws.{listed-absent, listed-present}
 use Rattle.search.specs.Offered.{rowItem}
 use Rattle.search.specs.PointLaws.{listed-older}
 use Rattle.search.specs.RowSteps.{rowBefore}
+use Rattle.search.specs.Spread.{ItemFits}
 use Rattle.search.specs.SpreadItems.{small-alone}
 use Rattle.search.specs.Sweep.{Older}
 use Rattle.search.specs.declared.row.Core.{Core}
@@ -83,52 +84,53 @@ module _ {core : Core} {front : Front} {count : ℕ} {load cost : List ℕ} wher
             };
       }
 
-  -- the lengths alone matter
-  pub room-stays : {points starts points' starts' : List ℕ} → length points' ≡ length points → length starts' ≡ length starts →
-      SetsRoom core front count load cost points starts → SetsRoom core front count load cost points' starts'
-  room-stays same-points same-starts room =
+  -- the length alone matters
+  pub room-stays : {starts starts' : List ℕ} → length starts' ≡ length starts → SetsRoom core front count load cost starts →
+      SetsRoom core front count load cost starts'
+  room-stays same-starts room =
       record {
         affordable = room .affordable;
         places-limited = room .places-limited;
         digit-is = room .digit-is;
         count-behind = room .count-behind;
         starts-long = omega (arith, room .starts-long);
-        points-long = same-points ∙ room .points-long;
       }
 
-  module _ {k : ℕ} {points starts costs keys : List ℕ} (fits : NextFits core front count k load cost points starts costs keys) where
+  module _ {k : ℕ} {points starts : List ℕ} (fits : NextFits core front count k load cost points starts) where
     sum : count + (front .places - count) ≡ front .places
     sum = omega (arith, fits .room .count-behind)
 
-    pub place-there : suc (2 ^ count + k) < length starts
+    place-there : suc (2 ^ count + k) < length starts
     place-there = omega (arith, fits .there, fits .room .starts-long, pow-suc 2 count)
 
-    pub place-small : suc (2 ^ count + k) ≤ 8192
-    place-small =
-        let some-digit : 0 < 2 = omega arith in
-        let less : count ≤ 12 = omega (arith, fits .room .count-behind, fits .room .places-limited) in
-        let few : 2 ^ count ≤ 2 ^ 12 = pow-le-pow-right some-digit less in
-        omega (arith, fits .there)
+    pub used-there : getD starts (2 ^ count + k) 0 * 3 ≤ length points
+    used-there = last-there (fits .going .sofar) (omega (arith, pow-pos count))
 
-    pub used-there : getD starts (2 ^ count + k) 0 ≤ mostPoints
-    used-there = omega (arith, last-there (fits .going .sofar) (omega (arith, pow-pos count)), fits .room .points-long)
-
-    pub set-fits : core .capacity < mostPoints - getD starts (2 ^ count + k) 0 →
-        SetFits core front (getD starts k 0) (getD starts (suc k) 0) (getD starts (2 ^ count + k) 0) load cost points costs keys
-    set-fits free =
+    pub list-fits : ItemFits core front (getD starts k 0) (getD starts (suc k) 0) load cost points
+    list-fits =
         let list = fits .going .behind .each k (fits .there) in
         record {
-          item =
+          affordable = fits .room .affordable;
+          places-limited = fits .room .places-limited;
+          digit-is = fits .room .digit-is;
+          ordered = list .ordered;
+          there = list .there;
+          small = λ p after below. rw sum at (small-alone (list .small p after below));
+        }
+
+    pub set-fits : {most : ℕ} → Enough core (getD starts k 0) (getD starts (suc k) 0) most →
+        most ≤ length points / 3 - getD starts (2 ^ count + k) 0 →
+        SetFits core front (getD starts k 0) (getD starts (suc k) 0) (getD starts (2 ^ count + k) 0) load cost points
+    set-fits enough free =
+        record {
+          item = list-fits;
+          behind = ends-before (fits .going .sofar) (suc k) (omega (arith, pow-pos count));
+          there = used-there;
+          room =
               record {
-                affordable = fits .room .affordable;
-                places-limited = fits .room .places-limited;
-                digit-is = fits .room .digit-is;
-                ordered = list .ordered;
-                there = list .there;
-                small = λ p after below. rw sum at (small-alone (list .small p after below));
+                short = λ few. omega (arith, enough .short few, free);
+                long = λ many. omega (arith, enough .long many, free);
               };
-          room = omega (arith, fits .room .points-long);
-          long = fits .long;
         }
 
     pub sets-step : {points' : List ℕ} {end : ℕ} →

@@ -5,9 +5,7 @@ use mathlib.Core.List.{List}
 use native.Mathlib.Nat.{pow-suc, pow-zero, one-le-pow, add-zero, mul-le-mul-right}
 use native.Mathlib.Omega.{arith}
 use borrow.Author.Tests.{lt-leb}
-use lib.ListN.{length, getD, set, replicate, length-replicate}
-use lib.Seq.{getD-set-same, getD-set-other}
-use Rattle.laws.specs.Below.{below-suc}
+use lib.ListN.{replicate, length-replicate, getD-replicate}
 use Rattle.search.specs.LeastLaws.{lesser-none, leastBelow-none}
 use Rattle.search.specs.Listed.{before, leastListed, PointSmall}
 use Rattle.search.specs.Offered.{mostLevels, mostCapacity, mostCost, entryOf, itemAt, rowItem}
@@ -41,12 +39,8 @@ rows-long c k under =
       keys-to-capacity = omega (arith, length-replicate (suc mostCapacity) k);
     }
 
-pub cleared-more : (costs : List ℕ) (u : ℕ) → u < length costs → ((v : ℕ) → v < u → getD costs v 0 ≡ noCost) →
-    (v : ℕ) → v < suc u → getD (set costs u noCost) v 0 ≡ noCost
-cleared-more costs u there sofar =
-    below-suc (λ v. getD (set costs u noCost) v 0 ≡ noCost) u
-    (λ v below. getD-set-other costs u v noCost 0 (λ same. absurd (omega arith)) ∙ sofar v below)
-    (getD-set-same costs u noCost 0 there)
+pub rows-cleared : {capacity : ℕ} → capacity ≤ mostCapacity → Cleared capacity (replicate (suc mostCapacity) noCost)
+rows-cleared under = record { each = λ u below. getD-replicate (suc mostCapacity) u noCost 0 (omega arith) }
 
 module _ {core : Core} {front : Front} {from to : ℕ} {load cost points : List ℕ} where
   pub spread-no-level : {costs keys : List ℕ} → Cleared (core .capacity) costs →

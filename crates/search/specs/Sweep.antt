@@ -1,5 +1,5 @@
 -- The entries that are no worse than all of smaller load, gathered to a list, one load after the other.
-use Prim.Native.Nat.{ℕ, suc, _+_, _*_, _-_, _≤_, _<_}
+use Prim.Native.Nat.{ℕ, _+_, _*_, _-_, _≤_, _<_}
 use mathlib.Core.Path.{_≡_}
 use mathlib.Core.Logic.{_⊎_}
 use mathlib.Core.List.{List}
@@ -41,6 +41,5 @@ pub record Gathered (capacity from u : ℕ) (costs keys points₀ points : List 
 -- the entries from `from` to `to` have before any row the least value of the spread ones
 pub record Swept (capacity from : ℕ) (costs keys points₀ points : List ℕ) (to : ℕ) : Type 0 where
   pub older : Older from points₀ points
-  pub few : to ≤ from + suc capacity
   pub listed : (n places : ℕ) → AllSound capacity n places costs keys →
       Listed capacity n places (leastSpread capacity costs keys) points from to

@@ -163,7 +163,6 @@ module _ {capacity from : ℕ} {costs keys : List ℕ} where
   gathered-all room all =
       record {
         older = all .older;
-        few = all .few;
         listed = λ n places sound.
             record {
               ordered = all .ordered;

@@ -5,7 +5,7 @@ use mathlib.Core.Bool.{Bool}
 use mathlib.Core.List.{List}
 use native.Mathlib.Nat.{add-zero, mul-one}
 use native.Mathlib.Omega.{arith}
-use lib.ListN.{length, getD}
+use lib.ListN.{length, getD, replicate, length-replicate}
 use Rattle.search.specs.Branches.{BranchFits}
 use Rattle.search.specs.FallingLaws.{falling-flat}
 use Rattle.search.specs.Listed.{FrontListed}
@@ -27,6 +27,10 @@ pub record RowsFit (n levels capacity : ℕ) (load cost costs keys : List ℕ) :
   pub affordable : Affordable n levels capacity load cost
   pub costs-for-all : 2 ^ n ≤ length costs
   pub keys-for-all : 2 ^ n ≤ length keys
+
+-- there is room for a choice where there is any
+pub some-room : (n : ℕ) → 3 ≤ n → 3 ≤ length {A = ℕ} (replicate n 0)
+some-room n some = rw (length-replicate {A = ℕ} n 0) some
 
 -- where nothing is settled yet
 abbrev pub allSets : (listed n : ℕ) → Branch

@@ -9,16 +9,17 @@ use crate::row::ENTRIES;
 use crate::row::Front;
 use crate::row::choice_at;
 use crate::row::entry;
+use crate::short::append_item;
 use crate::value::NO_COST;
 use crate::value::Worth;
 ghost use mathlib.Core.Path.{_≡_};
 ghost use mathlib.Core.Bool.{true};
-ghost use Prim.Native.Nat.{suc, _+_, _*_, _-_, _≤_, _<_};
+ghost use Prim.Native.Nat.{suc, _+_, _*_, _-_, _^_, _≤_, _<_};
 ghost use lib.ListN.{length, set};
 ghost use Rattle.search.specs.Limits.{Tells};
 ghost use Rattle.search.specs.Listed.{FrontListed, pointAt};
 ghost use Rattle.search.specs.ListedFront.{frontAt, ListsFit, nothing};
-ghost use Rattle.search.specs.ListedSets.{NextFits, SetAdded, SetFits, SetsFit, SetsGoing, WithItem};
+ghost use Rattle.search.specs.ListedSets.{Enough, NextFits, SetAdded, SetFits, SetsFit, SetsGoing, Short, WithItem};
 ghost use Rattle.search.specs.Offered.{Affordable};
 ghost use Rattle.search.specs.Spread.{Cleared, ItemFits, ItemSpread, LevelSpread, Long, SumsSmall};
 ghost use Rattle.search.specs.Sweep.{First, Swept, withPoint};
@@ -26,23 +27,11 @@ ghost use Rattle.search.specs.Sweep.{First, Swept, withPoint};
 // At most so many items have lists.
 const MOST_LISTED: usize = 6;
 
-// As many points are there for all lists.
-pub(crate) const POINTS: usize = 12288;
-
 // Three numbers make a point: a load, a cost and a key.
 const WIDTH: usize = 3;
 
-// No choice of any load.
-fn clear(capacity: usize, costs: &mut [u64])
-    requires { ⌜ capacity < length (now costs) ⌝ }
-    ensures { λ _. ⌜ Cleared capacity (now (costs .exit)) ⌝ }
-{
-    let mut u = 0;
-    while u <= capacity {
-        costs[u] = NO_COST;
-        u += 1;
-    }
-}
+// So many points are written as they come: to spread them over all loads and to sweep these takes longer.
+const SHORT: usize = 64;
 
 pub(crate) fn point_at(points: &[u64], p: usize) -> Choice
     requires { ⌜ suc p * 3 ≤ length (now points) ⌝ }
@@ -163,7 +152,47 @@ fn sweep(capacity: usize, from: usize, costs: &[u64], keys: &[u64], points: &mut
     to
 }
 
-// The list of a set with the item, behind the first `used` points, from that of the set without it. Answers where it ends.
+// The list of a set with the item, behind the first `used` points, from that of the set without it: spread over all loads,
+// and swept. Answers where it ends.
+fn list_long(
+    core: Core,
+    front: Front,
+    from: usize,
+    to: usize,
+    used: usize,
+    load: &[u64],
+    cost: &[u64],
+    points: &mut [u64],
+) -> usize
+    requires { ⌜ ItemFits core front from to (now load) (now cost) (now points) ⌝ }
+    requires { ⌜ (used + suc (core .capacity)) * 3 ≤ length (now points) ⌝ }
+    ensures { λ r. ⌜ SetAdded core front from to used (now (load .entry)) (now (cost .entry)) (now (points .entry)) (now (points .exit)) r ⌝ }
+{
+    let mut costs = [NO_COST; ENTRIES];
+    let mut keys = [0u64; ENTRIES];
+    spread_item(
+        core,
+        front,
+        from,
+        to,
+        load,
+        cost,
+        points,
+        &mut costs,
+        &mut keys,
+    );
+    sweep(core.capacity, used, &costs, &keys, points)
+}
+
+fn is_short(core: Core, from: usize, to: usize) -> bool
+    requires { ⌜ from ≤ to ⌝ }
+    requires { ⌜ core .levels * (to - from) < 2 ^ 64 ⌝ }
+    ensures { λ r. ⌜ Tells r (Short core from to) ⌝ }
+{
+    core.levels * (to - from) <= SHORT
+}
+
+// The same, in the way that takes less time.
 fn list_set(
     core: Core,
     front: Front,
@@ -173,15 +202,27 @@ fn list_set(
     load: &[u64],
     cost: &[u64],
     points: &mut [u64],
-    costs: &mut [u64],
-    keys: &mut [u64],
 ) -> usize
-    requires { ⌜ SetFits core front from to used (now load) (now cost) (now points) (now costs) (now keys) ⌝ }
+    requires { ⌜ SetFits core front from to used (now load) (now cost) (now points) ⌝ }
     ensures { λ r. ⌜ SetAdded core front from to used (now (load .entry)) (now (cost .entry)) (now (points .entry)) (now (points .exit)) r ⌝ }
 {
-    clear(core.capacity, costs);
-    spread_item(core, front, from, to, load, cost, points, costs, keys);
-    sweep(core.capacity, used, costs, keys, points)
+    if is_short(core, from, to) {
+        return append_item(core, front, from, to, used, load, cost, points);
+    }
+    list_long(core, front, from, to, used, load, cost, points)
+}
+
+// The most points that the list of a set with the item may have.
+fn most_points(core: Core, from: usize, to: usize) -> usize
+    requires { ⌜ from ≤ to ⌝ }
+    requires { ⌜ core .levels * (to - from) < 2 ^ 64 ⌝ }
+    requires { ⌜ core .capacity ≤ 4096 ⌝ }
+    ensures { λ r. ⌜ Enough core from to r ⌝ }
+{
+    if is_short(core, from, to) {
+        return SHORT;
+    }
+    core.capacity + 1
 }
 
 // The list of the set with the item and set number k of the `count` items behind it. Answers whether there is room for it.
@@ -194,73 +235,24 @@ fn list_next(
     cost: &[u64],
     points: &mut [u64],
     starts: &mut [usize],
-    costs: &mut [u64],
-    keys: &mut [u64],
 ) -> bool
-    requires { ⌜ NextFits core front count k (now load) (now cost) (now points) (now starts) (now costs) (now keys) ⌝ }
+    requires { ⌜ NextFits core front count k (now load) (now cost) (now points) (now starts) ⌝ }
     ensures { λ r. ⌜ (r ≡ true → SetsGoing core front count (now (load .entry)) (now (cost .entry)) (suc k)
         (now (points .exit)) (now (starts .exit))) ⌝ }
 {
     let at = sets_of(count) + k;
+    let from = starts[k];
+    let to = starts[k + 1];
     let used = starts[at];
-    if POINTS - used <= core.capacity {
+    if points.len() / WIDTH - used < most_points(core, from, to) {
         return false;
     }
-    let end = list_set(
-        core,
-        front,
-        starts[k],
-        starts[k + 1],
-        used,
-        load,
-        cost,
-        points,
-        costs,
-        keys,
-    );
+    let end = list_set(core, front, from, to, used, load, cost, points);
     starts[at + 1] = end;
     true
 }
 
 // The lists of all sets with the item, from those of the sets of the `count` items behind it. Answers whether they fit.
-fn list_each(
-    core: Core,
-    front: Front,
-    count: usize,
-    load: &[u64],
-    cost: &[u64],
-    points: &mut [u64],
-    starts: &mut [usize],
-    costs: &mut [u64],
-    keys: &mut [u64],
-) -> bool
-    requires { ⌜ SetsFit core front count (now load) (now cost) (now points) (now starts) ⌝ }
-    requires { ⌜ Long (core .capacity) (now costs) (now keys) ⌝ }
-    ensures { λ r. ⌜ (r ≡ true → WithItem core front count (now (load .entry)) (now (cost .entry)) (now (points .exit)) (now (starts .exit))) ⌝ }
-{
-    let sets = sets_of(count);
-    let mut k = 0;
-    while k < sets {
-        if !list_next(
-            core,
-            front,
-            count,
-            k,
-            load,
-            cost,
-            points,
-            starts,
-            costs,
-            keys,
-        ) {
-            return false;
-        }
-        k += 1;
-    }
-    true
-}
-
-// The same, with entries to spread choices over.
 fn list_sets(
     core: Core,
     front: Front,
@@ -273,19 +265,15 @@ fn list_sets(
     requires { ⌜ SetsFit core front count (now load) (now cost) (now points) (now starts) ⌝ }
     ensures { λ r. ⌜ (r ≡ true → WithItem core front count (now (load .entry)) (now (cost .entry)) (now (points .exit)) (now (starts .exit))) ⌝ }
 {
-    let mut costs = [NO_COST; ENTRIES];
-    let mut keys = [0u64; ENTRIES];
-    list_each(
-        core,
-        front,
-        count,
-        load,
-        cost,
-        points,
-        starts,
-        &mut costs,
-        &mut keys,
-    )
+    let sets = sets_of(count);
+    let mut k = 0;
+    while k < sets {
+        if !list_next(core, front, count, k, load, cost, points, starts) {
+            return false;
+        }
+        k += 1;
+    }
+    true
 }
 
 // The one set of no item, with the one choice of nothing.
@@ -360,8 +348,8 @@ pub(crate) fn list_front(
 ) -> usize
     requires { ⌜ items ≤ 12 ⌝ }
     requires { ⌜ Affordable items (core .levels) (core .capacity) (now load) (now cost) ⌝ }
-    requires { ⌜ length (now points) ≡ 36864 ⌝ }
-    requires { ⌜ length (now starts) ≡ 65 ⌝ }
+    requires { ⌜ 3 ≤ length (now points) ⌝ }
+    requires { ⌜ 65 ≤ length (now starts) ⌝ }
     ensures { λ r. ⌜ (r ≤ items) × (r ≤ 6) ⌝ }
     ensures { λ r. ⌜ FrontListed core (now (load .entry)) (now (cost .entry)) r (items - r) (now (points .exit)) (now (starts .exit)) ⌝ }
 {

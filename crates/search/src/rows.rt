@@ -10,7 +10,8 @@ use crate::value::NO_COST;
 ghost use mathlib.Core.Bool.{Bool};
 ghost use mathlib.Core.List.{List};
 ghost use mathlib.Core.Path.{_≡_};
-ghost use Prim.Native.Nat.{ℕ, _*_, _^_};
+ghost use Prim.Native.Nat.{ℕ, _*_, _^_, _≤_};
+ghost use lib.ListN.{length};
 ghost use Rattle.search.specs.Branches.{BranchFilled, BranchFits, NextFits, nextItem, withoutNext, withNext};
 ghost use Rattle.search.specs.Offered.{itemsOf};
 ghost use Rattle.search.specs.Rows.{keyBase, row};
@@ -18,7 +19,10 @@ ghost use Rattle.search.specs.Sets.{Tabled};
 ghost use Rattle.search.specs.TabledRows.{RowsFit};
 
 // Room for the lists of the first items' choices: three numbers for each choice, and where each of at most 64 lists starts.
+// Two items have at most 81 choices: making room for more would take longer than the search.
 const POINTS: usize = 36864;
+
+const FEW_POINTS: usize = 243;
 
 const STARTS: usize = 65;
 
@@ -140,7 +144,50 @@ fn fill(
     );
 }
 
-// The row of every set of n items at the whole capacity, in the entry of the set's number.
+// The row of every set of n items at the whole capacity, in the entry of the set's number, with room for lists of choices.
+fn fill_with(
+    core: Core,
+    n: usize,
+    load: &[u64],
+    cost: &[u64],
+    points: &mut [u64],
+    costs: &mut [u64],
+    keys: &mut [u64],
+)
+    requires { ⌜ RowsFit n (core .levels) (core .capacity) (now load) (now cost) (now costs) (now keys) ⌝ }
+    requires { ⌜ 3 ≤ length (now points) ⌝ }
+    ensures { λ _. ⌜ ((refusal : List ℕ) (must : List Bool) →
+        Tabled n (keyBase ^ n)
+        (λ S. row (core .levels) (itemsOf (now (load .entry)) (now (cost .entry)) refusal must n) S (core .capacity))
+        (now (costs .exit)) (now (keys .exit))) ⌝ }
+{
+    let mut starts = [0usize; STARTS];
+    let listed = list_front(core, n, load, cost, points, &mut starts);
+    let all = Branch {
+        listed,
+        ahead: n,
+        places: 0,
+        bit: 1,
+        digit: 1,
+        index: 0,
+    };
+    // The set of no item costs nothing, and has key 0.
+    let empty = [0u64; ENTRIES];
+    fill(
+        core,
+        all,
+        load,
+        cost,
+        points,
+        &starts,
+        &empty,
+        &empty,
+        costs,
+        keys,
+    );
+}
+
+// The same, with as much room as the items may need.
 pub(crate) fn fill_rows(
     n: usize,
     levels: usize,
@@ -157,29 +204,11 @@ pub(crate) fn fill_rows(
         (now (costs .exit)) (now (keys .exit))) ⌝ }
 {
     let core = Core { levels, capacity };
+    if n <= 2 {
+        let mut points = [0u64; FEW_POINTS];
+        fill_with(core, n, load, cost, &mut points, costs, keys);
+        return;
+    }
     let mut points = [0u64; POINTS];
-    let mut starts = [0usize; STARTS];
-    let listed = list_front(core, n, load, cost, &mut points, &mut starts);
-    let all = Branch {
-        listed,
-        ahead: n,
-        places: 0,
-        bit: 1,
-        digit: 1,
-        index: 0,
-    };
-    // The set of no item costs nothing, and has key 0.
-    let empty = [0u64; ENTRIES];
-    fill(
-        core,
-        all,
-        load,
-        cost,
-        &points,
-        &starts,
-        &empty,
-        &empty,
-        costs,
-        keys,
-    );
+    fill_with(core, n, load, cost, &mut points, costs, keys);
 }

@@ -1,9 +1,10 @@
 -- `list_front` takes one item less until the lists fit.
 use Prim.Native.Nat.{_-_}
 use mathlib.Core.Bool.{true}
-use mathlib.Core.Path.{_≡_, sym, _∙_}
+use mathlib.Core.Path.{_≡_, refl, _∙_}
 use native.Mathlib.Omega.{arith}
 use borrow.Author.Needs.{needs}
+use lib.ListN.{length}
 use Rattle.search.specs.Listed.{FrontListed}
 use Rattle.search.specs.ListedFront.{ListsFit, lists-stay, fewer-fit, some-item}
 use Rattle.search.specs.ListedSetSteps.{not-not}
@@ -12,7 +13,7 @@ use Rattle.search.proofs.lists.list_front.Tie as tie
 
 abbrev Inv-loop : tie.InvT-loop
 Inv-loop core items load cost points₀ starts₀ n₀ listed₀ points starts n listed =
-    ListsFit core n items load cost points starts
+    (length points ≡ length points₀) × (length starts ≡ length starts₀) × ListsFit core n items load cost points starts
     × (listed ≡ true → FrontListed core load cost n (items - n) points starts) × (n ≡ 0 → listed ≡ true)
 
 abbrev μ-loop : tie.MeasureT-loop
@@ -31,7 +32,7 @@ list-items-requires c κs =
       some-items = most .0;
       few = most .1;
       affordable = pre .1 .0;
-      points-long = pre .1 .1 .0;
+      some-points = pre .1 .1 .0;
       starts-long = pre .1 .1 .1;
     }
 
@@ -40,13 +41,15 @@ loop-holds c =
     let pre = c .before .before .before .before .before .before .before .before .before .before .before .before .pre in
     let most = c .before .before .before .before .before .before .before .most-listed .ensures in
     let called = c .before .before .before .before .list-items in (
+      refl,
+      refl,
       record {
         items-limited = pre .0;
         some-items = most .0;
         few = most .1;
         affordable = pre .1 .0;
-        points-long = called .kept .1 .1 .1 .1 .1 .0 ∙ pre .1 .1 .0;
-        starts-long = called .kept .1 .1 .1 .1 .1 .1 .0 ∙ pre .1 .1 .1;
+        some-points = rw (called .kept .1 .1 .1 .1 .1 .0) (pre .1 .1 .0);
+        starts-long = rw (called .kept .1 .1 .1 .1 .1 .1 .0) (pre .1 .1 .1);
       },
       called .ensures .0,
       called .ensures .1,
@@ -54,36 +57,39 @@ loop-holds c =
 
 sub-n : tie.Need-sub-n Inv-loop μ-loop
 sub-n c =
-    some-item (c .before .loop .listed) (c .loop-test .taken) (c .before .loop .inv .2)
+    some-item (c .before .loop .listed) (c .loop-test .taken) (c .before .loop .inv .4)
 
 list-items-requires-2 : tie.Need-list-items-requires-2 Inv-loop μ-loop
 list-items-requires-2 c κs =
-    fewer-fit (c .before .before .before .loop .inv .0)
+    fewer-fit (c .before .before .before .loop .inv .2)
 
 loop-less : tie.Need-loop-less Inv-loop μ-loop
 loop-less c =
-    omega (arith, some-item (c .before .before .before .before .before .before .before .before .loop .listed) (c .before .before .before .before .before .before .before .loop-test .taken) (c .before .before .before .before .before .before .before .before .loop .inv .2))
+    omega (arith, some-item (c .before .before .before .before .before .before .before .before .loop .listed) (c .before .before .before .before .before .before .before .loop-test .taken) (c .before .before .before .before .before .before .before .before .loop .inv .4))
 
 loop-again : tie.Need-loop-again Inv-loop μ-loop
 loop-again c =
+    let at = c .before .before .before .before .before .before .before .before .loop in
     let called = c .before .before .before .before .list-items2 in (
-      lists-stay (called .kept .1 .1 .1 .1 .1 .0) (called .kept .1 .1 .1 .1 .1 .1 .0) (fewer-fit (c .before .before .before .before .before .before .before .before .loop .inv .0)),
+      called .kept .1 .1 .1 .1 .1 .0 ∙ at .inv .0,
+      called .kept .1 .1 .1 .1 .1 .1 .0 ∙ at .inv .1,
+      lists-stay (called .kept .1 .1 .1 .1 .1 .0) (called .kept .1 .1 .1 .1 .1 .1 .0) (fewer-fit (at .inv .2)),
       called .ensures .0,
       called .ensures .1,
     )
 
 same-length : tie.Need-same-length Inv-loop μ-loop
 same-length c =
-    c .before .loop .inv .0 .points-long ∙ sym (c .before .before .before .before .before .before .before .before .before .before .before .before .before .before .pre .1 .1 .0)
+    c .before .loop .inv .0 ∙ c .before .before .before .before .before .before .list-items .kept .1 .1 .1 .1 .1 .0
 
 same-length-2 : tie.Need-same-length-2 Inv-loop μ-loop
 same-length-2 c =
-    c .before .loop .inv .0 .starts-long ∙ sym (c .before .before .before .before .before .before .before .before .before .before .before .before .before .before .pre .1 .1 .1)
+    c .before .loop .inv .1 ∙ c .before .before .before .before .before .before .list-items .kept .1 .1 .1 .1 .1 .1 .0
 
 returns : tie.Need-returns Inv-loop μ-loop
 returns c =
     let at = c .before .loop in
-    ((at .inv .0 .some-items, at .inv .0 .few), at .inv .1 (not-not (at .listed) (c .loop-test .left)))
+    ((at .inv .2 .some-items, at .inv .2 .few), at .inv .3 (not-not (at .listed) (c .loop-test .left)))
 
 pub list-front-spec : {M : Type 1} → statement M
 list-front-spec =

@@ -1,61 +1,61 @@
--- All sets are one branch, whose settled part is empty.
-use Rattle.search.specs.RelaxedItems.{flat-row}
-use Rattle.search.specs.TabledRows.{all-sets-fit, all-sets-tabled}
+-- `fill_rows` hands on room for the lists.
+use native.Mathlib.Omega.{arith}
+use Rattle.search.specs.TabledRows.{some-room}
 use borrow.Author.Needs.{needs}
 use Rattle.search.proofs.rows.fill_rows.Statement.{statement}
 use Rattle.search.proofs.rows.fill_rows.Tie as tie
 
-slice-aggregate-list-front : tie.Need-slice-aggregate-list-front
-slice-aggregate-list-front c = search needs
+slice-aggregate-fill-with : tie.Need-slice-aggregate-fill-with
+slice-aggregate-fill-with c =
+    search needs
 
-slice-aggregate-list-front-2 : tie.Need-slice-aggregate-list-front-2
-slice-aggregate-list-front-2 c = search needs
-
-list-front-requires : tie.Need-list-front-requires
-list-front-requires c κs = search needs
-
-slice-aggregate-fill : tie.Need-slice-aggregate-fill
-slice-aggregate-fill c = search needs
-
-slice-aggregate-fill-2 : tie.Need-slice-aggregate-fill-2
-slice-aggregate-fill-2 c = search needs
-
-slice-aggregate-fill-3 : tie.Need-slice-aggregate-fill-3
-slice-aggregate-fill-3 c = search needs
-
-slice-aggregate-fill-4 : tie.Need-slice-aggregate-fill-4
-slice-aggregate-fill-4 c = search needs
-
-fill-requires : tie.Need-fill-requires
-fill-requires c κs =
-    let fit = c .before .before .before .before .before .before .before .before .before .before .before .before .before .before .before .pre in
-    let lists = c .before .before .before .before .before .before .before .before .list-front .ensures in
-    all-sets-fit fit (flat-row 0 0 _ (fit .affordable .capacity-limited)) (lists .0 .0) (lists .1)
+fill-with-requires : tie.Need-fill-with-requires
+fill-with-requires c κs =
+    search needs
 
 same-length : tie.Need-same-length
-same-length c = search needs
+same-length c =
+    search needs
 
 same-length-2 : tie.Need-same-length-2
-same-length-2 c = search needs
+same-length-2 c =
+    search needs
 
 returns : tie.Need-returns
 returns c =
-    let fit = c .before .before .before .before .before .before .before .before .before .before .before .before .before .before .before .before .before .before .before .before .pre in
-    let called = c .before .before .before .before .fill in
-    all-sets-tabled fit (flat-row 0 0 _ (fit .affordable .capacity-limited)) (called .ensures) (called .kept .1 .1 .1 .1 .1 .1 .1 .1 .0) (called .kept .1 .1 .1 .1 .1 .1 .1 .1 .1 .0)
+    search needs
+
+slice-aggregate-fill-with-2 : tie.Need-slice-aggregate-fill-with-2
+slice-aggregate-fill-with-2 c =
+    search needs
+
+fill-with-requires-2 : tie.Need-fill-with-requires-2
+fill-with-requires-2 c κs =
+    (c .before .before .before .before .before .before .before .before .pre, some-room 36864 (omega arith))
+
+same-length-3 : tie.Need-same-length-3
+same-length-3 c =
+    search needs
+
+same-length-4 : tie.Need-same-length-4
+same-length-4 c =
+    search needs
+
+returns-2 : tie.Need-returns-2
+returns-2 c =
+    search needs
 
 pub fill-rows-spec : {M : Type 1} → statement M
 fill-rows-spec =
     tie.close
     (tie.spec
-    slice-aggregate-list-front
-    slice-aggregate-list-front-2
-    list-front-requires
-    slice-aggregate-fill
-    slice-aggregate-fill-2
-    slice-aggregate-fill-3
-    slice-aggregate-fill-4
-    fill-requires
+    slice-aggregate-fill-with
+    fill-with-requires
     same-length
     same-length-2
-    returns)
+    returns
+    slice-aggregate-fill-with-2
+    fill-with-requires-2
+    same-length-3
+    same-length-4
+    returns-2)
