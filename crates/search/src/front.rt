@@ -1,5 +1,6 @@
 // The rows of sets of the first items, where the row of the items behind them is at hand: read from the lists of the sets'
 // choices, so that no row is computed for them.
+use crate::lists::WIDTH;
 use crate::powers::sets_of;
 use crate::row::Core;
 use crate::rows::Branch;
@@ -37,7 +38,7 @@ fn least_listed(
     };
     let mut p = from;
     while p < to {
-        let at = p * 3;
+        let at = p * WIDTH;
         let room = capacity - points[at] as usize;
         let cost = points[at + 1] + row_costs[room];
         if cost <= best.cost {

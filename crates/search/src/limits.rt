@@ -7,28 +7,34 @@ ghost use Rattle.search.specs.Limits.{LongEnough, ShapeLimited, Tells, W
 ghost use Rattle.search.specs.Offered.{mostCost};
 ghost use Rattle.search.specs.OfferedLaws.{CheapAt};
 
+const MOST_ITEMS: usize = 12;
+
+const MOST_CORES: usize = 4;
+
+const MOST_CAPACITY: usize = 4096;
+
 // 2^55
 const MOST_COST: u64 = 0x80_0000_0000_0000;
 
 fn shape_within(shape: Shape) -> bool
     ensures { λ r. ⌜ Tells r (ShapeLimited shape) ⌝ }
 {
-    if 12 < shape.items {
+    if MOST_ITEMS < shape.items {
         return false;
     }
     if shape.cores < 1 {
         return false;
     }
-    if 4 < shape.cores {
+    if MOST_CORES < shape.cores {
         return false;
     }
     if shape.levels < 1 {
         return false;
     }
-    if 8 < shape.levels {
+    if STRIDE < shape.levels {
         return false;
     }
-    if 4096 < shape.capacity {
+    if MOST_CAPACITY < shape.capacity {
         return false;
     }
     true

@@ -28,7 +28,7 @@ ghost use Rattle.search.specs.Sweep.{First, Swept, withPoint};
 const MOST_LISTED: usize = 6;
 
 // Three numbers make a point: a load, a cost and a key.
-const WIDTH: usize = 3;
+pub(crate) const WIDTH: usize = 3;
 
 // So many points are written as they come: to spread them over all loads and to sweep these takes longer.
 const SHORT: usize = 64;

@@ -1,5 +1,5 @@
-// The least value of every set of the items on several cores, one core after the other. A set is a number below 2^items,
-// the first item its most significant digit; a table is a slice of costs and one of keys.
+// One core more: the least values of all sets on some cores become those on these and one core. A set is a number below
+// 2^items, the first item its most significant digit; a table is a slice of costs and one of keys.
 use crate::powers::KEY_BASE;
 use crate::powers::sets_of;
 use crate::value::NO_COST;
