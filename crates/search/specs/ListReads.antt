@@ -37,8 +37,8 @@ pub record PointRead (capacity p : ℕ) (points rowCosts rowKeys : List ℕ) : T
   pub key-fits : pointAt points p .key + getD rowKeys (capacity - pointAt points p .load) 0 < 2 ^ 64
 
 -- what the entry p and the row behind it are worth
-abbrev pub sumAt : (capacity p : ℕ) (points rowCosts rowKeys : List ℕ) → Worth
-sumAt capacity p points rowCosts rowKeys =
+abbrev pub pointWorth : (capacity p : ℕ) (points rowCosts rowKeys : List ℕ) → Worth
+pointWorth capacity p points rowCosts rowKeys =
     record {
       cost = pointAt points p .cost + getD rowCosts (capacity - pointAt points p .load) 0;
       key = pointAt points p .key + getD rowKeys (capacity - pointAt points p .load) 0;
@@ -66,7 +66,7 @@ module _ {capacity from to : ℕ} {points rowCosts rowKeys : List ℕ} where
     rest-small : Small places (getD rowCosts (capacity - pointAt points p .load) 0) (getD rowKeys (capacity - pointAt points p .load) 0)
     rest-small = read .row-held .small (capacity - pointAt points p .load) (omega arith)
 
-    key-bound : sumAt capacity p points rowCosts rowKeys .key < keyBase ^ (n + places)
+    key-bound : pointWorth capacity p points rowCosts rowKeys .key < keyBase ^ (n + places)
     key-bound = omega (arith, rest-small .digits, read .listed .small p lower under .digits)
 
     pub point-read : PointRead capacity p points rowCosts rowKeys
@@ -81,7 +81,7 @@ module _ {capacity from to : ℕ} {points rowCosts rowKeys : List ℕ} where
           key-fits = omega (arith, key-bound, keys-fit (read .items-limited));
         }
 
-    point-value : before (pointAt points p) (rowOf rowCosts rowKeys) capacity ≡ worthOf (sumAt capacity p points rowCosts rowKeys)
+    point-value : before (pointAt points p) (rowOf rowCosts rowKeys) capacity ≡ worthOf (pointWorth capacity p points rowCosts rowKeys)
     unfolding before rowOf
     point-value =
         let small = read .listed .small p lower under in
@@ -95,7 +95,7 @@ module _ {capacity from to : ℕ} {points rowCosts rowKeys : List ℕ} where
 
     module _ {best : Worth}
         (least : Holds (n + places) (leastListed points from (p - from) (rowOf rowCosts rowKeys) capacity) (best .cost) (best .key)) where
-      dearer-holds : best .cost < sumAt capacity p points rowCosts rowKeys .cost →
+      dearer-holds : best .cost < pointWorth capacity p points rowCosts rowKeys .cost →
           Holds (n + places) (leastListed points from (suc p - from) (rowOf rowCosts rowKeys) capacity) (best .cost) (best .key)
       dearer-holds dear =
           record {
@@ -103,9 +103,9 @@ module _ {capacity from to : ℕ} {points rowCosts rowKeys : List ℕ} where
             small = least .small;
           }
 
-      lesser-holds : {next : Worth} → sumAt capacity p points rowCosts rowKeys .cost ≤ best .cost →
-          worthOf next ≡ lesser (worthOf best) (worthOf (sumAt capacity p points rowCosts rowKeys)) →
-          (next ≡ best) ⊎ (next ≡ sumAt capacity p points rowCosts rowKeys) →
+      lesser-holds : {next : Worth} → pointWorth capacity p points rowCosts rowKeys .cost ≤ best .cost →
+          worthOf next ≡ lesser (worthOf best) (worthOf (pointWorth capacity p points rowCosts rowKeys)) →
+          (next ≡ best) ⊎ (next ≡ pointWorth capacity p points rowCosts rowKeys) →
           Holds (n + places) (leastListed points from (suc p - from) (rowOf rowCosts rowKeys) capacity) (next .cost) (next .key)
       lesser-holds {next} cheap is-lesser either =
           record {
@@ -113,7 +113,7 @@ module _ {capacity from to : ℕ} {points rowCosts rowKeys : List ℕ} where
             small = go either;
           }
         where
-          go : (next ≡ best) ⊎ (next ≡ sumAt capacity p points rowCosts rowKeys) → Small (n + places) (next .cost) (next .key)
+          go : (next ≡ best) ⊎ (next ≡ pointWorth capacity p points rowCosts rowKeys) → Small (n + places) (next .cost) (next .key)
           go (inl e) = rw e (least .small)
           go (inr e) =
               rw e
@@ -125,13 +125,13 @@ module _ {capacity from to : ℕ} {points rowCosts rowKeys : List ℕ} where
 
   module _ {p : ℕ} (lower : from ≤ p) (under : p < to) {best : Worth}
       (least : LeastTo capacity from to points rowCosts rowKeys p best) where
-    pub least-if-dearer : best .cost < sumAt capacity p points rowCosts rowKeys .cost →
+    pub least-if-dearer : best .cost < pointWorth capacity p points rowCosts rowKeys .cost →
         LeastTo capacity from to points rowCosts rowKeys (suc p) best
     least-if-dearer dear n places f read = dearer-holds read lower under (least n places f read) dear
 
-    pub least-if-cheap : {next : Worth} → sumAt capacity p points rowCosts rowKeys .cost ≤ best .cost →
-        worthOf next ≡ lesser (worthOf best) (worthOf (sumAt capacity p points rowCosts rowKeys)) →
-        (next ≡ best) ⊎ (next ≡ sumAt capacity p points rowCosts rowKeys) →
+    pub least-if-cheap : {next : Worth} → pointWorth capacity p points rowCosts rowKeys .cost ≤ best .cost →
+        worthOf next ≡ lesser (worthOf best) (worthOf (pointWorth capacity p points rowCosts rowKeys)) →
+        (next ≡ best) ⊎ (next ≡ pointWorth capacity p points rowCosts rowKeys) →
         LeastTo capacity from to points rowCosts rowKeys (suc p) next
     least-if-cheap cheap is-lesser either n places f read =
         lesser-holds read lower under (least n places f read) cheap is-lesser either

@@ -11,7 +11,7 @@ use lib.ListN.{length, getD, set, length-set}
 use lib.Pow.{pow-pos}
 use lib.Seq.{getD-set-same, getD-set-other}
 use Rattle.search.specs.Listed.{Listed, SetsListed}
-use Rattle.search.specs.ListedSets.{Enough, SetFits, SetAdded, SetsRoom, WithItem, SetsFit, SetsGoing, NextFits}
+use Rattle.search.specs.ListedSets.{Enough, SetFits, SetAdded, SetsRoom, WithItem, SetsFit, SetsGoing, NextSetFits}
 use Rattle.search.specs.ListedSetLaws.{listed-absent, listed-present}
 use Rattle.search.specs.Offered.{rowItem}
 use Rattle.search.specs.PointLaws.{listed-older}
@@ -96,7 +96,7 @@ module _ {core : Core} {front : Front} {count : ℕ} {load cost : List ℕ} wher
         starts-long = omega (arith, room .starts-long);
       }
 
-  module _ {k : ℕ} {points starts : List ℕ} (fits : NextFits core front count k load cost points starts) where
+  module _ {k : ℕ} {points starts : List ℕ} (fits : NextSetFits core front count k load cost points starts) where
     sum : count + (front .places - count) ≡ front .places
     sum = omega (arith, fits .room .count-behind)
 

@@ -69,7 +69,7 @@ pub record SetsGoing (core : Core) (front : Front) (count : ℕ) (load cost : Li
   pub behind : Without core front count load cost points starts
   pub sofar : SetsListed core load cost (front .item) (suc count) (front .places - count) (2 ^ count + k) points starts
 
-pub record NextFits (core : Core) (front : Front) (count k : ℕ) (load cost points starts : List ℕ) : Type 0 where
+pub record NextSetFits (core : Core) (front : Front) (count k : ℕ) (load cost points starts : List ℕ) : Type 0 where
   pub room : SetsRoom core front count load cost starts
   pub going : SetsGoing core front count load cost k points starts
   pub there : k < 2 ^ count

@@ -19,7 +19,7 @@ ghost use lib.ListN.{length, set};
 ghost use Rattle.search.specs.Limits.{Tells};
 ghost use Rattle.search.specs.Listed.{FrontListed, pointAt};
 ghost use Rattle.search.specs.ListedFront.{frontAt, ListsFit, nothing};
-ghost use Rattle.search.specs.ListedSets.{Enough, NextFits, SetAdded, SetFits, SetsFit, SetsGoing, Short, WithItem};
+ghost use Rattle.search.specs.ListedSets.{Enough, NextSetFits, SetAdded, SetFits, SetsFit, SetsGoing, Short, WithItem};
 ghost use Rattle.search.specs.Offered.{Affordable};
 ghost use Rattle.search.specs.Spread.{Cleared, ItemFits, ItemSpread, LevelSpread, Long, SumsSmall};
 ghost use Rattle.search.specs.Sweep.{First, Swept, withPoint};
@@ -236,7 +236,7 @@ fn list_next(
     points: &mut [u64],
     starts: &mut [usize],
 ) -> bool
-    requires { ⌜ NextFits core front count k (now load) (now cost) (now points) (now starts) ⌝ }
+    requires { ⌜ NextSetFits core front count k (now load) (now cost) (now points) (now starts) ⌝ }
     ensures { λ r. ⌜ (r ≡ true → SetsGoing core front count (now (load .entry)) (now (cost .entry)) (suc k)
         (now (points .exit)) (now (starts .exit))) ⌝ }
 {
