@@ -21,6 +21,11 @@ use Rattle.schedule.specs.Rows.{dueAt, afterRelease, afterRun, chosen, e
 use Rattle.schedule.specs.declared.dispatch.Core.{Core}
 use Rattle.schedule.specs.declared.dispatch.State.{State}
 
+-- a choice between equals
+pub either-way : (b : Bool) (x : ℕ) → x ≡ cond b x x
+either-way true x = refl
+either-way false x = refl
+
 -- task i's job is released after those of the tasks below it
 pub release-next : (core : Core) (s : State) (i v : ℕ) (left : List ℕ) → i < length (s .left) →
     left ≡ onto (listOf (readyOf core s) i) (s .left) → v ≡ afterRelease (tasksOf core) (s .tick) i (getD left i 0) →

@@ -1,6 +1,8 @@
 // Earliest deadline first on one core, one tick at a time.
+ghost use mathlib.Core.Bool.{cond};
 ghost use mathlib.Core.Path.{_≡_};
-ghost use Prim.Native.Nat.{_+_, _≤_, _<_};
+ghost use Prim.Native.Nat.{_+_, _*_, _/_, _%_, _≤_, _<_};
+ghost use lib.Dec.{eqb};
 ghost use lib.ListN.{length, getD};
 ghost use Rattle.instance.specs.Limits.{mostPeriod, mostSpan, mostWord};
 ghost use Rattle.laws.specs.Lists.{listOf, onto};
@@ -23,17 +25,19 @@ pub(crate) struct State {
     pub(crate) last: u32,
 }
 
-// The ticks left of task i once the jobs of this tick are released, from those left before.
-fn after_release(core: Core, tick: u32, i: usize, left: u32) -> u32
-    requires { ⌜ CoreOk core ⌝ }
-    requires { ⌜ i < core .size ⌝ }
-    ensures { λ r. ⌜ r ≡ rows.afterRelease (tasksOf core) tick i left ⌝ }
+// The ticks left of a task once the jobs of this tick are released, from those left before: all of its ticks at a release.
+// Where as many are left, nothing is divided; so it is of every task that is kept on another core, for it has none.
+fn after_release(period: u32, ticks: u32, tick: u32, left: u32) -> u32
+    requires { ⌜ 0 < period ⌝ }
+    ensures { λ r. ⌜ r ≡ cond (eqb (tick % period) 0) ticks left ⌝ }
 {
-    if tick % core.period[i] == 0 {
-        core.ticks[i]
-    } else {
-        left
+    if ticks == left {
+        return left;
     }
+    if tick % period == 0 {
+        return ticks;
+    }
+    left
 }
 
 // The ticks left once the jobs of the state's tick are released.
@@ -45,21 +49,19 @@ fn release(core: Core, s: State) -> [u32; 12]
     let mut left = s.left;
     let mut i = 0;
     while i < core.size {
-        left[i] = after_release(core, s.tick, i, left[i]);
+        left[i] = after_release(core.period[i], core.ticks[i], s.tick, left[i]);
         i += 1;
     }
     left
 }
 
-// The due tick of the job of task i that was released last by this tick.
-fn due_at(core: Core, tick: u32, i: usize) -> u32
-    requires { ⌜ CoreOk core ⌝ }
-    requires { ⌜ i < core .size ⌝ }
-    requires { ⌜ tick + mostPeriod ≤ mostWord ⌝ }
-    ensures { λ r. ⌜ r ≡ rows.dueAt (tasksOf core) tick i ⌝ }
+// The due tick of a task's job that was released last by this tick.
+fn due_at(period: u32, window: u32, tick: u32) -> u32
+    requires { ⌜ 0 < period ⌝ }
+    requires { ⌜ tick + window ≤ mostWord ⌝ }
+    ensures { λ r. ⌜ r ≡ tick / period * period + window ⌝ }
 {
-    let p = core.period[i];
-    tick / p * p + core.window[i]
+    tick / period * period + window
 }
 
 // Of the tasks with ticks left, the number of the one that is due first, of equal ones the lowest; 0 where none has.
@@ -73,7 +75,7 @@ fn earliest(core: Core, tick: u32, left: [u32; 12]) -> u32
     let mut i = 0;
     while i < core.size {
         if left[i] != 0 {
-            let due = due_at(core, tick, i);
+            let due = due_at(core.period[i], core.window[i], tick);
             if best == 0 || due < best_due {
                 best = i as u32 + 1;
                 best_due = due;

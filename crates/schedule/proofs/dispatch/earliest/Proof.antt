@@ -3,34 +3,49 @@ use Prim.Native.Nat.{_≤_, _-_}
 use mathlib.Core.Logic.{inl, inr, ⊎-elim}
 use mathlib.Core.Path.{_≡_, refl, _∙_}
 use native.Mathlib.Omega.{arith}
-use borrow.Author.Needs.{needs}
 use borrow.Author.Tests.{ltb-true, ltb-false}
 use lib.ListN.{getD}
 use Rattle.schedule.specs.Dispatching.{tasksOf}
 use Rattle.schedule.specs.StepLaws.{Picked, pick-passes-idle, pick-keeps, pick-takes}
 use Rattle.schedule.specs.Rows.{dueAt, earliest}
+use borrow.Author.Needs.{needs}
 use Rattle.schedule.proofs.dispatch.earliest.Statement.{statement}
 use Rattle.schedule.proofs.dispatch.earliest.Tie as tie
 
 abbrev Inv-loop : tie.InvT-loop
-Inv-loop core tick left best₀ best-due₀ i₀ best best-due i =
+Inv-loop tick core left best₀ best-due₀ i₀ best best-due i =
     (i ≤ core .size) × Picked (dueAt (tasksOf core) tick) (λ k. getD left k 0) i best best-due
 
 abbrev μ-loop : tie.MeasureT-loop
-μ-loop core tick left best₀ best-due₀ i₀ best best-due i = core .size - i
+μ-loop tick core left best₀ best-due₀ i₀ best best-due i = core .size - i
 
 loop-holds : tie.Need-loop-holds Inv-loop μ-loop
 unfolding earliest
 loop-holds c = (search needs, record { number = refl; is-due = λ some. absurd (some refl) })
 
-mul-if2 : tie.Need-mul-if2 Inv-loop μ-loop
-mul-if2 c = search needs
+mul-if1 : tie.Need-mul-if1 Inv-loop μ-loop
+mul-if1 c = search needs
 
-array-read-if2 : tie.Need-array-read-if2 Inv-loop μ-loop
-array-read-if2 c = search needs
+array-read-if1 : tie.Need-array-read-if1 Inv-loop μ-loop
+array-read-if1 c = search needs
+
+mul-due-at : tie.Need-mul-due-at Inv-loop μ-loop
+mul-due-at c = search needs
+
+element-copy-out-due-at : tie.Need-element-copy-out-due-at Inv-loop μ-loop
+element-copy-out-due-at c = search needs
+
+mul-due-at-2 : tie.Need-mul-due-at-2 Inv-loop μ-loop
+mul-due-at-2 c = search needs
+
+element-copy-out-due-at-2 : tie.Need-element-copy-out-due-at-2 Inv-loop μ-loop
+element-copy-out-due-at-2 c = search needs
 
 due-at-requires : tie.Need-due-at-requires Inv-loop μ-loop
-due-at-requires c κs = search needs
+due-at-requires c κs =
+    let start = c .before .before .before .before .before in
+    let below = c .before .before .before .loop-test .taken in
+    (start .pre .0 .period-above-0 _ below, omega (arith, start .pre .0 .window-bounded _ below, start .pre .1))
 
 cast-best : tie.Need-cast-best Inv-loop μ-loop
 cast-best c = search needs
@@ -45,34 +60,35 @@ loop-less : tie.Need-loop-less Inv-loop μ-loop
 loop-less c = search needs
 
 loop-again : tie.Need-loop-again Inv-loop μ-loop
+unfolding dueAt
 loop-again c =
-    let at = c .before .before .before .loop in
+    let at = c .before .before .loop in
     let picked = at .inv .1 in (
       search needs,
       ⊎-elim
           (λ taken.
-          let due = taken .1 .ensures in
-          rw (taken .3, taken .4 ∙ due)
+          let due = taken .3 .ensures in
+          rw (taken .5, taken .6 ∙ due)
           (pick-takes _ _ (at .i) (at .best) (at .best-due) picked (taken .0 .taken)
           (⊎-elim
           (λ first. inl (first .taken))
           (λ earlier. inr (omega (arith, due, ltb-true)))
-          (taken .2 .came))))
+          (taken .4 .came))))
           (⊎-elim
           (λ kept.
-          let due = kept .1 .ensures in
-          rw (kept .4, kept .5)
-          (pick-keeps _ _ (at .i) (at .best) (at .best-due) picked (kept .0 .taken) (kept .2 .left)
+          let due = kept .3 .ensures in
+          rw (kept .6, kept .7)
+          (pick-keeps _ _ (at .i) (at .best) (at .best-due) picked (kept .0 .taken) (kept .4 .left)
           (omega (arith, due, ltb-false))))
           (λ idle. rw (idle .1, idle .2) (pick-passes-idle _ _ (at .i) (at .best) (at .best-due) picked (idle .0 .left))))
-          (c .if2 .came),
+          (c .if1 .came),
     )
 
 returns : tie.Need-returns Inv-loop μ-loop
 returns c =
-    let at = c .before .before .loop in
-    let a = c .before .before .before .args in
-    let all : at .i ≡ a .core .size = omega arith in
+    let at = c .before .loop in
+    let a = c .before .before .args in
+    let all : at .i ≡ a .t1 .size = omega arith in
     rw all at (at .inv .1 .number)
 
 pub earliest-spec : {M : Type 1} → statement M
@@ -82,8 +98,12 @@ earliest-spec =
     Inv-loop
     μ-loop
     loop-holds
-    mul-if2
-    array-read-if2
+    mul-if1
+    array-read-if1
+    mul-due-at
+    element-copy-out-due-at
+    mul-due-at-2
+    element-copy-out-due-at-2
     due-at-requires
     cast-best
     add-best
