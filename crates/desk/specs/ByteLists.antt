@@ -16,8 +16,8 @@ use Rattle.instance.specs.Refusals.{Reading, refused, accepted, room, _andThen_
 use Rattle.instance.specs.SiteFile.{problemOf}
 use Rattle.instance.specs.SiteFileLaws.{accepted-is-valid}
 use Rattle.instance.specs.Valid.{Valid}
-use Rattle.instance.specs.declared.refusal.Verdict.{Verdict}
-use Rattle.instance.specs.declared.refusal.Verdict.the-variants.{Accepted, Refused}
+use Rattle.instance.specs.declared.Verdict.{Verdict}
+use Rattle.instance.specs.declared.Verdict.the-variants.{Accepted, Refused}
 use Rattle.schedule.specs.Tables.{tableSize}
 use Rattle.planner.specs.BestPlanLaws.{best-plan-passes}
 use Rattle.planner.specs.OptionsLaws.{passing-choices}

@@ -15,9 +15,9 @@ use Rattle.instance.specs.Node.{Problem, taskCount}
 use Rattle.instance.specs.Refusals.{Reading, refused, accepted, room, _andThen_}
 use Rattle.instance.specs.SiteFile.{problemOf}
 use Rattle.instance.specs.SiteFileLaws.{accepted-is-valid}
-use Rattle.instance.specs.declared.refusal.Refusal.the-variants.{GivenPlan}
-use Rattle.instance.specs.declared.refusal.Verdict.{Verdict}
-use Rattle.instance.specs.declared.refusal.Verdict.the-variants.{Accepted, Refused}
+use Rattle.instance.specs.declared.Refusal.the-variants.{GivenPlan}
+use Rattle.instance.specs.declared.Verdict.{Verdict}
+use Rattle.instance.specs.declared.Verdict.the-variants.{Accepted, Refused}
 use Rattle.schedule.specs.Checks.{check}
 use Rattle.schedule.specs.Outcomes.{checkOutcomeOf, checkOutcome}
 use Rattle.schedule.specs.Plans.{choicesPass}

@@ -8,7 +8,7 @@ use Rattle.laws.specs.PaddedLaws.{take-padded}
 use Rattle.instance.specs.Limits.{mostLevels, mostTasks}
 use Rattle.instance.specs.Node.{Problem, levelCount, taskCount, levelAt, taskAt, noLevel, noTask, span, stored}
 use Rattle.instance.specs.Valid.{Valid}
-use Rattle.instance.specs.declared.node.Instance.{Instance}
+use Rattle.instance.specs.declared.Instance.{Instance}
 
 unfoldable pub problemIn : Instance → Problem
 problemIn inst =

@@ -11,9 +11,9 @@ use Rattle.instance.specs.SiteFile.{Taken, Take, _>>=_, done, word, betw
 use Rattle.instance.specs.declared.levels.LevelRead.{LevelRead}
 use Rattle.instance.specs.declared.levels.LevelRead.the-variants as LevelRead
 use Rattle.instance.specs.declared.levels.LevelsRead.{LevelsRead}
-use Rattle.instance.specs.declared.node.Level.{Level}
-use Rattle.instance.specs.declared.refusal.Refusal.{Refusal}
-use Rattle.instance.specs.declared.refusal.Verdict.the-variants.{Accepted, Refused}
+use Rattle.instance.specs.declared.Level.{Level}
+use Rattle.instance.specs.declared.Refusal.{Refusal}
+use Rattle.instance.specs.declared.Verdict.the-variants.{Accepted, Refused}
 
 -- the level after `before`
 unfoldable pub oneLevel : Level → Take Level

@@ -17,8 +17,8 @@ use Rattle.instance.specs.SiteFile.{Taken, refused, taken, levels}
 use Rattle.instance.specs.TakenLaws.{Holds, KeepsPlace, continue-assoc, continue-holds, word-holds, done-holds, bind-keeps-place, done-keeps-place, word-keeps-place, between-holds}
 use Rattle.instance.specs.declared.levels.LevelRead.{LevelRead}
 use Rattle.instance.specs.declared.levels.LevelRead.the-variants as LevelRead
-use Rattle.instance.specs.declared.node.Level.{Level}
-use Rattle.instance.specs.declared.refusal.Refusal.{Refusal}
+use Rattle.instance.specs.declared.Level.{Level}
+use Rattle.instance.specs.declared.Refusal.{Refusal}
 
 -- one level
 

@@ -6,10 +6,10 @@ use lib.ListN.{length, getD, replicate}
 use Rattle.laws.specs.Lists.{padded}
 use Rattle.laws.specs.Multiples.{lcm}
 use Rattle.instance.specs.Limits.{mostLevels, mostTasks}
-use Rattle.instance.specs.declared.node.Instance.{Instance}
-use Rattle.instance.specs.declared.node.Level.{Level}
-use Rattle.instance.specs.declared.node.Task.{Task}
-use Rattle.instance.specs.declared.node.Weights.{Weights}
+use Rattle.instance.specs.declared.Instance.{Instance}
+use Rattle.instance.specs.declared.Level.{Level}
+use Rattle.instance.specs.declared.Task.{Task}
+use Rattle.instance.specs.declared.Weights.{Weights}
 
 -- "A node has M equal cores and H clock levels." The tasks are numbered from 1 in the papers and from 0 here.
 pub record Problem : Type 0 where

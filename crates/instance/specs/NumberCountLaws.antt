@@ -16,10 +16,10 @@ use Rattle.instance.specs.Outcomes.{wordsOutcome}
 use Rattle.instance.specs.Refusals.{Reading, refused, accepted, room}
 use Rattle.instance.specs.Text.{isDigit, value, begins, numbers, faulty, firstFault, wordsOf}
 use Rattle.instance.specs.WordsLaws.{WordsRead}
-use Rattle.instance.specs.declared.refusal.Refusal.{Refusal}
-use Rattle.instance.specs.declared.refusal.Refusal.the-variants.{Text}
-use Rattle.instance.specs.declared.refusal.TextRead.{TextRead}
-use Rattle.instance.specs.declared.refusal.TextRead.the-variants.{Words, Refused}
+use Rattle.instance.specs.declared.Refusal.{Refusal}
+use Rattle.instance.specs.declared.Refusal.the-variants.{Text}
+use Rattle.instance.specs.declared.TextRead.{TextRead}
+use Rattle.instance.specs.declared.TextRead.the-variants.{Words, Refused}
 
 -- half of the most bytes
 abbrev pub mostTextWords : ℕ

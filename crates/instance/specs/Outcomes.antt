@@ -8,11 +8,11 @@ use Rattle.instance.specs.Node.{Problem, stored, noInstance}
 use Rattle.instance.specs.Refusals.{Reading, refused, accepted, room}
 use Rattle.instance.specs.SiteFile.{problemOf}
 use Rattle.instance.specs.Text.{wordsOf}
-use Rattle.instance.specs.declared.refusal.InstanceRead.{InstanceRead}
-use Rattle.instance.specs.declared.refusal.TextRead.{TextRead}
-use Rattle.instance.specs.declared.refusal.TextRead.the-variants as TextRead
-use Rattle.instance.specs.declared.refusal.Verdict.{Verdict}
-use Rattle.instance.specs.declared.refusal.Verdict.the-variants.{Accepted, Refused}
+use Rattle.instance.specs.declared.InstanceRead.{InstanceRead}
+use Rattle.instance.specs.declared.TextRead.{TextRead}
+use Rattle.instance.specs.declared.TextRead.the-variants as TextRead
+use Rattle.instance.specs.declared.Verdict.{Verdict}
+use Rattle.instance.specs.declared.Verdict.the-variants.{Accepted, Refused}
 
 pub record WordsOutcome : Type 0 where
   pub answer : TextRead

@@ -10,7 +10,7 @@ use Rattle.instance.specs.Node.{Problem, noLevel}
 use Rattle.instance.specs.SiteFile.{taken, word, levels}
 use Rattle.instance.specs.Valid.{InRange, Valid, wordsOfLevels}
 use Rattle.instance.specs.ReadWords.{continued, first-word, between-true, in-range-between, taken-same}
-use Rattle.instance.specs.declared.node.Level.{Level}
+use Rattle.instance.specs.declared.Level.{Level}
 
 -- a quantity of the levels rises from above `before` to at most `most`
 pub data Rising (quantity : Level → ℕ) (most : ℕ) : ℕ → List Level → Type 0 where

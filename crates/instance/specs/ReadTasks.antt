@@ -17,7 +17,7 @@ use Rattle.instance.specs.SiteFile.{taken, word, between, period, isPena
 use Rattle.instance.specs.SpanLaws.{so-far-at-most-spanFrom}
 use Rattle.instance.specs.Valid.{InRange, ValidTask, wordsOfTasks}
 use Rattle.instance.specs.ReadWords.{continued, first-word, between-true, in-range-between, taken-same, guarded}
-use Rattle.instance.specs.declared.node.Task.{Task}
+use Rattle.instance.specs.declared.Task.{Task}
 
 isPenalty-true : {w : ℕ} → isPenalty w ≡ true → InRange 1 Limits.mostPenalty w ⊎ (w ≡ Limits.mayNotBeRefused)
 unfolding isPenalty

@@ -8,9 +8,9 @@ use lib.ListN.{drop}
 use Rattle.instance.specs.Sections.{answered, wordRead}
 use Rattle.instance.specs.SiteFile.{Taken, refused, taken, word}
 use Rattle.instance.specs.TakenLaws.{Holds, InPlace, word-keeps-place}
-use Rattle.instance.specs.declared.refusal.Refusal.{Refusal}
-use Rattle.instance.specs.declared.refusal.Verdict.{Verdict}
-use Rattle.instance.specs.declared.refusal.Verdict.the-variants.{Accepted, Refused}
+use Rattle.instance.specs.declared.Refusal.{Refusal}
+use Rattle.instance.specs.declared.Verdict.{Verdict}
+use Rattle.instance.specs.declared.Verdict.the-variants.{Accepted, Refused}
 use Rattle.instance.specs.declared.word.Word.{Word}
 use Rattle.instance.specs.declared.word.Word.the-variants as Word
 

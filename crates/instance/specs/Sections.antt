@@ -1,8 +1,8 @@
 -- How the code hands over what it takes from the list: a refusal, or what the words make and the index of the next word.
 use Prim.Native.Nat.{ℕ}
 use Rattle.instance.specs.SiteFile.{Taken, refused, taken, Settings}
-use Rattle.instance.specs.declared.refusal.Refusal.{Refusal}
-use Rattle.instance.specs.declared.refusal.Verdict.the-variants.{Accepted, Refused}
+use Rattle.instance.specs.declared.Refusal.{Refusal}
+use Rattle.instance.specs.declared.Verdict.the-variants.{Accepted, Refused}
 use Rattle.instance.specs.declared.settings.SettingsRead.{SettingsRead}
 use Rattle.instance.specs.declared.word.Word.{Word}
 use Rattle.instance.specs.declared.word.Word.the-variants as Word

@@ -13,8 +13,8 @@ use Rattle.instance.specs.TakenLaws.{KeepsPlace, continue-assoc, continu
 use Rattle.instance.specs.Tasks.{tasksSection, noTasks, theseTasks, tasksRead}
 use Rattle.instance.specs.TasksLaws.{tasks-section-keeps-place}
 use Rattle.instance.specs.declared.levels.LevelsRead.{LevelsRead}
-use Rattle.instance.specs.declared.refusal.Refusal.{Refusal}
-use Rattle.instance.specs.declared.refusal.Verdict.the-variants.{Accepted, Refused}
+use Rattle.instance.specs.declared.Refusal.{Refusal}
+use Rattle.instance.specs.declared.Verdict.the-variants.{Accepted, Refused}
 use Rattle.instance.specs.declared.settings.SettingsRead.{SettingsRead}
 use Rattle.instance.specs.declared.tasks.TasksRead.{TasksRead}
 

@@ -5,8 +5,8 @@ use Rattle.instance.specs.Outcomes.{instanceReadOf}
 use Rattle.instance.specs.SiteFile.{Taken, Take, _>>=_, done, end, Settings, readingOf}
 use Rattle.instance.specs.Tasks.{tasksSection}
 use Rattle.instance.specs.declared.levels.LevelsRead.{LevelsRead}
-use Rattle.instance.specs.declared.refusal.InstanceRead.{InstanceRead}
-use Rattle.instance.specs.declared.refusal.Verdict.the-variants.{Accepted}
+use Rattle.instance.specs.declared.InstanceRead.{InstanceRead}
+use Rattle.instance.specs.declared.Verdict.the-variants.{Accepted}
 use Rattle.instance.specs.declared.settings.SettingsRead.{SettingsRead}
 use Rattle.instance.specs.declared.tasks.TasksRead.{TasksRead}
 

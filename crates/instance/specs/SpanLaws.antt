@@ -9,7 +9,7 @@ use Rattle.laws.specs.Multiples.{lcm}
 use Rattle.laws.specs.MultiplesLaws.{left-divides-lcm, right-divides-lcm, lcm-above-zero, lcm-divides-common-multiple}
 use Rattle.instance.specs.Node.{Problem, taskCount, taskAt, noTask, spanFrom, span}
 use Rattle.instance.specs.Valid.{Valid}
-use Rattle.instance.specs.declared.node.Task.{Task}
+use Rattle.instance.specs.declared.Task.{Task}
 
 -- P holds of every task's period
 abbrev pub EachPeriod : (ℕ → Type 0) → List Task → Type 0

@@ -7,7 +7,7 @@ use lib.Dec.{leb, ltb, eqb}
 use lib.ListN.{length, take}
 use Rattle.instance.specs.Limits.{mostTextBytes, mostWord}
 use Rattle.instance.specs.Refusals.{Reading, refused, accepted}
-use Rattle.instance.specs.declared.refusal.Refusal.the-variants.{Text}
+use Rattle.instance.specs.declared.Refusal.the-variants.{Text}
 
 -- the bytes '0' to '9'
 unfoldable pub isDigit : ℕ → Bool

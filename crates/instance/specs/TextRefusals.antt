@@ -10,8 +10,8 @@ use Rattle.instance.specs.Limits.{mostTextBytes}
 use Rattle.instance.specs.NumberCountLaws.{first-fault-at-most}
 use Rattle.instance.specs.Refusals.{refused, accepted, placeOf}
 use Rattle.instance.specs.Text.{numbers, firstFault, wordsOf}
-use Rattle.instance.specs.declared.refusal.Refusal.{Refusal}
-use Rattle.instance.specs.declared.refusal.Refusal.the-variants.{Text}
+use Rattle.instance.specs.declared.Refusal.{Refusal}
+use Rattle.instance.specs.declared.Refusal.the-variants.{Text}
 
 pub text-refusal-place : (text : List ℕ) {r : Refusal} → wordsOf text ≡ refused r → placeOf r ≤ mostTextBytes
 unfolding wordsOf

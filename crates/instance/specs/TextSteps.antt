@@ -11,10 +11,10 @@ use Rattle.laws.specs.ListLaws.{rest-after, below-length, onto-one-more}
 use Rattle.laws.specs.Lists.{onto}
 use Rattle.instance.specs.Text.{numbers, firstFault}
 use Rattle.instance.specs.TextLaws.{NumberTaken, EndReached, FaultFound}
-use Rattle.instance.specs.declared.refusal.Refusal.{Refusal}
-use Rattle.instance.specs.declared.refusal.Refusal.the-variants.{Text}
-use Rattle.instance.specs.declared.refusal.TextRead.{TextRead}
-use Rattle.instance.specs.declared.refusal.TextRead.the-variants.{Words, Refused}
+use Rattle.instance.specs.declared.Refusal.{Refusal}
+use Rattle.instance.specs.declared.Refusal.the-variants.{Text}
+use Rattle.instance.specs.declared.TextRead.{TextRead}
+use Rattle.instance.specs.declared.TextRead.the-variants.{Words, Refused}
 
 pub record NoFault (text : List ℕ) (count : ℕ) : Type 0 where
   pub fault : firstFault false text ≡ length text

@@ -6,8 +6,8 @@ use mathlib.Core.Logic.{_⊎_}
 use mathlib.Core.List.{List, [], _∷_, _++_}
 use Rattle.instance.specs.Limits
 use Rattle.instance.specs.Node.{Problem, levelCount, taskCount, levelAt, taskAt, span}
-use Rattle.instance.specs.declared.node.Level.{Level}
-use Rattle.instance.specs.declared.node.Task.{Task}
+use Rattle.instance.specs.declared.Level.{Level}
+use Rattle.instance.specs.declared.Task.{Task}
 
 pub record InRange (low high w : ℕ) : Type 0 where
   pub at-least : low ≤ w

@@ -15,10 +15,10 @@ use Rattle.instance.specs.Outcomes.{wordsOutcome}
 use Rattle.instance.specs.Refusals.{Reading, refused, accepted, room}
 use Rattle.instance.specs.Text.{numbers, firstFault, wordsOf}
 use Rattle.instance.specs.TextSteps.{NoFault, FirstFault, Counted, Writable}
-use Rattle.instance.specs.declared.refusal.Refusal.{Refusal}
-use Rattle.instance.specs.declared.refusal.Refusal.the-variants.{Text, ShortBuffer}
-use Rattle.instance.specs.declared.refusal.TextRead.{TextRead}
-use Rattle.instance.specs.declared.refusal.TextRead.the-variants.{Words, Refused}
+use Rattle.instance.specs.declared.Refusal.{Refusal}
+use Rattle.instance.specs.declared.Refusal.the-variants.{Text, ShortBuffer}
+use Rattle.instance.specs.declared.TextRead.{TextRead}
+use Rattle.instance.specs.declared.TextRead.the-variants.{Words, Refused}
 
 -- `wordsOf` over the bytes that it looks for faults in
 reading : List ℕ → List ℕ → Reading (List ℕ)

@@ -1,8 +1,8 @@
 // The levels section of a site file.
+use crate::Level;
+use crate::Refusal;
+use crate::Verdict;
 use crate::limits;
-use crate::node::Level;
-use crate::refusal::Refusal;
-use crate::refusal::Verdict;
 use crate::word::Word;
 use crate::word::word_at;
 ghost use mathlib.Core.Path.{_≡_};

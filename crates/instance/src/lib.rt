@@ -2,9 +2,8 @@
 mod levels;
 mod limits;
 mod multiples;
-mod node;
 mod reader;
-mod refusal;
+mod refusals;
 mod settings;
 mod site;
 mod tasks;
@@ -12,15 +11,67 @@ mod text;
 mod word;
 
 pub use limits::MAY_NOT_BE_REFUSED;
-pub use node::Instance;
-pub use node::Level;
-pub use node::Task;
-pub use node::Weights;
-pub use refusal::InstanceRead;
-pub use refusal::Refusal;
-pub use refusal::TextRead;
-pub use refusal::Verdict;
-pub use refusal::refusal_number;
-pub use refusal::refusal_place;
+pub use refusals::refusal_number;
+pub use refusals::refusal_place;
 pub use site::read_instance;
 pub use text::words_of_text;
+
+// A clock level: cycles run in a tick, and power drawn in a busy tick.
+pub struct Level {
+    pub speed: u32,
+    pub power: u32,
+}
+
+// A task: its period in ticks, the cycles of a job, and the penalty for each job not run.
+pub struct Task {
+    pub period: u32,
+    pub cycles: u32,
+    pub penalty: u32,
+}
+
+pub struct Weights {
+    pub energy: u32,
+    pub penalty: u32,
+}
+
+// An accepted instance. Only the first `levelcount` levels and `taskcount` tasks are its own; the others are all zero.
+pub struct Instance {
+    pub weights: Weights,
+    pub cores: u32,
+    pub levelcount: usize,
+    pub levels: [Level; 8],
+    pub taskcount: usize,
+    pub tasks: [Task; 12],
+    pub span: u32,
+}
+
+// Why an input is turned down, a case for each row of the paper's table of refusals, with its place.
+pub enum Refusal {
+    Text(usize),
+    WordCount(usize),
+    WordRange(usize),
+    SpanTooLong(usize),
+    NoPlan,
+    ShortBuffer(usize),
+    GivenPlan(usize),
+    CoreOverloaded(usize),
+    GivenTable(usize),
+    JobSlots(usize),
+}
+
+pub enum Verdict {
+    Accepted,
+    Refused(Refusal),
+}
+
+// How many words a text holds.
+pub enum TextRead {
+    Words(usize),
+    Refused(Refusal),
+}
+
+// The instance that a list of words is; all zero where the list is refused.
+pub struct InstanceRead {
+    pub verdict: Verdict,
+    pub instance: Instance,
+}

@@ -1,8 +1,8 @@
 // The settings section of a site file.
+use crate::Refusal;
+use crate::Verdict;
+use crate::Weights;
 use crate::limits;
-use crate::node::Weights;
-use crate::refusal::Refusal;
-use crate::refusal::Verdict;
 use crate::word::Word;
 use crate::word::word_at;
 ghost use mathlib.Core.Path.{_≡_};

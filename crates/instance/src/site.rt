@@ -1,13 +1,13 @@
 // From the words of a site file to the instance that they are.
+use crate::Instance;
+use crate::InstanceRead;
+use crate::Level;
+use crate::Refusal;
+use crate::Task;
+use crate::Verdict;
+use crate::Weights;
 use crate::levels::LevelsRead;
 use crate::levels::levels_at;
-use crate::node::Instance;
-use crate::node::Level;
-use crate::node::Task;
-use crate::node::Weights;
-use crate::refusal::InstanceRead;
-use crate::refusal::Refusal;
-use crate::refusal::Verdict;
 use crate::settings::SettingsRead;
 use crate::settings::settings_at;
 use crate::tasks::TasksRead;

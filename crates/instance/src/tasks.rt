@@ -1,9 +1,9 @@
 // The tasks section of a site file, and the span of the tasks.
+use crate::Refusal;
+use crate::Task;
+use crate::Verdict;
 use crate::limits;
 use crate::multiples::least_common_multiple;
-use crate::node::Task;
-use crate::refusal::Refusal;
-use crate::refusal::Verdict;
 use crate::word::Word;
 use crate::word::word_at;
 ghost use mathlib.Core.Path.{_≡_};

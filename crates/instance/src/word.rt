@@ -1,5 +1,5 @@
 // One word of the list, tested as it is taken.
-use crate::refusal::Refusal;
+use crate::Refusal;
 ghost use mathlib.Core.Path.{_≡_};
 ghost use lib.ListN.{drop};
 ghost use Rattle.instance.specs.Sections.{wordRead};

@@ -12,7 +12,7 @@ use Rattle.laws.specs.JoinedLaws.{listOf-same, take-is-listOf}
 use Rattle.laws.specs.Lists.{listOf, joined}
 use Rattle.instance.specs.Held.{problemIn, Sound, held-levelcount, held-span}
 use Rattle.instance.specs.Node.{taskCount, noLevel, noTask, span}
-use Rattle.instance.specs.declared.node.Instance.{Instance}
+use Rattle.instance.specs.declared.Instance.{Instance}
 use Rattle.schedule.specs.HeldQuantities.{held-job-ticks}
 use Rattle.schedule.specs.Quantities.{choiceAt, coreOf, levelOf, ticks, priceOf}
 use Rattle.schedule.specs.Tables.{tableSize, slotAt}

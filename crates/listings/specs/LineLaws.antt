@@ -9,7 +9,7 @@ use lib.Seq.{take-suc, take-length}
 use Rattle.laws.specs.Lists.{joined}
 use Rattle.instance.specs.Decimal.{decimal, spaced}
 use Rattle.instance.specs.Refusals.{numberOf, placeOf}
-use Rattle.instance.specs.declared.refusal.Refusal.{Refusal}
+use Rattle.instance.specs.declared.Refusal.{Refusal}
 use Rattle.listings.specs.Lines.{bytes, ended, line}
 use Rattle.listings.specs.Listing.{numbersLine, refusalLine}
 

@@ -10,8 +10,8 @@ use Rattle.instance.specs.Node.{Problem, taskCount, span}
 use Rattle.instance.specs.Refusals.{Reading, refused, accepted, numberOf, placeOf}
 use Rattle.instance.specs.SiteFile.{problemOf}
 use Rattle.instance.specs.Text.{wordsOf}
-use Rattle.instance.specs.declared.refusal.Refusal.{Refusal}
-use Rattle.instance.specs.declared.refusal.Refusal.the-variants.{NoPlan}
+use Rattle.instance.specs.declared.Refusal.{Refusal}
+use Rattle.instance.specs.declared.Refusal.the-variants.{NoPlan}
 use Rattle.schedule.specs.Quantities.{isRefused, coreOf, levelOf, jobTicks, priceOf}
 use Rattle.schedule.specs.Tables.{tableOf, slotAt}
 use Rattle.schedule.specs.declared.prices.Price.{Price}

@@ -11,9 +11,9 @@ use Rattle.instance.specs.Node.{taskCount}
 use Rattle.instance.specs.Refusals.{refused, accepted}
 use Rattle.instance.specs.SiteFile.{problemOf}
 use Rattle.instance.specs.Text.{wordsOf}
-use Rattle.instance.specs.declared.node.Instance.{Instance}
-use Rattle.instance.specs.declared.refusal.Refusal.{Refusal}
-use Rattle.instance.specs.declared.refusal.Verdict.the-variants.{Accepted}
+use Rattle.instance.specs.declared.Instance.{Instance}
+use Rattle.instance.specs.declared.Refusal.{Refusal}
+use Rattle.instance.specs.declared.Verdict.the-variants.{Accepted}
 use Rattle.schedule.specs.HeldSlots.{held-table-size, table-size-at-most}
 use Rattle.schedule.specs.Quantities.{priceOf}
 use Rattle.schedule.specs.ReadLaws.{HoldsProblemOf}

@@ -19,9 +19,9 @@ use Rattle.instance.specs.SiteFileRefusals.{reading-refusal}
 use Rattle.instance.specs.Text.{wordsOf}
 use Rattle.instance.specs.TextRefusals.{text-refusal-place}
 use Rattle.instance.specs.Valid.{Valid}
-use Rattle.instance.specs.declared.refusal.Refusal.{Refusal}
-use Rattle.instance.specs.declared.refusal.Refusal.the-variants.{Text, WordCount, WordRange, SpanTooLong, NoPlan, ShortBuffer, GivenPlan, CoreOverloaded, GivenTable, JobSlots}
-use Rattle.instance.specs.declared.refusal.Verdict.the-variants.{Accepted}
+use Rattle.instance.specs.declared.Refusal.{Refusal}
+use Rattle.instance.specs.declared.Refusal.the-variants.{Text, WordCount, WordRange, SpanTooLong, NoPlan, ShortBuffer, GivenPlan, CoreOverloaded, GivenTable, JobSlots}
+use Rattle.instance.specs.declared.Verdict.the-variants.{Accepted}
 use Rattle.schedule.specs.DispatchLaws.{slot-is-choice}
 use Rattle.schedule.specs.Earliest.{Choice}
 use Rattle.schedule.specs.PlanLaws.{PassingPlan, passing-plan}

@@ -10,8 +10,8 @@ use borrow.Author.Tests.{le-leb, lt-leb}
 use Rattle.laws.specs.Lists.{onto}
 use Rattle.laws.specs.OntoLaws.{length-onto}
 use Rattle.instance.specs.Refusals.{room}
-use Rattle.instance.specs.declared.refusal.Refusal.{Refusal}
-use Rattle.instance.specs.declared.refusal.Refusal.the-variants.{ShortBuffer}
+use Rattle.instance.specs.declared.Refusal.{Refusal}
+use Rattle.instance.specs.declared.Refusal.the-variants.{ShortBuffer}
 use Rattle.listings.specs.Listing.{listingOf}
 use Rattle.listings.specs.ListingLength.{mostListing, listing-at-most}
 use Rattle.listings.specs.Outcomes.{ListOutcome, listOutcome}

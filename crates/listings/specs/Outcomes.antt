@@ -5,8 +5,8 @@ use mathlib.Core.List.{List}
 use lib.ListN.{length}
 use Rattle.laws.specs.Lists.{onto}
 use Rattle.instance.specs.Refusals.{room}
-use Rattle.instance.specs.declared.refusal.Verdict.{Verdict}
-use Rattle.instance.specs.declared.refusal.Verdict.the-variants.{Accepted, Refused}
+use Rattle.instance.specs.declared.Verdict.{Verdict}
+use Rattle.instance.specs.declared.Verdict.the-variants.{Accepted, Refused}
 use Rattle.listings.specs.Listing.{listingOf}
 use Rattle.listings.specs.declared.site.Listed.{Listed}
 use Rattle.listings.specs.declared.site.Listed.the-variants as Listed

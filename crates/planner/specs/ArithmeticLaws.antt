@@ -14,7 +14,7 @@ use Rattle.laws.specs.Sums.{sum}
 use Rattle.instance.specs.Node.{Problem, taskCount, levelAt, taskAt}
 use Rattle.instance.specs.Refusals.{accepted, room}
 use Rattle.instance.specs.SiteFile.{problemOf}
-use Rattle.instance.specs.declared.refusal.Verdict.the-variants.{Accepted}
+use Rattle.instance.specs.declared.Verdict.the-variants.{Accepted}
 use Rattle.schedule.specs.CheckLaws.{choices-pass}
 use Rattle.schedule.specs.Checks.{check}
 use Rattle.schedule.specs.Outcomes.{priceOutcome, priceOutcomeOf, pricedIf, tableOutcome, tableOutcomeOf, tableWhere, checkOutcome, checkOutcomeOf}

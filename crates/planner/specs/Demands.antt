@@ -20,7 +20,7 @@ use Rattle.instance.specs.SpanLaws.{period-divides-span, span-divides-common-mu
 use Rattle.instance.specs.SpelledLaws.{AllWords, spelled-is-read-back}
 use Rattle.instance.specs.Text.{wordsOf}
 use Rattle.instance.specs.Valid.{Valid, wordsOfProblem}
-use Rattle.instance.specs.declared.refusal.Verdict.the-variants.{Accepted}
+use Rattle.instance.specs.declared.Verdict.the-variants.{Accepted}
 use Rattle.schedule.specs.CheckTheorem.{check-accepts-exactly-drawings, check-accepts-exactly-drawn-tables}
 use Rattle.schedule.specs.Checks.{slotsPass, jobsPass}
 use Rattle.schedule.specs.Drawings.{DrawnTable, Drawing}

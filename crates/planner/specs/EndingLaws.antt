@@ -9,9 +9,9 @@ use Rattle.instance.specs.Outcomes.{WordsOutcome, wordsOutcome, wordsOutcomeOf,
 use Rattle.instance.specs.Refusals.{Reading, numberOf, room, _andThen_}
 use Rattle.instance.specs.SiteFile.{problemOf}
 use Rattle.instance.specs.Text.{wordsOf}
-use Rattle.instance.specs.declared.refusal.Refusal.{Refusal}
-use Rattle.instance.specs.declared.refusal.Verdict.{Verdict}
-use Rattle.instance.specs.declared.refusal.Verdict.the-variants.{Accepted, Refused}
+use Rattle.instance.specs.declared.Refusal.{Refusal}
+use Rattle.instance.specs.declared.Verdict.{Verdict}
+use Rattle.instance.specs.declared.Verdict.the-variants.{Accepted, Refused}
 use Rattle.schedule.specs.Checks.{slotsPass, jobsPass, check}
 use Rattle.schedule.specs.Outcomes.{priceOutcome, priceOutcomeOf, pricedIf, TableOutcome, tableOutcome, tableOutcomeOf, tableWhere, checkOutcome, checkOutcomeOf}
 use Rattle.schedule.specs.Plans.{choicesPass, coresFit, planPasses}

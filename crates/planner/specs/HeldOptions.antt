@@ -7,9 +7,9 @@ use lib.ListN.{getD}
 use Rattle.instance.specs.Held.{problemIn, Sound, held-task, held-level, held-span}
 use Rattle.instance.specs.Limits.{mostPower, mostSpan, mayNotBeRefused}
 use Rattle.instance.specs.Node.{levelCount, taskCount, taskAt, noLevel, noTask}
-use Rattle.instance.specs.declared.node.Instance.{Instance}
-use Rattle.instance.specs.declared.node.Level.{Level}
-use Rattle.instance.specs.declared.node.Task.{Task}
+use Rattle.instance.specs.declared.Instance.{Instance}
+use Rattle.instance.specs.declared.Level.{Level}
+use Rattle.instance.specs.declared.Task.{Task}
 use Rattle.schedule.specs.HeldPrices.{held-penalty-at-most}
 use Rattle.schedule.specs.HeldQuantities.{held-jobs}
 use Rattle.schedule.specs.Quantities.{jobs, ticks}

@@ -13,7 +13,7 @@ use Rattle.instance.specs.Held.{problemIn, Sound, held-taskcount, held-levelcou
 use Rattle.instance.specs.Limits.{mostLevels}
 use Rattle.instance.specs.Node.{Problem, levelCount, noTask, taskAt, taskCount, span}
 use Rattle.instance.specs.Valid.{Valid}
-use Rattle.instance.specs.declared.node.Instance.{Instance}
+use Rattle.instance.specs.declared.Instance.{Instance}
 use Rattle.schedule.specs.HeldPlans.{held-cores}
 use Rattle.search.specs.AlikeLaws.{AlikeItem, AlikeItems, alike-at}
 use Rattle.search.specs.Found.{optionsOf as offeredOptions}

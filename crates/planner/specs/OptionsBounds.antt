@@ -14,8 +14,8 @@ use Rattle.laws.specs.Truth.{false-not-true, not-true-is-false}
 use Rattle.instance.specs.Limits.{mostWeight, mostPower, mostCycles, mostPenalty, mostSpan, mayNotBeRefused}
 use Rattle.instance.specs.Node.{Problem, levelCount, taskCount, levelAt, taskAt, span}
 use Rattle.instance.specs.Valid.{InRange, Valid}
-use Rattle.instance.specs.declared.node.Task.{Task}
-use Rattle.instance.specs.declared.refusal.Verdict.the-variants.{Accepted}
+use Rattle.instance.specs.declared.Task.{Task}
+use Rattle.instance.specs.declared.Verdict.the-variants.{Accepted}
 use Rattle.schedule.specs.Plans.{mostChoice, planPasses}
 use Rattle.schedule.specs.PriceBounds.{job-penalty-at-most}
 use Rattle.schedule.specs.QuantityBounds.{ticks-at-most, jobs-at-most}

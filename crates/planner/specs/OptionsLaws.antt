@@ -12,8 +12,8 @@ use Rattle.laws.specs.SumOrderLaws.{total-is-sum}
 use Rattle.laws.specs.Sums.{sum}
 use Rattle.instance.specs.Limits.{mayNotBeRefused}
 use Rattle.instance.specs.Node.{Problem, levelCount, taskCount, taskAt, noTask, span}
-use Rattle.instance.specs.declared.node.Task.{Task}
-use Rattle.instance.specs.declared.refusal.Verdict.the-variants.{Accepted}
+use Rattle.instance.specs.declared.Task.{Task}
+use Rattle.instance.specs.declared.Verdict.the-variants.{Accepted}
 use Rattle.schedule.specs.CheckLaws.{choices-pass}
 use Rattle.schedule.specs.Drawings.{AllowedPlan}
 use Rattle.schedule.specs.Plans.{mostChoice, choicesPass, fits, coresFit, planPasses}

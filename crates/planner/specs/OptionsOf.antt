@@ -4,7 +4,7 @@ use mathlib.Core.List.{map}
 use lib.Dec.{eqb}
 use Rattle.instance.specs.Limits.{mayNotBeRefused}
 use Rattle.instance.specs.Node.{Problem, levelCount, levelAt, span}
-use Rattle.instance.specs.declared.node.Task.{Task}
+use Rattle.instance.specs.declared.Task.{Task}
 use Rattle.schedule.specs.Quantities.{ticks}
 use Rattle.search.specs.Assignment.{Item, Options}
 

@@ -9,10 +9,10 @@ use Rattle.instance.specs.Held.{problemIn, held-taskcount}
 use Rattle.instance.specs.Node.{taskCount}
 use Rattle.instance.specs.Refusals.{refused, room}
 use Rattle.instance.specs.SiteFile.{problemOf}
-use Rattle.instance.specs.declared.node.Instance.{Instance}
-use Rattle.instance.specs.declared.refusal.Refusal.the-variants as Refusal
-use Rattle.instance.specs.declared.refusal.Refusal.{Refusal}
-use Rattle.instance.specs.declared.refusal.Verdict.the-variants.{Accepted, Refused}
+use Rattle.instance.specs.declared.Instance.{Instance}
+use Rattle.instance.specs.declared.Refusal.the-variants as Refusal
+use Rattle.instance.specs.declared.Refusal.{Refusal}
+use Rattle.instance.specs.declared.Verdict.the-variants.{Accepted, Refused}
 use Rattle.schedule.specs.HeldSlots.{held-table-size}
 use Rattle.schedule.specs.Outcomes.{priceOutcome, tableOutcome}
 use Rattle.schedule.specs.ReadLaws.{HoldsProblemOf}

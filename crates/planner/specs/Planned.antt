@@ -8,9 +8,9 @@ use lib.ListN.{length, take, drop}
 use Rattle.instance.specs.Node.{Problem, taskCount}
 use Rattle.instance.specs.Refusals.{refused, accepted}
 use Rattle.instance.specs.SiteFile.{problemOf}
-use Rattle.instance.specs.declared.refusal.Refusal.{Refusal}
-use Rattle.instance.specs.declared.refusal.Refusal.the-variants.{NoPlan, ShortBuffer}
-use Rattle.instance.specs.declared.refusal.Verdict.the-variants.{Accepted}
+use Rattle.instance.specs.declared.Refusal.{Refusal}
+use Rattle.instance.specs.declared.Refusal.the-variants.{NoPlan, ShortBuffer}
+use Rattle.instance.specs.declared.Verdict.the-variants.{Accepted}
 use Rattle.schedule.specs.Checks.{check}
 use Rattle.schedule.specs.Drawings.{Drawing}
 use Rattle.schedule.specs.Quantities.{cost, priceOf}

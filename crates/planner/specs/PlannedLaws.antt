@@ -10,10 +10,10 @@ use Rattle.instance.specs.Node.{Problem, taskCount}
 use Rattle.instance.specs.Refusals.{refused, accepted, room, _andThen_}
 use Rattle.instance.specs.SiteFile.{problemOf}
 use Rattle.instance.specs.SiteFileLaws.{accepted-is-valid}
-use Rattle.instance.specs.declared.refusal.Refusal.{Refusal}
-use Rattle.instance.specs.declared.refusal.Refusal.the-variants.{NoPlan, ShortBuffer}
-use Rattle.instance.specs.declared.refusal.Verdict.{Verdict}
-use Rattle.instance.specs.declared.refusal.Verdict.the-variants.{Accepted, Refused}
+use Rattle.instance.specs.declared.Refusal.{Refusal}
+use Rattle.instance.specs.declared.Refusal.the-variants.{NoPlan, ShortBuffer}
+use Rattle.instance.specs.declared.Verdict.{Verdict}
+use Rattle.instance.specs.declared.Verdict.the-variants.{Accepted, Refused}
 use Rattle.schedule.specs.Periods.{Periodic, valid-is-periodic}
 use Rattle.schedule.specs.Quantities.{priceOf}
 use Rattle.schedule.specs.TableLaws.{length-tableOf}

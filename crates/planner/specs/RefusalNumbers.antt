@@ -14,10 +14,10 @@ use Rattle.instance.specs.Refusals.{Reading, numberOf, room, _andThen_}
 use Rattle.instance.specs.SiteFile.{problemOf}
 use Rattle.instance.specs.SiteFileRefusals.{refused-with-2-3-or-4}
 use Rattle.instance.specs.Text.{firstFault, wordsOf}
-use Rattle.instance.specs.declared.refusal.Refusal.{Refusal}
-use Rattle.instance.specs.declared.refusal.Refusal.the-variants.{Text, ShortBuffer, GivenPlan, CoreOverloaded, GivenTable, JobSlots}
-use Rattle.instance.specs.declared.refusal.Verdict.{Verdict}
-use Rattle.instance.specs.declared.refusal.Verdict.the-variants.{Accepted, Refused}
+use Rattle.instance.specs.declared.Refusal.{Refusal}
+use Rattle.instance.specs.declared.Refusal.the-variants.{Text, ShortBuffer, GivenPlan, CoreOverloaded, GivenTable, JobSlots}
+use Rattle.instance.specs.declared.Verdict.{Verdict}
+use Rattle.instance.specs.declared.Verdict.the-variants.{Accepted, Refused}
 use Rattle.schedule.specs.Checks.{straySlot, slotsPass, jobsPass, check}
 use Rattle.schedule.specs.Plans.{badChoice, choicesPass, coresFit, planPasses}
 use Rattle.schedule.specs.Tables.{tableSize}

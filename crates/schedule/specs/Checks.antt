@@ -7,9 +7,9 @@ use lib.ListN.{length, getD}
 use Rattle.laws.specs.Search.{first, every, count}
 use Rattle.instance.specs.Node.{Problem, taskCount, taskAt, span}
 use Rattle.instance.specs.Refusals.{_andThen_}
-use Rattle.instance.specs.declared.refusal.Refusal.the-variants.{GivenTable, JobSlots}
-use Rattle.instance.specs.declared.refusal.Verdict.{Verdict}
-use Rattle.instance.specs.declared.refusal.Verdict.the-variants.{Accepted, Refused}
+use Rattle.instance.specs.declared.Refusal.the-variants.{GivenTable, JobSlots}
+use Rattle.instance.specs.declared.Verdict.{Verdict}
+use Rattle.instance.specs.declared.Verdict.the-variants.{Accepted, Refused}
 use Rattle.schedule.specs.Plans.{choicesPass}
 use Rattle.schedule.specs.Quantities.{isRefused, coreOf, keeps, jobs, jobTicks}
 use Rattle.schedule.specs.Tables.{releaseOf, window, tableSize, slotAt}

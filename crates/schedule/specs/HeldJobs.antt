@@ -12,8 +12,8 @@ use Rattle.laws.specs.SearchFacts.{count-same}
 use Rattle.instance.specs.Held.{problemIn, Sound, held-levelcount, held-task}
 use Rattle.instance.specs.Node.{Problem, levelCount, taskCount, taskAt, noTask, span}
 use Rattle.instance.specs.Valid.{Valid}
-use Rattle.instance.specs.declared.node.Instance.{Instance}
-use Rattle.instance.specs.declared.node.Task.{Task}
+use Rattle.instance.specs.declared.Instance.{Instance}
+use Rattle.instance.specs.declared.Task.{Task}
 use Rattle.schedule.specs.Checks.{jobSlots}
 use Rattle.schedule.specs.Drawings.{AllowedPlan}
 use Rattle.schedule.specs.HeldSlots.{row-within-table}

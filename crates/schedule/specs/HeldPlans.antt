@@ -10,8 +10,8 @@ use borrow.Author.Tests.{lt-ltb, le-ltb, leb-true, leb-false, eq-eqb, ne-eqb}
 use Rattle.instance.specs.Held.{problemIn, Sound, held-task, held-levelcount, held-span}
 use Rattle.instance.specs.Limits.{mostCores, mayNotBeRefused}
 use Rattle.instance.specs.Node.{taskCount, noTask, span}
-use Rattle.instance.specs.declared.node.Instance.{Instance}
-use Rattle.instance.specs.declared.node.Task.{Task}
+use Rattle.instance.specs.declared.Instance.{Instance}
+use Rattle.instance.specs.declared.Task.{Task}
 use Rattle.schedule.specs.Plans.{isMust, mostChoice, badChoice, fits}
 use Rattle.schedule.specs.Quantities.{choiceAt, coreLoad}
 

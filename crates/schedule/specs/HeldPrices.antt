@@ -8,8 +8,8 @@ use native.Mathlib.Nat.{mul-le-mul}
 use Rattle.instance.specs.Held.{problemIn, Sound, held-task}
 use Rattle.instance.specs.Limits.{mostCores, mostPower, mostSpan, mostTasks, mostWeight, mayNotBeRefused}
 use Rattle.instance.specs.Node.{taskCount, noTask}
-use Rattle.instance.specs.declared.node.Instance.{Instance}
-use Rattle.instance.specs.declared.node.Task.{Task}
+use Rattle.instance.specs.declared.Instance.{Instance}
+use Rattle.instance.specs.declared.Task.{Task}
 use Rattle.schedule.specs.HeldQuantities.{held-jobs}
 use Rattle.schedule.specs.PlanLaws.{PassingPlan}
 use Rattle.schedule.specs.PriceBounds.{penaltyOf, mostPenaltyOf, job-penalty-at-most, penalty-at-most, passing-energy-at-most}

@@ -9,9 +9,9 @@ use native.Mathlib.Nat.{mod-lt}
 use native.Mathlib.Omega.{arith}
 use Rattle.instance.specs.Held.{problemIn, Sound, held-task, held-level, held-levelcount, held-span}
 use Rattle.instance.specs.Node.{levelCount, taskCount, levelAt, noLevel, noTask, span}
-use Rattle.instance.specs.declared.node.Instance.{Instance}
-use Rattle.instance.specs.declared.node.Level.{Level}
-use Rattle.instance.specs.declared.node.Task.{Task}
+use Rattle.instance.specs.declared.Instance.{Instance}
+use Rattle.instance.specs.declared.Level.{Level}
+use Rattle.instance.specs.declared.Task.{Task}
 use Rattle.schedule.specs.Quantities.{choiceAt, levelOf, keeps, ticks, jobTicks, jobs}
 
 module _ (inst : Instance) (s : Sound inst) where

@@ -17,7 +17,7 @@ use Rattle.instance.specs.Held.{problemIn, Sound, held-span}
 use Rattle.instance.specs.Limits.{mostCores, mostSpan}
 use Rattle.instance.specs.Node.{Problem, span}
 use Rattle.instance.specs.Valid.{Valid}
-use Rattle.instance.specs.declared.node.Instance.{Instance}
+use Rattle.instance.specs.declared.Instance.{Instance}
 use Rattle.schedule.specs.Checks.{strayValue, straySlot}
 use Rattle.schedule.specs.Quantities.{keeps}
 use Rattle.schedule.specs.Tables.{tableSize}

@@ -7,10 +7,10 @@ use borrow.Author.Tests.{le-leb, lt-leb}
 use Rattle.laws.specs.Lists.{onto}
 use Rattle.instance.specs.Node.{Problem}
 use Rattle.instance.specs.Refusals.{accepted, room}
-use Rattle.instance.specs.declared.refusal.Refusal.{Refusal}
-use Rattle.instance.specs.declared.refusal.Refusal.the-variants.{ShortBuffer}
-use Rattle.instance.specs.declared.refusal.Verdict.{Verdict}
-use Rattle.instance.specs.declared.refusal.Verdict.the-variants.{Accepted, Refused}
+use Rattle.instance.specs.declared.Refusal.{Refusal}
+use Rattle.instance.specs.declared.Refusal.the-variants.{ShortBuffer}
+use Rattle.instance.specs.declared.Verdict.{Verdict}
+use Rattle.instance.specs.declared.Verdict.the-variants.{Accepted, Refused}
 use Rattle.schedule.specs.Outcomes.{TableOutcome, tableOutcomeOf}
 use Rattle.schedule.specs.Plans.{planPasses}
 use Rattle.schedule.specs.Tables.{tableOf, tableSize}

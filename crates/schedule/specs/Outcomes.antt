@@ -7,8 +7,8 @@ use Rattle.laws.specs.Lists.{onto}
 use Rattle.instance.specs.Node.{Problem}
 use Rattle.instance.specs.Refusals.{Reading, refused, accepted, room, _andThen_}
 use Rattle.instance.specs.SiteFile.{problemOf}
-use Rattle.instance.specs.declared.refusal.Verdict.{Verdict}
-use Rattle.instance.specs.declared.refusal.Verdict.the-variants.{Accepted, Refused}
+use Rattle.instance.specs.declared.Verdict.{Verdict}
+use Rattle.instance.specs.declared.Verdict.the-variants.{Accepted, Refused}
 use Rattle.schedule.specs.Checks.{check}
 use Rattle.schedule.specs.Plans.{planPasses}
 use Rattle.schedule.specs.Quantities.{priceOf}

@@ -8,9 +8,9 @@ use Rattle.laws.specs.Search.{first}
 use Rattle.instance.specs.Limits.{mayNotBeRefused}
 use Rattle.instance.specs.Node.{Problem, levelCount, taskCount, taskAt, span}
 use Rattle.instance.specs.Refusals.{_andThen_}
-use Rattle.instance.specs.declared.refusal.Refusal.the-variants.{GivenPlan, CoreOverloaded}
-use Rattle.instance.specs.declared.refusal.Verdict.{Verdict}
-use Rattle.instance.specs.declared.refusal.Verdict.the-variants.{Accepted, Refused}
+use Rattle.instance.specs.declared.Refusal.the-variants.{GivenPlan, CoreOverloaded}
+use Rattle.instance.specs.declared.Verdict.{Verdict}
+use Rattle.instance.specs.declared.Verdict.the-variants.{Accepted, Refused}
 use Rattle.schedule.specs.Quantities.{choiceAt, isRefused, coreLoad}
 
 -- "a task that may not be refused"

@@ -4,7 +4,7 @@ use mathlib.Core.List.{List}
 use lib.ListN.{getD}
 use Rattle.laws.specs.Lists.{joined}
 use Rattle.instance.specs.Node.{Problem, taskCount, taskAt, span}
-use Rattle.instance.specs.declared.node.Task.{Task}
+use Rattle.instance.specs.declared.Task.{Task}
 use Rattle.schedule.specs.Quantities.{ticksOn}
 use Rattle.schedule.specs.Rows.{CoreTasks, row}
 

@@ -9,7 +9,7 @@ ghost use Prim.Native.Nat.{_<_};
 ghost use lib.ListN.{length};
 ghost use Rattle.instance.specs.Held.{Sound, problemIn};
 ghost use Rattle.instance.specs.Node.{levelAt, taskCount};
-ghost use Rattle.instance.specs.declared.refusal.Verdict.the-variants.{Accepted};
+ghost use Rattle.instance.specs.declared.Verdict.the-variants.{Accepted};
 ghost use Rattle.schedule.specs.Plans.{planPasses};
 ghost use Rattle.schedule.specs.PriceBounds.{energyOn, penaltyOf};
 ghost use Rattle.schedule.specs.Quantities.{levelOf, coreEnergy, energy, penalty, priceOf};

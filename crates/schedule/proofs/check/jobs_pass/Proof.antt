@@ -2,7 +2,7 @@ use Prim.Native.Nat.{suc}
 use native.Mathlib.Numerals.{add-one}
 use borrow.Author.Needs.{needs}
 use Rattle.instance.specs.Held.{held-taskcount}
-use Rattle.instance.specs.declared.refusal.Refusal.the-variants.{JobSlots}
+use Rattle.instance.specs.declared.Refusal.the-variants.{JobSlots}
 use Rattle.schedule.specs.Checks.{jobsPass}
 use Rattle.schedule.specs.VerdictLaws.{found-is-refused, none-found-passes}
 use Rattle.schedule.proofs.check.jobs_pass.Statement.{statement}

@@ -1,6 +1,6 @@
 use borrow.Author.Needs.{needs}
 use mathlib.Core.Path.{refl, _∙_}
-use Rattle.instance.specs.declared.refusal.Refusal.the-variants.{GivenTable}
+use Rattle.instance.specs.declared.Refusal.the-variants.{GivenTable}
 use Rattle.schedule.specs.Checks.{slotsPass}
 use Rattle.schedule.specs.VerdictLaws.{found-is-refused, none-found-passes, same-length-goes-on}
 use Rattle.schedule.proofs.check.slots_named.Statement.{statement}

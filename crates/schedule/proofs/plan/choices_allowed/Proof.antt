@@ -1,7 +1,7 @@
 use borrow.Author.Needs.{needs}
 use mathlib.Core.Path.{refl, _∙_}
 use Rattle.instance.specs.Held.{held-taskcount}
-use Rattle.instance.specs.declared.refusal.Refusal.the-variants.{GivenPlan}
+use Rattle.instance.specs.declared.Refusal.the-variants.{GivenPlan}
 use Rattle.schedule.specs.Plans.{choicesPass}
 use Rattle.schedule.specs.VerdictLaws.{found-is-refused, none-found-passes, same-length-goes-on}
 use Rattle.schedule.proofs.plan.choices_allowed.Statement.{statement}

@@ -1,7 +1,7 @@
 use Prim.Native.Nat.{suc}
 use native.Mathlib.Numerals.{add-one}
 use borrow.Author.Needs.{needs}
-use Rattle.instance.specs.declared.refusal.Refusal.the-variants.{CoreOverloaded}
+use Rattle.instance.specs.declared.Refusal.the-variants.{CoreOverloaded}
 use Rattle.schedule.specs.HeldPlans.{held-cores}
 use Rattle.schedule.specs.Plans.{coresFit}
 use Rattle.schedule.specs.VerdictLaws.{found-is-refused, none-found-passes}

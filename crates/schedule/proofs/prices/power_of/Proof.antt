@@ -1,6 +1,6 @@
 use mathlib.Core.Path.{ap}
 use native.Mathlib.Omega.{arith}
-use Rattle.instance.specs.declared.node.Level.{Level}
+use Rattle.instance.specs.declared.Level.{Level}
 use Rattle.schedule.specs.HeldQuantities.{level-count-above-zero, level-count-at-most, held-level-of}
 use borrow.Author.Needs.{needs}
 use Rattle.schedule.proofs.prices.power_of.Statement.{statement}

@@ -1,37 +1,6 @@
-use crate::node::Instance;
+use crate::Refusal;
 ghost use mathlib.Core.Path.{_≡_};
 ghost use Rattle.instance.specs.Refusals.{numberOf, placeOf};
-
-// Why an input is turned down, a case for each row of the paper's table of refusals, with its place.
-pub enum Refusal {
-    Text(usize),
-    WordCount(usize),
-    WordRange(usize),
-    SpanTooLong(usize),
-    NoPlan,
-    ShortBuffer(usize),
-    GivenPlan(usize),
-    CoreOverloaded(usize),
-    GivenTable(usize),
-    JobSlots(usize),
-}
-
-pub enum Verdict {
-    Accepted,
-    Refused(Refusal),
-}
-
-// How many words a text holds.
-pub enum TextRead {
-    Words(usize),
-    Refused(Refusal),
-}
-
-// The instance that a list of words is; all zero where the list is refused.
-pub struct InstanceRead {
-    pub verdict: Verdict,
-    pub instance: Instance,
-}
 
 // The number that the paper gives a refusal.
 pub fn refusal_number(refusal: Refusal) -> u64
