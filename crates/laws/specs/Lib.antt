@@ -19,3 +19,4 @@ pub mod ListLaws
 pub mod MultipleSearch
 pub mod PartLaws
 pub mod PartSearchLaws
+pub mod Tests

@@ -6,9 +6,9 @@ use mathlib.Core.Path.{_≡_, refl, sym, ap, _∙_}
 use lib.ListN.{length}
 use Rattle.instance.specs.Node.{Problem, taskCount, levelCount, span}
 use Rattle.instance.specs.Valid.{Valid}
-use Rattle.search.specs.AlikeLaws.{alike-sym, allowed-alike, cost-alike, best-alike}
+use Rattle.assignment.specs.AlikeLaws.{alike-sym, allowed-alike, cost-alike, best-alike}
 use Rattle.search.specs.Found.{Searched, optionsOf as offeredOptions}
-use Rattle.search.specs.Offered.{offered}
+use Rattle.assignment.specs.Offered.{offered}
 use Rattle.search.specs.declared.Found.the-variants as Found
 use Rattle.search.specs.declared.Found.{Found}
 use Rattle.planner.specs.BestChoices.{chosenFrom, chosenOf, chosenOnto}

@@ -11,8 +11,8 @@ use Rattle.instance.specs.Node.{Problem, taskCount}
 use Rattle.instance.specs.declared.Verdict.{Verdict}
 use Rattle.instance.specs.declared.Verdict.the-variants.{Accepted, Refused}
 use Rattle.schedule.specs.Plans.{mostChoice, planPasses}
-use Rattle.search.specs.Assignment.{Item, Options, ChoicesAllowed, Allowed, NoWorse, Best}
-use Rattle.search.specs.SearchTheorem.{best-unique}
+use Rattle.assignment.specs.Assignment.{Item, Options, ChoicesAllowed, Allowed, NoWorse, Best}
+use Rattle.assignment.specs.SearchTheorem.{best-unique}
 use Rattle.planner.specs.Planning.{passes, isAllowed, bestPlan, choiceLists}
 use Rattle.planner.specs.OptionsOf.{optionsOf}
 use Rattle.planner.specs.OptionsLaws.{item-count, passing-is-allowed}

@@ -5,7 +5,7 @@ use mathlib.Core.Path.{_≡_, refl, ap}
 use native.Mathlib.Nat.{le-of-suc-le-suc, suc-inj}
 use native.Mathlib.Omega.{arith}
 use lib.ListN.{length, getD}
-use Rattle.search.specs.Assignment.{Item, ChoiceAllowed, ChoicesAllowed, none, more}
+use Rattle.assignment.specs.Assignment.{Item, ChoiceAllowed, ChoicesAllowed, none, more}
 
 pub record AllowedAt (blank : Item) (most : ℕ) (items : List Item) (plan : List ℕ) : Type 0 where
   pub one-choice-per-item : length plan ≡ length items

@@ -7,7 +7,7 @@ use mathlib.Core.Path.{_≡_, refl, subst}
 use native.Mathlib.Nat.{le-of-suc-le-suc, le-step, le-refl, eq-or-lt-of-le}
 use native.Mathlib.Omega.{arith}
 use Rattle.laws.specs.Lists.{joined}
-use Rattle.search.specs.Assignment.{Before, differs, agrees}
+use Rattle.assignment.specs.Assignment.{Before, differs, agrees}
 use Rattle.planner.specs.Planning.{choiceLists}
 
 -- n choices from 0 to `most`

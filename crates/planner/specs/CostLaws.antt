@@ -17,7 +17,7 @@ use Rattle.instance.specs.declared.Verdict.the-variants.{Accepted}
 use Rattle.schedule.specs.Drawings.{AllowedPlan}
 use Rattle.schedule.specs.Plans.{planPasses}
 use Rattle.schedule.specs.Quantities.{choiceAt, isRefused, levelOf, keeps, jobs, jobTicks, ticksOn, loadOn, coreEnergy, energy, penalty, cost}
-use Rattle.search.specs.Assignment.{choiceCost, totalCost}
+use Rattle.assignment.specs.Assignment.{choiceCost, totalCost}
 use Rattle.planner.specs.OptionsLaws.{total-over-tasks, passing-choices}
 use Rattle.planner.specs.OptionsOf.{jobsOf, loadAt, itemOf, optionsOf}
 

@@ -15,10 +15,10 @@ use Rattle.instance.specs.Node.{Problem, levelCount, noTask, taskAt, taskCount,
 use Rattle.instance.specs.Valid.{Valid}
 use Rattle.instance.specs.declared.Instance.{Instance}
 use Rattle.schedule.specs.HeldPlans.{held-cores}
-use Rattle.search.specs.AlikeLaws.{AlikeItem, AlikeItems, alike-at}
+use Rattle.assignment.specs.AlikeLaws.{AlikeItem, AlikeItems, alike-at}
 use Rattle.search.specs.Found.{optionsOf as offeredOptions}
 use Rattle.search.specs.Limits.{WithinLimits}
-use Rattle.search.specs.Offered.{mostCost, itemAt, itemsOf, offered}
+use Rattle.assignment.specs.Offered.{mostCost, itemAt, itemsOf, offered}
 use Rattle.search.specs.declared.Shape.{Shape}
 use Rattle.planner.specs.OfferedOptions.{LevelOffered, OptionsOffered}
 use Rattle.planner.specs.OptionsBounds.{kept-cost-at-most, any-refusal-at-most}

@@ -20,7 +20,7 @@ use Rattle.schedule.specs.Plans.{mostChoice, planPasses}
 use Rattle.schedule.specs.PriceBounds.{job-penalty-at-most}
 use Rattle.schedule.specs.QuantityBounds.{ticks-at-most, jobs-at-most}
 use Rattle.schedule.specs.Quantities.{choiceAt, jobs, cost}
-use Rattle.search.specs.Assignment.{choiceCost, choiceLoad, totalCost}
+use Rattle.assignment.specs.Assignment.{choiceCost, choiceLoad, totalCost}
 use Rattle.planner.specs.CostLaws.{core-of-choice, total-cost-by-task, cost-is-total}
 use Rattle.planner.specs.OptionsLaws.{core-load-by-task, passing-choices, passing-is-allowed}
 use Rattle.planner.specs.OptionsOf.{jobsOf, loadAt, itemOf, optionsOf}

@@ -20,7 +20,7 @@ use Rattle.schedule.specs.Plans.{mostChoice, choicesPass, fits, coresFit, planP
 use Rattle.schedule.specs.Quantities
 use Rattle.schedule.specs.Quantities.{choiceAt, keeps, jobs, jobTicks, ticksOn, loadOn}
 use Rattle.schedule.specs.VerdictLaws.{andThen-accepts, none-refused}
-use Rattle.search.specs.Assignment.{Item, choiceLoad, coreLoad, ChoiceAllowed, ChoicesAllowed, Allowed}
+use Rattle.assignment.specs.Assignment.{Item, choiceLoad, coreLoad, ChoiceAllowed, ChoicesAllowed, Allowed}
 use Rattle.planner.specs.ChoiceLaws.{AllowedAt, allowed-at, at-allowed}
 use Rattle.planner.specs.OptionsOf.{jobsOf, loadAt, itemOf, optionsOf}
 

@@ -6,7 +6,7 @@ use Rattle.instance.specs.Limits.{mayNotBeRefused}
 use Rattle.instance.specs.Node.{Problem, levelCount, levelAt, span}
 use Rattle.instance.specs.declared.Task.{Task}
 use Rattle.schedule.specs.Quantities.{ticks}
-use Rattle.search.specs.Assignment.{Item, Options}
+use Rattle.assignment.specs.Assignment.{Item, Options}
 
 -- "Jobs in a span: L / p."
 unfoldable pub jobsOf : Problem → Task → ℕ

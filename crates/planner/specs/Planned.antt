@@ -18,7 +18,7 @@ use Rattle.schedule.specs.RepeatedTables.{ServesForEver}
 use Rattle.schedule.specs.Tables.{tableOf, tableSize}
 use Rattle.schedule.specs.declared.prices.Priced.{Priced}
 use Rattle.schedule.specs.declared.prices.Priced.the-variants as Priced
-use Rattle.search.specs.Assignment.{Before}
+use Rattle.assignment.specs.Assignment.{Before}
 
 -- "no drawing exists"
 abbrev pub NoDrawing : Problem → Type 0

@@ -7,9 +7,9 @@ use native.Mathlib.Numerals.{add-one}
 use native.Mathlib.Omega.{arith}
 use lib.ListN.{length, getD}
 use Rattle.laws.specs.Lists.{listOf, onto}
-use Rattle.search.specs.Assignment.{Options}
-use Rattle.search.specs.Rows.{keyBase}
-use Rattle.search.specs.Partition.{best}
+use Rattle.assignment.specs.Assignment.{Options}
+use Rattle.assignment.specs.Rows.{keyBase}
+use Rattle.assignment.specs.Partition.{best}
 use Rattle.search.specs.Moves.{WeightsBelow}
 use Rattle.search.specs.Cores.{CoreReady, CoreAdded}
 use Rattle.search.specs.BestTables.{TableOf, Searchable, rowsOf, table-of-sets, table-copied, best-of-one-core, best-of-one-core-more}

@@ -9,20 +9,20 @@ use native.Mathlib.Omega.{arith}
 use lib.ListN.{length, getD}
 use Rattle.laws.specs.Lists.{listOf, onto}
 use Rattle.laws.specs.OntoLaws.{getD-onto-listOf}
-use Rattle.search.specs.Assignment.{Options}
-use Rattle.search.specs.Values.{Value, add, Within}
-use Rattle.search.specs.Words.{noCost, valueOf, words-pair, words-add, words-within}
-use Rattle.search.specs.Bounds.{CostsAtMost, best-within}
-use Rattle.search.specs.Rows.{keyBase, row}
-use Rattle.search.specs.Sets.{setNumber, Tabled}
-use Rattle.search.specs.SetLaws.{setNumber-below, numbered}
-use Rattle.search.specs.Partition.{leastSplit, weight, movedRow, best}
-use Rattle.search.specs.Offered.{mostCost}
-use Rattle.search.specs.Splits.{entryAt}
+use Rattle.assignment.specs.Assignment.{Options}
+use Rattle.assignment.specs.Values.{Value, add, Within}
+use Rattle.assignment.specs.Words.{noCost, valueOf, words-pair, words-add, words-within}
+use Rattle.assignment.specs.Bounds.{CostsAtMost, best-within}
+use Rattle.assignment.specs.Rows.{keyBase, row}
+use Rattle.assignment.specs.Sets.{setNumber, Tabled}
+use Rattle.assignment.specs.SetLaws.{setNumber-below, numbered}
+use Rattle.assignment.specs.Partition.{leastSplit, weight, movedRow, best}
+use Rattle.assignment.specs.Offered.{mostCost}
 use Rattle.search.specs.Moves.{digitSum}
 use Rattle.search.specs.MoveLaws.{weight-is-digits}
 use Rattle.search.specs.Cores.{SetTable, splitSum, CoreAdded}
 use Rattle.search.specs.CoreLaws.{leastSplit-same}
+use Rattle.assignment.specs.Entries.{entryAt}
 
 -- the table of a value for each set of n items, as the rows and the partition fill it
 abbrev pub TableOf : ℕ → (List Bool → Value) → List ℕ → List ℕ → Type 0

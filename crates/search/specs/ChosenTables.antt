@@ -7,24 +7,23 @@ use native.Mathlib.Nat.{mul-le-mul-right}
 use native.Mathlib.Omega.{arith}
 use lib.ListN.{length, getD}
 use Rattle.laws.specs.JoinedLaws.{length-listOf}
-use Rattle.search.specs.Assignment.{Item}
-use Rattle.search.specs.Values.{pair, add}
-use Rattle.search.specs.Rows.{keyBase}
-use Rattle.search.specs.RowWords.{Small}
-use Rattle.search.specs.SetLaws.{numbered}
-use Rattle.search.specs.Sets.{setNumber}
-use Rattle.search.specs.Splits.{entryAt}
-use Rattle.search.specs.Partition.{weight, best}
-use Rattle.search.specs.Choice.{chosen}
+use Rattle.assignment.specs.Assignment.{Item}
+use Rattle.assignment.specs.Values.{pair, add}
+use Rattle.assignment.specs.Rows.{keyBase}
+use Rattle.rows.specs.RowWords.{Small}
+use Rattle.assignment.specs.SetLaws.{numbered}
+use Rattle.assignment.specs.Sets.{setNumber}
+use Rattle.assignment.specs.Partition.{weight, best}
+use Rattle.assignment.specs.Choice.{chosen}
 use Rattle.search.specs.Moves.{digitSum, WeightsBelow}
 use Rattle.search.specs.MoveLaws.{weight-is-digits}
 use Rattle.search.specs.CoreLaws.{leastSplit-same, room-for-sets}
-use Rattle.search.specs.Halves.{moved}
-use Rattle.search.specs.Refusing.{every, refusing}
-use Rattle.search.specs.RefusingLaws.{refusing-same, chosen-on-one, chosen-in-halves}
+use Rattle.assignment.specs.Halves.{moved}
+use Rattle.assignment.specs.Refusing.{every, refusing}
+use Rattle.assignment.specs.RefusingLaws.{refusing-same, chosen-on-one, chosen-in-halves}
 use Rattle.search.specs.HalvesTables.{SmallTable, OneReady, HalvesReady, keptBest, leastOnOne, leastOverHalves}
 use Rattle.search.specs.HalvesLaws.{every-length}
-use Rattle.search.specs.Offered.{itemAt, itemsOf, offered}
+use Rattle.assignment.specs.Offered.{itemAt, itemsOf, offered}
 use Rattle.search.specs.OfferedLaws.{listFrom, listOf-from}
 use Rattle.search.specs.BestTables.{TableOf, Searchable, rowsOf, real-entry, best-is-small, best-of-one-core}
 use Rattle.search.specs.BestFilled.{RowsTabled, BestReady}
@@ -32,6 +31,7 @@ use Rattle.search.specs.Found.{optionsOf}
 use Rattle.search.specs.FoundLaws.{searchable}
 use Rattle.search.specs.Limits.{OfferLimited}
 use Rattle.search.specs.declared.Shape.{Shape}
+use Rattle.assignment.specs.Entries.{entryAt}
 
 -- the rows of what is offered
 pub record RowsOffered (shape : Shape) (load cost refusal : List ℕ) (must : List Bool) (rows rowKeys : List ℕ) : Type 0 where

@@ -11,18 +11,19 @@ use lib.Pow.{pow-mono}
 use Rattle.laws.specs.Lists.{listOf, onto}
 use Rattle.laws.specs.JoinedLaws.{length-listOf}
 use Rattle.laws.specs.OntoLaws.{getD-onto-listOf, length-onto}
-use Rattle.search.specs.Values.{Value, none, lesser, to-none}
-use Rattle.search.specs.ValueLaws.{lesser-is-second}
-use Rattle.search.specs.Words.{noCost, valueOf, words-none}
-use Rattle.search.specs.Bounds.{keys-fit}
-use Rattle.search.specs.Rows.{keyBase}
-use Rattle.search.specs.Sets.{setNumber}
-use Rattle.search.specs.SetLaws.{setNumber-below, numbered}
-use Rattle.search.specs.Partition.{leastSplit}
-use Rattle.search.specs.Splits.{entryAt, sumAt, leastFrom, LoweredFrom, SumsReady, SplitsReady}
+use Rattle.assignment.specs.Values.{Value, none, lesser, to-none}
+use Rattle.assignment.specs.ValueLaws.{lesser-is-second}
+use Rattle.assignment.specs.Words.{noCost, valueOf, words-none}
+use Rattle.assignment.specs.Bounds.{keys-fit}
+use Rattle.assignment.specs.Rows.{keyBase}
+use Rattle.assignment.specs.Sets.{setNumber}
+use Rattle.assignment.specs.SetLaws.{setNumber-below, numbered}
+use Rattle.assignment.specs.Partition.{leastSplit}
+use Rattle.search.specs.Splits.{sumAt, leastFrom, LoweredFrom, SumsReady, SplitsReady}
 use Rattle.search.specs.Moves.{digitSum, movedKey, MovesFit}
 use Rattle.search.specs.MoveLaws.{digits-below}
 use Rattle.search.specs.Cores.{CoreReady, splitSum, CoreAdded}
+use Rattle.assignment.specs.Entries.{entryAt}
 
 pub leastSplit-same : {f g : List Bool → List Bool → Value} (S : List Bool) →
     ((T R : List Bool) → length T ≡ length S → length R ≡ length S → f T R ≡ g T R) → leastSplit S f ≡ leastSplit S g

@@ -5,13 +5,13 @@ use mathlib.Core.Logic.{_⊎_}
 use mathlib.Core.Bool.{Bool}
 use mathlib.Core.List.{List}
 use lib.ListN.{length, getD}
-use Rattle.search.specs.Values.{Value}
-use Rattle.search.specs.Words.{noCost, valueOf}
-use Rattle.search.specs.Sets.{setNumber}
-use Rattle.search.specs.Rows.{keyBase}
-use Rattle.search.specs.Partition.{leastSplit}
-use Rattle.search.specs.Splits.{entryAt}
+use Rattle.assignment.specs.Values.{Value}
+use Rattle.assignment.specs.Words.{noCost, valueOf}
+use Rattle.assignment.specs.Sets.{setNumber}
+use Rattle.assignment.specs.Rows.{keyBase}
+use Rattle.assignment.specs.Partition.{leastSplit}
 use Rattle.search.specs.Moves.{digitSum, WeightsBelow}
+use Rattle.assignment.specs.Entries.{entryAt}
 
 -- a table of all sets of n items, two of which add up within 64 bits
 pub record SetTable (n : ℕ) (costs keys : List ℕ) : Type 0 where

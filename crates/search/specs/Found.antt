@@ -4,9 +4,9 @@ use mathlib.Core.Path.{_≡_}
 use mathlib.Core.Bool.{Bool}
 use mathlib.Core.List.{List}
 use Rattle.laws.specs.Lists.{onto}
-use Rattle.search.specs.Assignment.{Options, totalCost, Allowed, Best}
+use Rattle.assignment.specs.Assignment.{Options, totalCost, Allowed, Best}
 use Rattle.search.specs.Limits.{WithinLimits}
-use Rattle.search.specs.Offered.{offered}
+use Rattle.assignment.specs.Offered.{offered}
 use Rattle.search.specs.declared.Shape.{Shape}
 use Rattle.search.specs.declared.Found.{Found}
 use Rattle.search.specs.declared.Found.the-variants.{Cheapest, NoPlan, OutOfLimits}

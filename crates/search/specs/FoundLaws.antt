@@ -6,26 +6,26 @@ use mathlib.Core.Bool.{Bool}
 use mathlib.Core.List.{List}
 use native.Mathlib.Omega.{arith}
 use lib.ListN.{length}
-use Rattle.search.specs.Assignment.{Options, totalCost, Allowed, Best}
-use Rattle.search.specs.Values.{pair, Attained}
-use Rattle.search.specs.Words.{noCost, valueOf, words-none, words-pair}
-use Rattle.search.specs.Rows.{keyBase}
-use Rattle.search.specs.Choice.{chosen, digits}
-use Rattle.search.specs.ChoiceLaws.{kept-set, chosen-least}
-use Rattle.search.specs.Keeping.{planKey, planWorth}
-use Rattle.search.specs.KeyLaws.{keeps-in-base, key-below}
-use Rattle.search.specs.SearchTheorem.{BestAnswers, search-finds-best}
-use Rattle.search.specs.Offered.{Affordable}
+use Rattle.assignment.specs.Assignment.{Options, totalCost, Allowed, Best}
+use Rattle.assignment.specs.Values.{pair, Attained}
+use Rattle.assignment.specs.Words.{noCost, valueOf, words-none, words-pair}
+use Rattle.assignment.specs.Rows.{keyBase}
+use Rattle.assignment.specs.Choice.{chosen, digits}
+use Rattle.assignment.specs.ChoiceLaws.{kept-set, chosen-least}
+use Rattle.assignment.specs.Keeping.{planKey, planWorth}
+use Rattle.assignment.specs.KeyLaws.{keeps-in-base, key-below}
+use Rattle.assignment.specs.SearchTheorem.{BestAnswers, search-finds-best}
+use Rattle.assignment.specs.Offered.{Affordable}
 use Rattle.search.specs.OfferedLaws.{offered-searchable}
 use Rattle.search.specs.BestTables.{Searchable}
 use Rattle.search.specs.CoreLaws.{room-for-sets}
-use Rattle.search.specs.TabledRows.{RowsFit}
+use Rattle.rows.specs.TabledRows.{RowsFit}
 use Rattle.search.specs.Limits.{WithinLimits}
 use Rattle.search.specs.Found.{optionsOf}
 use Rattle.search.specs.Light.{BestTold}
-use Rattle.search.specs.Worths.{worthOf}
+use Rattle.rows.specs.Worths.{worthOf}
 use Rattle.search.specs.declared.Shape.{Shape}
-use Rattle.search.specs.declared.value.Worth.{Worth}
+use Rattle.rows.specs.declared.value.Worth.{Worth}
 
 -- what a chosen pair of cost and key tells
 module _ (o : Options) (n : ℕ) (given : Searchable o n) (worth : Worth) (is : worthOf worth ≡ chosen o) where
@@ -65,7 +65,7 @@ module _ (o : Options) (n : ℕ) (given : Searchable o n) (worth : Worth) (is : 
 
 module _ {shape : Shape} {load cost refusal : List ℕ} {must : List Bool} {plan : List ℕ}
     (limits : WithinLimits shape load cost refusal must plan) where
-  affordable : Affordable (shape .items) (shape .levels) (shape .capacity) load cost
+  pub affordable : Affordable (shape .items) (shape .levels) (shape .capacity) load cost
   affordable =
       record {
         levels-limited = limits .shape-limited .levels;

@@ -7,10 +7,10 @@ use mathlib.Core.List.{List}
 use native.Mathlib.Nat.{le-refl}
 use native.Mathlib.Omega.{arith}
 use lib.ListN.{length}
-use Rattle.search.specs.Assignment.{Options}
-use Rattle.search.specs.Rows.{keyBase}
-use Rattle.search.specs.Partition.{best}
-use Rattle.search.specs.Choice.{chosen}
+use Rattle.assignment.specs.Assignment.{Options}
+use Rattle.assignment.specs.Rows.{keyBase}
+use Rattle.assignment.specs.Partition.{best}
+use Rattle.assignment.specs.Choice.{chosen}
 use Rattle.search.specs.Moves.{WeightsBelow}
 use Rattle.search.specs.HalvesTables.{OneReady, HalvesReady, leastOnOne, leastOverHalves}
 use Rattle.search.specs.BestTables.{TableOf}

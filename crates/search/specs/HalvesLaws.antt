@@ -9,24 +9,24 @@ use native.Mathlib.Omega.{arith}
 use lib.ListN.{length, getD}
 use lib.Pow.{pow-pos}
 use Rattle.laws.specs.Below.{lt-or-le}
-use Rattle.search.specs.Values.{Value, pair, add, Within, absent, present}
-use Rattle.search.specs.Words.{noCost, valueOf, words-none, words-pair, words-add, words-within}
-use Rattle.search.specs.Offered.{mostCost}
-use Rattle.search.specs.Rows.{keyBase}
-use Rattle.search.specs.RowWords.{Small}
-use Rattle.search.specs.Sets.{setNumber}
-use Rattle.search.specs.SetLaws.{setNumber-below, numbered}
-use Rattle.search.specs.Splits.{entryAt, NoDearer}
-use Rattle.search.specs.Partition.{leastSplit}
+use Rattle.assignment.specs.Values.{Value, pair, add, Within, absent, present}
+use Rattle.assignment.specs.Words.{noCost, valueOf, words-none, words-pair, words-add, words-within}
+use Rattle.assignment.specs.Offered.{mostCost}
+use Rattle.assignment.specs.Rows.{keyBase}
+use Rattle.rows.specs.RowWords.{Small}
+use Rattle.assignment.specs.Sets.{setNumber}
+use Rattle.assignment.specs.SetLaws.{setNumber-below, numbered}
+use Rattle.assignment.specs.Partition.{leastSplit}
 use Rattle.search.specs.Moves.{digitSum}
 use Rattle.search.specs.Cores.{SetTable, CoreReady, splitSum}
 use Rattle.search.specs.CoreLaws.{leastSplit-same}
-use Rattle.search.specs.Refusing.{every}
-use Rattle.search.specs.RefusingLaws.{refusing-same}
+use Rattle.assignment.specs.Refusing.{every}
+use Rattle.assignment.specs.RefusingLaws.{refusing-same}
 use Rattle.search.specs.RefusedTables.{RefuseReady, RefusedFrom}
 use Rattle.search.specs.RefusingBounds.{refusing-within}
 use Rattle.search.specs.RefuseSteps.{no-dearer-cost}
 use Rattle.search.specs.HalvesTables.{SmallTable, OneReady, HalvesReady, keptBest, leastOnOne, leastOverHalves}
+use Rattle.assignment.specs.Entries.{entryAt, NoDearer}
 
 -- the set of all items has the last number
 pub every-length : (n : ℕ) → length (every n) ≡ n

@@ -3,16 +3,16 @@ use Prim.Native.Nat.{ℕ, _*_, _^_, _≤_, _<_}
 use mathlib.Core.Bool.{Bool}
 use mathlib.Core.List.{List}
 use lib.ListN.{length, getD}
-use Rattle.search.specs.Values.{Value, pair, add}
-use Rattle.search.specs.Offered.{mostCost}
-use Rattle.search.specs.Rows.{keyBase}
-use Rattle.search.specs.RowWords.{Small}
-use Rattle.search.specs.Sets.{setNumber}
-use Rattle.search.specs.Splits.{entryAt}
-use Rattle.search.specs.Partition.{leastSplit}
+use Rattle.assignment.specs.Values.{Value, pair, add}
+use Rattle.assignment.specs.Offered.{mostCost}
+use Rattle.assignment.specs.Rows.{keyBase}
+use Rattle.rows.specs.RowWords.{Small}
+use Rattle.assignment.specs.Sets.{setNumber}
+use Rattle.assignment.specs.Partition.{leastSplit}
 use Rattle.search.specs.Moves.{digitSum, WeightsBelow}
-use Rattle.search.specs.Refusing.{every, refusing}
+use Rattle.assignment.specs.Refusing.{every, refusing}
 use Rattle.search.specs.RefusedTables.{itemsFrom}
+use Rattle.assignment.specs.Entries.{entryAt}
 
 -- a table of all sets of n items, with the numbers that n items come to
 pub record SmallTable (n : ℕ) (costs keys : List ℕ) : Type 0 where

@@ -4,16 +4,16 @@ use mathlib.Core.Path.{_≡_}
 use mathlib.Core.Bool.{Bool}
 use mathlib.Core.List.{List}
 use Rattle.laws.specs.Lists.{listOf}
-use Rattle.search.specs.Assignment.{Options, totalCost, coreLoad, Allowed, Best}
-use Rattle.search.specs.CheapestChoices.{CheapestChoices}
-use Rattle.search.specs.Choice.{digits}
+use Rattle.assignment.specs.Assignment.{Options, totalCost, coreLoad, Allowed, Best}
+use Rattle.assignment.specs.CheapestChoices.{CheapestChoices}
+use Rattle.assignment.specs.Choice.{digits}
 use Rattle.search.specs.Found.{optionsOf}
-use Rattle.search.specs.Keeping.{planKey}
-use Rattle.search.specs.Offered.{mostCost, itemAt}
-use Rattle.search.specs.Rows.{keyBase}
-use Rattle.search.specs.Words.{noCost}
+use Rattle.assignment.specs.Keeping.{planKey}
+use Rattle.assignment.specs.Offered.{mostCost, itemAt}
+use Rattle.assignment.specs.Rows.{keyBase}
+use Rattle.assignment.specs.Words.{noCost}
 use Rattle.search.specs.declared.Shape.{Shape}
-use Rattle.search.specs.declared.value.Worth.{Worth}
+use Rattle.rows.specs.declared.value.Worth.{Worth}
 
 -- the key of the best plan of n items, and its cost
 pub record BestKey (o : Options) (n : ℕ) (worth : Worth) : Type 0 where

@@ -11,9 +11,9 @@ use lib.ListN.{length, length-append}
 use Rattle.laws.specs.JoinedLaws.{length-listOf}
 use Rattle.laws.specs.Lists.{listOf}
 use Rattle.laws.specs.Truth.{false-not-true, not-true-is-false}
-use Rattle.search.specs.Assignment.{Item, Options, choiceCost, choiceLoad, totalCost, coreLoad}
-use Rattle.search.specs.CheapestChoices.{Possible, CheapestChoice, CheapestChoices, none, more}
-use Rattle.search.specs.CheapestChoiceLaws.{
+use Rattle.assignment.specs.Assignment.{Item, Options, choiceCost, choiceLoad, totalCost, coreLoad}
+use Rattle.assignment.specs.CheapestChoices.{Possible, CheapestChoice, CheapestChoices, none, more}
+use Rattle.assignment.specs.CheapestChoiceLaws.{
   kept-cost,
   level-cost,
   load-on-core-0,
@@ -21,20 +21,20 @@ use Rattle.search.specs.CheapestChoiceLaws.{
   level-possible,
   cheapest-choices-are-best,
 }
-use Rattle.search.specs.Choice.{digits}
+use Rattle.assignment.specs.Choice.{digits}
 use Rattle.search.specs.Found.{optionsOf}
 use Rattle.search.specs.FoundLaws.{searchable}
-use Rattle.search.specs.Keeping.{planKey}
-use Rattle.search.specs.KeepingLaws.{refused-load, some-level}
-use Rattle.search.specs.KeyLaws.{InBase, nothing, digit, key-below, digits-key}
+use Rattle.assignment.specs.Keeping.{planKey}
+use Rattle.assignment.specs.KeepingLaws.{refused-load, some-level}
+use Rattle.assignment.specs.KeyLaws.{InBase, nothing, digit, key-below, digits-key}
 use Rattle.search.specs.Light.{BestKey, LightBelow}
 use Rattle.search.specs.Limits.{WithinLimits}
-use Rattle.search.specs.Offered.{mostCost, itemAt, itemsOf, offered}
+use Rattle.assignment.specs.Offered.{mostCost, itemAt, itemsOf, offered}
 use Rattle.search.specs.Picks.{LowChoice, refusing, keeping, PickedBelow}
-use Rattle.search.specs.Rows.{keyBase}
+use Rattle.assignment.specs.Rows.{keyBase}
 use Rattle.search.specs.declared.Shape.{Shape}
 use Rattle.search.specs.declared.light.Pick.{Pick}
-use Rattle.search.specs.declared.value.Worth.{Worth}
+use Rattle.rows.specs.declared.value.Worth.{Worth}
 
 module _ (o : Options) {item : Item} where
   low-possible : {c w v : ℕ} → 0 < o .cores → c ≤ o .levels → LowChoice item c w v → w ≤ o .capacity → Possible o item c

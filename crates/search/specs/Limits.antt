@@ -5,8 +5,7 @@ use mathlib.Core.Bool.{Bool, true, false, not}
 use mathlib.Core.List.{List}
 use Rattle.laws.specs.Truth.{false-not-true}
 use lib.ListN.{length, getD}
-use Rattle.search.specs.Offered.{mostItems, mostLevels, mostCapacity, mostCost}
-use Rattle.search.specs.OfferedLaws.{CheapAt}
+use Rattle.assignment.specs.Offered.{mostItems, mostLevels, mostCapacity, mostCost, CheapAt}
 use Rattle.search.specs.declared.Shape.{Shape}
 
 abbrev pub mostCores : ℕ
@@ -39,16 +38,3 @@ pub record WithinLimits (shape : Shape) (load cost refusal : List ℕ) (must : L
 pub record OfferLimited (shape : Shape) (load cost refusal : List ℕ) (must : List Bool) : Type 0 where
   pub plan : List ℕ
   pub limits : WithinLimits shape load cost refusal must plan
-
--- the answer of a test
-abbrev pub Tells : Bool → Type 0 → Type 0
-Tells true P = P
-Tells false P = ¬ P
-
-pub tells-no : {P : Type 0} (answer : Bool) → not answer ≡ true → Tells answer P → ¬ P
-tells-no true e holds = absurd (false-not-true refl e)
-tells-no false e refuted = refuted
-
-pub tells-yes : {P : Type 0} (answer : Bool) → not answer ≡ false → Tells answer P → P
-tells-yes true e holds = holds
-tells-yes false e refuted = absurd (false-not-true e refl)

@@ -10,12 +10,12 @@ use lib.Arith.{digits-lt}
 use lib.ListN.{length, getD, set}
 use lib.Pow.{pow-pos}
 use lib.Seq.{getD-set-same, getD-set-other}
-use Rattle.search.specs.Assignment.{Item}
-use Rattle.search.specs.Rows.{keyBase}
-use Rattle.search.specs.Bounds.{keys-fit}
-use Rattle.search.specs.Sets.{setNumber}
-use Rattle.search.specs.SetLaws.{numbered}
-use Rattle.search.specs.Partition.{weight}
+use Rattle.assignment.specs.Assignment.{Item}
+use Rattle.assignment.specs.Rows.{keyBase}
+use Rattle.assignment.specs.Bounds.{keys-fit}
+use Rattle.assignment.specs.Sets.{setNumber}
+use Rattle.assignment.specs.SetLaws.{numbered}
+use Rattle.assignment.specs.Partition.{weight}
 use Rattle.search.specs.Moves.{digitSum, shifted, lastOr, WeightsBelow}
 
 length-shifted : (b : Bool) (S : List Bool) → length (shifted b S) ≡ length S

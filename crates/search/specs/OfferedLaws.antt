@@ -7,10 +7,10 @@ use native.Mathlib.Nat.{zero-add, add-zero, add-suc, suc-add, mul-le-mul}
 use native.Mathlib.Omega.{arith}
 use Rattle.laws.specs.Lists.{listOf}
 use Rattle.laws.specs.JoinedLaws.{length-listOf}
-use Rattle.search.specs.Bounds.{CostsAtMost, nothing, more}
-use Rattle.search.specs.Rows.{keyBase}
+use Rattle.assignment.specs.Bounds.{CostsAtMost, nothing, more}
+use Rattle.assignment.specs.Rows.{keyBase}
 use Rattle.search.specs.BestTables.{Searchable}
-use Rattle.search.specs.Offered.{mostItems, mostCost, entryOf, itemAt, itemsOf, offered, Affordable}
+use Rattle.assignment.specs.Offered.{mostItems, mostCost, entryOf, itemAt, itemsOf, offered, Affordable, CheapAt}
 
 -- f i, f (i + 1), .., f (i + n - 1)
 unfoldable pub listFrom : {A : Type 0} → (ℕ → A) → ℕ → ℕ → List A
@@ -26,10 +26,6 @@ pub listOf-from : {A : Type 0} (f : ℕ → A) (n : ℕ) → listOf f n ≡ list
 unfolding listOf listFrom
 listOf-from f zero = refl
 listOf-from f (suc n) = rw (listOf-from f n) (sym (listFrom-end f 0 n ∙ rw zero-add))
-
--- no level of item i that fits costs more than `mostCost`
-abbrev pub CheapAt : (levels capacity : ℕ) (load cost : List ℕ) → ℕ → Type 0
-CheapAt levels capacity load cost i = (l : ℕ) → l < levels → entryOf load i l ≤ capacity → entryOf cost i l ≤ mostCost
 
 module _ {levels capacity : ℕ} (load cost refusal : List ℕ) (must : List Bool) where
   cheap-from : (i k : ℕ) → ((j : ℕ) → j < k → CheapAt levels capacity load cost (i + j)) →

@@ -5,10 +5,10 @@ use mathlib.Core.Logic.{_≢_}
 use mathlib.Core.List.{List}
 use native.Mathlib.Omega.{arith}
 use lib.Pow.{pow-pos}
-use Rattle.search.specs.Values.{Value, lesser}
+use Rattle.assignment.specs.Values.{Value, lesser}
 use Rattle.search.specs.Splits.{leastFrom, SumsReady}
 use Rattle.search.specs.SplitLaws.{leastFrom-nothing, leastFrom-either, same-power, half-is-power, half-fits}
-use Rattle.search.specs.Refusing.{every}
+use Rattle.assignment.specs.Refusing.{every}
 
 module _ (sum : ℕ → ℕ → Value) (t r : ℕ) where
   pub parted-nothing : (k : ℕ) → 1 ≡ 2 ^ k → sum t r ≡ leastFrom k sum t r (every k)

@@ -7,7 +7,7 @@ use native.Mathlib.Numerals.{add-one}
 use native.Mathlib.Omega.{arith}
 use Rattle.laws.specs.Below.{lt-or-le}
 use Rattle.laws.specs.Truth.{false-not-true}
-use Rattle.search.specs.Assignment.{Item}
+use Rattle.assignment.specs.Assignment.{Item}
 use Rattle.search.specs.declared.light.Pick.{Pick}
 
 -- the choices that load no core but core 0, with their loads and costs

@@ -9,17 +9,17 @@ use native.Mathlib.Numerals.{add-one}
 use native.Mathlib.Omega.{arith}
 use lib.ListN.{length, getD}
 use lib.Pow.{pow-pos}
-use Rattle.search.specs.Values.{Within}
-use Rattle.search.specs.Words.{words-within}
-use Rattle.search.specs.Offered.{mostCost, itemAt}
+use Rattle.assignment.specs.Values.{Within}
+use Rattle.assignment.specs.Words.{words-within}
+use Rattle.assignment.specs.Offered.{mostCost, itemAt}
 use Rattle.search.specs.OfferedLaws.{listFrom}
-use Rattle.search.specs.Sets.{setNumber}
-use Rattle.search.specs.SetLaws.{setNumber-below, numbered}
-use Rattle.search.specs.Splits.{entryAt, NoDearer, Kept}
+use Rattle.assignment.specs.Sets.{setNumber}
+use Rattle.assignment.specs.SetLaws.{setNumber-below, numbered}
 use Rattle.search.specs.SplitLaws.{kept-entry, same-power, half-is-power}
 use Rattle.search.specs.RefusedTables.{ItemReady, ItemRefused, RefuseReady, RefusedFrom}
 use Rattle.search.specs.RefusedLaws.{refused-nothing, at-without, refused-with-must, refused-either}
 use Rattle.search.specs.RefusingBounds.{refusing-within}
+use Rattle.assignment.specs.Entries.{entryAt, NoDearer, Kept}
 
 pub no-dearer-cost : {c k c' k' : List ℕ} → NoDearer c k c' k' → (x : ℕ) → getD c' x 0 ≤ getD c x 0
 no-dearer-cost {c} {k} {c'} {k'} no-dearer x = go (no-dearer .at x)

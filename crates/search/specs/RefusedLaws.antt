@@ -7,17 +7,17 @@ use mathlib.Core.List.{List, [], _∷_}
 use native.Mathlib.Nat.{zero-add, eq-or-lt-of-le, le-refl, pow-suc}
 use native.Mathlib.Omega.{arith}
 use lib.ListN.{length, getD}
-use Rattle.search.specs.Assignment.{Item}
-use Rattle.search.specs.Values.{Value, pair, add, lesser}
-use Rattle.search.specs.LeastLaws.{lesser-none}
-use Rattle.search.specs.Words.{noCost, valueOf, words-pair, words-add}
-use Rattle.search.specs.Sets.{setNumber}
-use Rattle.search.specs.SetLaws.{setNumber-below}
-use Rattle.search.specs.Splits.{entryAt, NoDearer, Kept, Lowered}
+use Rattle.assignment.specs.Assignment.{Item}
+use Rattle.assignment.specs.Values.{Value, pair, add, lesser}
+use Rattle.assignment.specs.LeastLaws.{lesser-none}
+use Rattle.assignment.specs.Words.{noCost, valueOf, words-pair, words-add}
+use Rattle.assignment.specs.Sets.{setNumber}
+use Rattle.assignment.specs.SetLaws.{setNumber-below}
 use Rattle.search.specs.SplitLaws.{no-dearer-trans, kept-entry}
-use Rattle.search.specs.Refusing.{refusing}
-use Rattle.search.specs.RefusingLaws.{refusing-same}
+use Rattle.assignment.specs.Refusing.{refusing}
+use Rattle.assignment.specs.RefusingLaws.{refusing-same}
 use Rattle.search.specs.RefusedTables.{ItemReady, ItemRefused, Refused}
+use Rattle.assignment.specs.Entries.{entryAt, NoDearer, Kept, Lowered}
 
 kept-trans : {c k c' k' c'' k'' : List ℕ} {x : ℕ} → Kept c k c' k' x → Kept c' k' c'' k'' x → Kept c k c'' k'' x
 kept-trans p q = record { cost = q .cost ∙ p .cost; key = q .key ∙ p .key }

@@ -5,14 +5,14 @@ use mathlib.Core.Logic.{_⊎_}
 use mathlib.Core.Bool.{Bool}
 use mathlib.Core.List.{List}
 use lib.ListN.{length, getD}
-use Rattle.search.specs.Assignment.{Item}
-use Rattle.search.specs.Values.{pair, add, lesser, Within}
-use Rattle.search.specs.Words.{noCost}
-use Rattle.search.specs.Offered.{mostCost, itemAt}
+use Rattle.assignment.specs.Assignment.{Item}
+use Rattle.assignment.specs.Values.{pair, add, lesser, Within}
+use Rattle.assignment.specs.Words.{noCost}
+use Rattle.assignment.specs.Offered.{mostCost, itemAt}
 use Rattle.search.specs.OfferedLaws.{listFrom}
-use Rattle.search.specs.Sets.{setNumber}
-use Rattle.search.specs.Splits.{entryAt, NoDearer, Kept}
-use Rattle.search.specs.Refusing.{refusing}
+use Rattle.assignment.specs.Sets.{setNumber}
+use Rattle.assignment.specs.Refusing.{refusing}
+use Rattle.assignment.specs.Entries.{entryAt, NoDearer, Kept}
 
 -- the k items from i on
 abbrev pub itemsFrom : (load cost refusal : List ℕ) (must : List Bool) → ℕ → ℕ → List Item

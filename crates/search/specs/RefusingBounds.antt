@@ -7,11 +7,11 @@ use mathlib.Core.List.{List, [], _∷_}
 use native.Mathlib.Nat.{zero-add, add-zero}
 use native.Mathlib.Omega.{arith}
 use lib.ListN.{length, getD}
-use Rattle.search.specs.Values.{Value, none, pair, add, lesser, Within, absent, present}
-use Rattle.search.specs.ValueLaws.{lesser-either}
-use Rattle.search.specs.Offered.{mostCost, itemAt}
+use Rattle.assignment.specs.Values.{Value, none, pair, add, lesser, Within, absent, present}
+use Rattle.assignment.specs.ValueLaws.{lesser-either}
+use Rattle.assignment.specs.Offered.{mostCost, itemAt}
 use Rattle.search.specs.OfferedLaws.{listFrom}
-use Rattle.search.specs.Refusing.{refusing}
+use Rattle.assignment.specs.Refusing.{refusing}
 use Rattle.search.specs.RefusedTables.{itemsFrom}
 
 module _ (load cost refusal : List ℕ) (must : List Bool) (keyBound : ℕ) where

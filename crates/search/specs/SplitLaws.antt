@@ -8,12 +8,13 @@ use native.Mathlib.Nat.{zero-add, add-zero, add-assoc, pow-zero, pow-suc}
 use native.Mathlib.Omega.{arith}
 use lib.ListN.{length, getD}
 use lib.Pow.{pow-pos}
-use Rattle.search.specs.Values.{Value, lesser}
-use Rattle.search.specs.ValueLaws.{lesser-assoc}
-use Rattle.search.specs.Sets.{setNumber}
-use Rattle.search.specs.SetLaws.{setNumber-below}
-use Rattle.search.specs.Partition.{leastSplit}
-use Rattle.search.specs.Splits.{entryAt, leastFrom, NoDearer, Kept, Lowered, LoweredFrom, PowerOfTwo, SumsFit, SplitsReady}
+use Rattle.assignment.specs.Values.{Value, lesser}
+use Rattle.assignment.specs.ValueLaws.{lesser-assoc}
+use Rattle.assignment.specs.Sets.{setNumber}
+use Rattle.assignment.specs.SetLaws.{setNumber-below}
+use Rattle.assignment.specs.Partition.{leastSplit}
+use Rattle.search.specs.Splits.{leastFrom, LoweredFrom, PowerOfTwo, SumsFit, SplitsReady}
+use Rattle.assignment.specs.Entries.{entryAt, NoDearer, Kept, Lowered}
 
 module _ (sum : ℕ → ℕ → Value) (t r : ℕ) where
   pub leastFrom-nothing : leastFrom 0 sum t r [] ≡ sum t r

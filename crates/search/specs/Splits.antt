@@ -1,18 +1,15 @@
 -- What the partition's code does to its tables: every split of a set lowers the set's entry.
 use Prim.Native.Nat.{ℕ, _+_, _^_, _≤_, _<_}
 use mathlib.Core.Path.{_≡_}
-use mathlib.Core.Logic.{_⊎_, _≢_}
+use mathlib.Core.Logic.{_⊎_}
 use mathlib.Core.Bool.{Bool}
 use mathlib.Core.List.{List}
 use lib.ListN.{length, getD}
-use Rattle.search.specs.Values.{Value, lesser}
-use Rattle.search.specs.Words.{valueOf}
-use Rattle.search.specs.Sets.{setNumber}
-use Rattle.search.specs.Partition.{leastSplit}
-
--- the value at x of a table
-unfoldable pub entryAt : List ℕ → List ℕ → ℕ → Value
-entryAt costs keys x = valueOf (getD costs x 0) (getD keys x 0)
+use Rattle.assignment.specs.Entries.{entryAt, Kept, NoDearer}
+use Rattle.assignment.specs.Values.{Value, lesser}
+use Rattle.assignment.specs.Words.{valueOf}
+use Rattle.assignment.specs.Sets.{setNumber}
+use Rattle.assignment.specs.Partition.{leastSplit}
 
 -- the sum of entry t of the one table and entry r of the other
 unfoldable pub sumAt : (tops topKeys rests restKeys : List ℕ) → ℕ → ℕ → Value
@@ -22,22 +19,6 @@ sumAt tops topKeys rests restKeys t r =
 -- the least sum over the splits of a set of k items, whose parts are added to the sets t and r of other items
 unfoldable pub leastFrom : ℕ → (ℕ → ℕ → Value) → ℕ → ℕ → List Bool → Value
 leastFrom k sum t r S = leastSplit S (λ T R. sum (t + setNumber k T) (r + setNumber k R))
-
--- as numbers, no entry became dearer, nor got a larger key at the same cost
-pub record NoDearer (costs keys costs' keys' : List ℕ) : Type 0 where
-  pub at : (x : ℕ) →
-      (getD costs' x 0 < getD costs x 0) ⊎ ((getD costs' x 0 ≡ getD costs x 0) × (getD keys' x 0 ≤ getD keys x 0))
-
--- entry x is as it was
-pub record Kept (costs keys costs' keys' : List ℕ) (x : ℕ) : Type 0 where
-  pub cost : getD costs' x 0 ≡ getD costs x 0
-  pub key : getD keys' x 0 ≡ getD keys x 0
-
--- entry s was lowered to v, where v is the lesser
-pub record Lowered (s : ℕ) (v : Value) (costs keys costs' keys' : List ℕ) : Type 0 where
-  pub there : entryAt costs' keys' s ≡ lesser (entryAt costs keys s) v
-  pub elsewhere : (x : ℕ) → x ≢ s → Kept costs keys costs' keys' x
-  pub no-dearer : NoDearer costs keys costs' keys'
 
 -- the entries of the 2^k sets that add k items to the set s were lowered, each to its least split
 pub record LoweredFrom (k s t r : ℕ) (sum : ℕ → ℕ → Value) (costs keys costs' keys' : List ℕ) : Type 0 where

@@ -8,23 +8,23 @@ use crate::partition::copy_entries;
 use crate::partition::fill_weights;
 use crate::partition::move_keys;
 use crate::powers::sets_of;
-use crate::rows::fill_rows;
-use crate::value::NO_COST;
-use crate::value::Worth;
+use rows::NO_COST;
+use rows::Worth;
+use rows::fill_rows;
 ghost use mathlib.Core.List.{List};
 ghost use mathlib.Core.Path.{_≡_};
 ghost use Prim.Native.Nat.{ℕ, pred};
-ghost use Rattle.search.specs.Assignment.{Options};
+ghost use Rattle.assignment.specs.Assignment.{Options};
 ghost use Rattle.search.specs.BestTables.{TableOf};
 ghost use Rattle.search.specs.BestFilled.{BestReady, RowsTabled};
-ghost use Rattle.search.specs.Choice.{chosen};
+ghost use Rattle.assignment.specs.Choice.{chosen};
 ghost use Rattle.search.specs.ChosenTables.{RowsOffered, RowsReady};
 ghost use Rattle.search.specs.Found.{optionsOf};
 ghost use Rattle.search.specs.HalvesTables.{HalvesReady, leastOverHalves, OneReady, leastOnOne};
 ghost use Rattle.search.specs.Light.{BestTold};
 ghost use Rattle.search.specs.Limits.{OfferLimited};
-ghost use Rattle.search.specs.Partition.{best};
-ghost use Rattle.search.specs.Worths.{worthOf};
+ghost use Rattle.assignment.specs.Partition.{best};
+ghost use Rattle.rows.specs.Worths.{worthOf};
 
 // From the rows the value of every set on the first `cores` cores, in the entry of the set's number.
 pub(crate) fn fill_best(

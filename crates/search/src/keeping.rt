@@ -1,19 +1,19 @@
 // The choice of the items to keep, and the plan that its key stands for.
 use crate::partition::lower;
-use crate::powers::KEY_BASE;
 use crate::powers::keys_of;
-use crate::value::Worth;
-use crate::value::lesser;
+use rows::KEY_BASE;
+use rows::Worth;
+use rows::lesser;
 ghost use mathlib.Core.Path.{_≡_};
 ghost use Prim.Native.Nat.{ℕ, _^_, _≤_, _<_};
 ghost use lib.ListN.{length};
 ghost use Rattle.laws.specs.Lists.{onto};
-ghost use Rattle.search.specs.Choice.{digits};
+ghost use Rattle.assignment.specs.Choice.{digits};
 ghost use Rattle.search.specs.RefusedTables.{ItemReady, ItemRefused, RefuseReady, RefusedFrom};
-ghost use Rattle.search.specs.Refusing.{every};
-ghost use Rattle.search.specs.Rows.{keyBase};
+ghost use Rattle.assignment.specs.Refusing.{every};
+ghost use Rattle.assignment.specs.Rows.{keyBase};
 ghost use Rattle.search.specs.Splits.{SumsReady, sumAt, leastFrom};
-ghost use Rattle.search.specs.Worths.{worthOf};
+ghost use Rattle.rows.specs.Worths.{worthOf};
 
 // Lowers the value of every set with an item to that of the same set without it, where refusing the item comes first. From s
 // on stand `half` sets without the item, and after them those with it.

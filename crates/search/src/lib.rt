@@ -1,21 +1,15 @@
 // The exact search for the cheapest plan. It knows nothing of text, words or tables: only of loads, costs and a capacity.
 mod best;
-mod front;
 mod keeping;
 mod light;
 mod limits;
-mod lists;
 mod partition;
 mod powers;
-mod row;
-mod rows;
-mod short;
-mod value;
 
 use best::best_plan;
 use keeping::write_plan;
 use limits::within_limits;
-use value::NO_COST;
+use rows::NO_COST;
 ghost use Rattle.search.specs.Found.{Searched};
 
 // How many items there are, how many cores and levels for each, and the most load that a core takes.

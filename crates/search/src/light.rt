@@ -1,19 +1,19 @@
 // Light sites: where core 0 takes what each item would choose alone, that is the best plan, and no table is filled.
 use crate::Shape;
-use crate::powers::KEY_BASE;
-use crate::row::STRIDE;
-use crate::value::NO_COST;
-use crate::value::Worth;
+use rows::KEY_BASE;
+use rows::NO_COST;
+use rows::STRIDE;
+use rows::Worth;
 ghost use mathlib.Core.Path.{_≡_};
 ghost use Prim.Native.Nat.{_+_, _*_, _≤_, _<_};
 ghost use lib.ListN.{length};
-ghost use Rattle.search.specs.Assignment.{Item};
+ghost use Rattle.assignment.specs.Assignment.{Item};
 ghost use Rattle.search.specs.Found.{optionsOf};
 ghost use Rattle.search.specs.Light.{BestKey};
 ghost use Rattle.search.specs.Limits.{OfferLimited};
-ghost use Rattle.search.specs.Offered.{itemAt};
+ghost use Rattle.assignment.specs.Offered.{itemAt};
 ghost use Rattle.search.specs.Picks.{Cheaper, PickedBelow};
-ghost use Rattle.search.specs.Words.{noCost};
+ghost use Rattle.assignment.specs.Words.{noCost};
 
 // A choice of an item, with what it puts on core 0 and what it costs. A load above the capacity stands for none.
 struct Pick {

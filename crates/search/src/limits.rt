@@ -1,20 +1,17 @@
 // Whether the numbers are within the limits of the search.
 use crate::Shape;
-use crate::row::STRIDE;
-ghost use Prim.Native.Nat.{ℕ, _+_, _*_, _≤_, _<_};
+use rows::MOST_CAPACITY;
+use rows::MOST_COST;
+use rows::MOST_ITEMS;
+use rows::STRIDE;
+use rows::affordable;
+ghost use Prim.Native.Nat.{ℕ, _≤_, _<_};
 ghost use lib.ListN.{length, getD};
-ghost use Rattle.search.specs.Limits.{LongEnough, ShapeLimited, Tells, WithinLimits};
-ghost use Rattle.search.specs.Offered.{mostCost};
-ghost use Rattle.search.specs.OfferedLaws.{CheapAt};
-
-const MOST_ITEMS: usize = 12;
+ghost use Rattle.search.specs.Limits.{LongEnough, ShapeLimited, WithinLimits};
+ghost use Rattle.assignment.specs.Offered.{mostCost};
+ghost use Rattle.laws.specs.Tests.{Tells};
 
 const MOST_CORES: usize = 4;
-
-const MOST_CAPACITY: usize = 4096;
-
-// 2^55
-const MOST_COST: u64 = 0x80_0000_0000_0000;
 
 fn shape_within(shape: Shape) -> bool
     ensures { λ r. ⌜ Tells r (ShapeLimited shape) ⌝ }
@@ -70,43 +67,6 @@ fn long_enough(
     true
 }
 
-// No level of item i that fits costs too much.
-fn item_within(i: usize, levels: usize, capacity: usize, load: &[u64], cost: &[u64]) -> bool
-    requires { ⌜ levels ≤ 8 ⌝ }
-    requires { ⌜ i * 8 + 8 ≤ length (now load) ⌝ }
-    requires { ⌜ i * 8 + 8 ≤ length (now cost) ⌝ }
-    ensures { λ r. ⌜ Tells r (CheapAt levels capacity (now (load .entry)) (now (cost .entry)) i) ⌝ }
-{
-    let mut l = 0;
-    while l < levels {
-        let at = i * STRIDE + l;
-        if load[at] <= capacity as u64 {
-            if MOST_COST < cost[at] {
-                return false;
-            }
-        }
-        l += 1;
-    }
-    true
-}
-
-fn costs_within(shape: Shape, load: &[u64], cost: &[u64]) -> bool
-    requires { ⌜ shape .levels ≤ 8 ⌝ }
-    requires { ⌜ shape .items * 8 ≤ length (now load) ⌝ }
-    requires { ⌜ shape .items * 8 ≤ length (now cost) ⌝ }
-    ensures { λ r. ⌜ Tells r ((i : ℕ) → i < shape .items →
-        CheapAt (shape .levels) (shape .capacity) (now (load .entry)) (now (cost .entry)) i) ⌝ }
-{
-    let mut i = 0;
-    while i < shape.items {
-        if !item_within(i, shape.levels, shape.capacity, load, cost) {
-            return false;
-        }
-        i += 1;
-    }
-    true
-}
-
 fn refusals_within(items: usize, refusal: &[u64]) -> bool
     requires { ⌜ items ≤ length (now refusal) ⌝ }
     ensures { λ r. ⌜ Tells r ((i : ℕ) → i < items → getD (now (refusal .entry)) i 0 ≤ mostCost) ⌝ }
@@ -146,7 +106,7 @@ pub(crate) fn within_limits(
     ) {
         return false;
     }
-    if !costs_within(shape, load, cost) {
+    if !affordable(items, shape.levels, shape.capacity, load, cost) {
         return false;
     }
     if !refusals_within(items, refusal) {

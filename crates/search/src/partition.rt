@@ -1,16 +1,17 @@
 // One core more: the least values of all sets on some cores become those on these and one core. A set is a number below
 // 2^items, the first item its most significant digit; a table is a slice of costs and one of keys.
-use crate::powers::KEY_BASE;
 use crate::powers::sets_of;
-use crate::value::NO_COST;
+use rows::KEY_BASE;
+use rows::NO_COST;
 ghost use mathlib.Core.Path.{_≡_};
 ghost use Prim.Native.Nat.{ℕ, _+_, _*_, _^_, _≤_, _<_};
 ghost use lib.ListN.{length, getD};
 ghost use Rattle.laws.specs.Lists.{listOf, onto};
 ghost use Rattle.search.specs.Cores.{CoreReady, CoreAdded};
 ghost use Rattle.search.specs.Moves.{WeightsBelow, MovesFit, movedKey};
-ghost use Rattle.search.specs.Words.{valueOf};
-ghost use Rattle.search.specs.Splits.{sumAt, Lowered, LoweredFrom, SplitsReady};
+ghost use Rattle.assignment.specs.Words.{valueOf};
+ghost use Rattle.search.specs.Splits.{sumAt, LoweredFrom, SplitsReady};
+ghost use Rattle.assignment.specs.Entries.{Lowered};
 
 // Lowers entry s of a table to a cost and a key, where these come first.
 pub(crate) fn lower(s: usize, cost: u64, key: u64, costs: &mut [u64], keys: &mut [u64])

@@ -1,10 +1,8 @@
 // How many sets and how many keys there are.
+use rows::KEY_BASE;
 ghost use mathlib.Core.Path.{_≡_};
 ghost use Prim.Native.Nat.{_^_, _≤_};
-ghost use Rattle.search.specs.Rows.{keyBase};
-
-// What one place more in a key is worth: more than any choice, of which there are at most 32.
-pub(crate) const KEY_BASE: u64 = 33;
+ghost use Rattle.assignment.specs.Rows.{keyBase};
 
 // The number of sets of so many items.
 pub(crate) fn sets_of(items: usize) -> usize

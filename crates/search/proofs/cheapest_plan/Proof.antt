@@ -2,10 +2,11 @@
 use borrow.Author.Needs.{needs}
 use mathlib.Core.Path.{refl}
 use denote.Ref.{now}
-use Rattle.search.specs.Choice.{digits}
-use Rattle.search.specs.Limits.{WithinLimits, tells-no, tells-yes}
+use Rattle.assignment.specs.Choice.{digits}
+use Rattle.search.specs.Limits.{WithinLimits}
 use Rattle.search.proofs.cheapest_plan.Statement.{statement}
 use Rattle.search.proofs.cheapest_plan.Tie as tie
+use Rattle.laws.specs.Tests.{tells-no, tells-yes}
 
 within-limits-requires : tie.Need-within-limits-requires
 within-limits-requires c κs = search needs

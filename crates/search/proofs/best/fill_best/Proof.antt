@@ -5,7 +5,7 @@ use native.Mathlib.Omega.{arith}
 use borrow.Author.Needs.{needs}
 use denote.Ref.{now}
 use lib.ListN.{length}
-use Rattle.search.specs.Rows.{keyBase}
+use Rattle.assignment.specs.Rows.{keyBase}
 use Rattle.search.specs.BestFilled.{CoresFilled, first-core, next-choices, core-ready, next-core, all-cores}
 use Rattle.search.proofs.best.fill_best.Statement.{statement}
 use Rattle.search.proofs.best.fill_best.Tie as tie

@@ -3,7 +3,7 @@ use mathlib.Core.Path.{_∙_}
 use lib.ListN.{replicate}
 use Rattle.search.specs.CoreLaws.{room-for-sets, moves-fit, sums-ready, sums-same}
 use Rattle.search.specs.HalvesLaws.{all-ready, every-length, small-sets, refused-table, halves-core, least-over-halves}
-use Rattle.search.specs.Refusing.{every}
+use Rattle.assignment.specs.Refusing.{every}
 use borrow.Author.Needs.{needs}
 use Rattle.search.proofs.best.least_over_halves.Statement.{statement}
 use Rattle.search.proofs.best.least_over_halves.Tie as tie

@@ -3,7 +3,8 @@ use native.Mathlib.Nat.{le-refl}
 use denote.Ref.{now}
 use Rattle.search.specs.Found.{optionsOf}
 use Rattle.search.specs.FoundLaws.{rows-fit}
-use Rattle.search.specs.Offered.{offered}
+use Rattle.assignment.specs.Offered.{offered}
+use Rattle.rows.specs.TabledRows.{rows-filled}
 use borrow.Author.Needs.{needs}
 use Rattle.search.proofs.best.least_plan.Statement.{statement}
 use Rattle.search.proofs.best.least_plan.Tie as tie
@@ -15,8 +16,7 @@ slice-aggregate-fill-rows-2 : tie.Need-slice-aggregate-fill-rows-2
 slice-aggregate-fill-rows-2 c = search needs
 
 fill-rows-requires : tie.Need-fill-rows-requires
-fill-rows-requires c κs =
-    rows-fit (c .before .before .before .before .before .before .pre .limits) (le-refl 4096) (le-refl 4096)
+fill-rows-requires c κs = search needs
 
 slice-aggregate-least-of-rows : tie.Need-slice-aggregate-least-of-rows
 slice-aggregate-least-of-rows c = search needs
@@ -31,7 +31,7 @@ least-of-rows-requires c κs =
     record {
       load = now (a .load);
       cost = now (a .cost);
-      rows-offered = record { offer = c .before .before .before .before .before .before .before .before .before .before .before .pre; held = c .before .before .before .before .fill-rows .ensures (now (a .refusal)) (now (a .must)) };
+      rows-offered = record { offer = c .before .before .before .before .before .before .before .before .before .before .before .pre; held = rows-filled _ _ _ _ _ _ _ _ _ (c .before .before .before .before .fill-rows .result) (rows-fit (c .before .before .before .before .before .before .before .before .before .before .before .pre .limits) (le-refl 4096) (le-refl 4096)) (c .before .before .before .before .fill-rows .ensures) (now (a .refusal)) (now (a .must)) };
     }
 
 returns : tie.Need-returns
@@ -39,7 +39,7 @@ unfolding optionsOf offered
 returns c =
     let a = c .before .before .before .before .before .before .before .before .before .before .before .before .args in
     c .least-of-rows .ensures (now (a .load)) (now (a .cost))
-    record { offer = c .before .before .before .before .before .before .before .before .before .before .before .before .pre; held = c .before .before .before .before .before .fill-rows .ensures (now (a .refusal)) (now (a .must)) }
+    record { offer = c .before .before .before .before .before .before .before .before .before .before .before .before .pre; held = rows-filled _ _ _ _ _ _ _ _ _ (c .before .before .before .before .before .fill-rows .result) (rows-fit (c .before .before .before .before .before .before .before .before .before .before .before .before .pre .limits) (le-refl 4096) (le-refl 4096)) (c .before .before .before .before .before .fill-rows .ensures) (now (a .refusal)) (now (a .must)) }
 
 pub least-plan-spec : {M : Type 1} → statement M
 least-plan-spec =

@@ -4,8 +4,8 @@ use mathlib.Core.Path.{ap₂, sym, _∙_}
 use native.Mathlib.Omega.{arith}
 use denote.Ref.{now}
 use borrow.Author.Needs.{needs}
-use Rattle.search.specs.Values.{lesser}
-use Rattle.search.specs.Words.{valueOf}
+use Rattle.assignment.specs.Values.{lesser}
+use Rattle.assignment.specs.Words.{valueOf}
 use Rattle.search.specs.Splits.{sumAt}
 use Rattle.search.specs.SplitLaws.{first-sums-fit, half-is-power}
 use Rattle.search.specs.PartedLaws.{parted-nothing, parted-either, half-of-parts, in-top-ready, in-rest-ready}
@@ -14,7 +14,7 @@ use borrow.Fn.PlainCycle.{Measures, is, falls, and}
 use Rattle.search.proofs.keeping.least_parted.Reads as least-parted
 use Rattle.search.proofs.keeping.least_parted.Kinds as least-parted-kinds
 use Rattle.search.proofs.keeping.+least_parted.Lts-least_parted as least-parted-lts
-use Rattle.search.proofs.value.lesser.Reads as lesser-reads
+use Rattle.rows.proofs.lesser.Reads as lesser-reads
 use Rattle.search.proofs.keeping.+least_parted.{statement}
 use Rattle.search.proofs.keeping.+least_parted.Tie.{close}
 

@@ -3,7 +3,7 @@ use Prim.Native.Nat.{_≤_, _-_}
 use mathlib.Core.Path.{_≡_, refl}
 use native.Mathlib.Omega.{arith}
 use borrow.Author.Needs.{needs}
-use Rattle.search.specs.Offered.{itemAt}
+use Rattle.assignment.specs.Offered.{itemAt}
 use Rattle.search.specs.Picks.{PickedBelow, with-level}
 use Rattle.search.proofs.light.first_cheapest.Statement.{statement}
 use Rattle.search.proofs.light.first_cheapest.Tie as tie

@@ -4,7 +4,7 @@ use mathlib.Core.Path.{_≡_}
 use native.Mathlib.Omega.{arith}
 use borrow.Author.Needs.{needs}
 use denote.Ref.{now}
-use Rattle.search.specs.Bounds.{keys-fit}
+use Rattle.assignment.specs.Bounds.{keys-fit}
 use Rattle.search.specs.Light.{LightBelow}
 use Rattle.search.specs.LightLaws.{no-items, key-low, one-more-item, light-is-best}
 use Rattle.search.proofs.light.light_plan.Statement.{statement}

@@ -5,7 +5,7 @@ use borrow.Author.Needs.{needs}
 use borrow.Author.Count.{below-more}
 use denote.Ref.{now}
 use lib.ListN.{getD}
-use Rattle.search.specs.Offered.{mostCost}
+use Rattle.assignment.specs.Offered.{mostCost}
 use Rattle.search.proofs.limits.refusals_within.Statement.{statement}
 use Rattle.search.proofs.limits.refusals_within.Tie as tie
 

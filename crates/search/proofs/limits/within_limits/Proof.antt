@@ -1,8 +1,9 @@
 -- `within_limits` answers for each of its four tests.
-use Rattle.search.specs.Limits.{tells-no, tells-yes}
+use Rattle.search.specs.FoundLaws.{affordable}
 use borrow.Author.Needs.{needs}
 use Rattle.search.proofs.limits.within_limits.Statement.{statement}
 use Rattle.search.proofs.limits.within_limits.Tie as tie
+use Rattle.laws.specs.Tests.{tells-no, tells-yes}
 
 shape-within-requires : tie.Need-shape-within-requires
 shape-within-requires c κs = search needs
@@ -16,14 +17,11 @@ long-enough-requires c κs = tells-yes (c .before .shape-within .result) (c .if1
 returns-2 : tie.Need-returns-2
 returns-2 c = λ limits. tells-no (c .before .long-enough .result) (c .if2 .taken) (c .before .long-enough .ensures) (limits .long-enough)
 
-costs-within-requires : tie.Need-costs-within-requires
-costs-within-requires c κs =
-    let shaped = tells-yes (c .before .before .before .shape-within .result) (c .before .before .if1 .left) (c .before .before .before .shape-within .ensures) in
-    let long = tells-yes (c .before .long-enough .result) (c .if2 .left) (c .before .long-enough .ensures) in
-    (shaped .levels, (long .loads-for-all, long .costs-for-all))
+affordable-requires : tie.Need-affordable-requires
+affordable-requires c κs = search needs
 
 returns-3 : tie.Need-returns-3
-returns-3 c = λ limits. tells-no (c .before .costs-within .result) (c .if3 .taken) (c .before .costs-within .ensures) (limits .costs-limited)
+returns-3 c = λ limits. tells-no (c .before .affordable .result) (c .if3 .taken) (c .before .affordable .ensures) (affordable limits)
 
 refusals-within-requires : tie.Need-refusals-within-requires
 refusals-within-requires c κs = tells-yes (c .before .before .before .long-enough .result) (c .before .before .if2 .left) (c .before .before .before .long-enough .ensures) .refusals-for-all
@@ -36,7 +34,7 @@ returns-5 c =
     record {
       shape-limited = tells-yes (c .before .before .before .before .before .before .before .shape-within .result) (c .before .before .before .before .before .before .if1 .left) (c .before .before .before .before .before .before .before .shape-within .ensures);
       long-enough = tells-yes (c .before .before .before .before .before .long-enough .result) (c .before .before .before .before .if2 .left) (c .before .before .before .before .before .long-enough .ensures);
-      costs-limited = tells-yes (c .before .before .before .costs-within .result) (c .before .before .if3 .left) (c .before .before .before .costs-within .ensures);
+      costs-limited = λ i below l. tells-yes (c .before .before .before .affordable .result) (c .before .before .if3 .left) (c .before .before .before .affordable .ensures) .cheap i l below;
       refusals-limited = tells-yes (c .before .refusals-within .result) (c .if4 .left) (c .before .refusals-within .ensures);
     }
 
@@ -48,7 +46,7 @@ within-limits-spec =
     returns
     long-enough-requires
     returns-2
-    costs-within-requires
+    affordable-requires
     returns-3
     refusals-within-requires
     returns-4

@@ -2,7 +2,7 @@
 use native.Mathlib.Nat.{le-refl, lt-of-lt-of-le}
 use native.Mathlib.Omega.{arith}
 use lib.ListN.{replicate, getD-replicate}
-use Rattle.search.specs.Words.{noCost}
+use Rattle.assignment.specs.Words.{noCost}
 use Rattle.search.specs.CoreLaws.{room-for-sets, moves-fit, splits-ready, core-added}
 use borrow.Author.Needs.{needs}
 use Rattle.search.proofs.partition.add_core.Statement.{statement}

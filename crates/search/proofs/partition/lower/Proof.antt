@@ -3,7 +3,7 @@ use denote.Ref.{now}
 use mathlib.Core.Logic.{inl, inr}
 use mathlib.Core.Path.{sym}
 use native.Mathlib.Omega.{arith}
-use Rattle.search.specs.LowerLaws.{lowered-cheaper, lowered-tied, lowered-nothing}
+use Rattle.assignment.specs.LowerLaws.{lowered-first, lowered-tied, lowered-nothing}
 use borrow.Author.Needs.{needs}
 use Rattle.search.proofs.partition.lower.Statement.{statement}
 use Rattle.search.proofs.partition.lower.Tie as tie
@@ -35,7 +35,7 @@ same-length-2 c = search needs
 returns : tie.Need-returns
 returns c =
     let a = c .before .before .args in
-    lowered-cheaper (a .s) (a .cost) (a .key) (now (a .costs)) (now (a .keys)) (search needs) (search needs) (c .if1 .taken)
+    lowered-first (a .s) (a .cost) (a .key) (now (a .costs)) (now (a .keys)) (search needs) (search needs) (inl (c .if1 .taken))
 
 mul-if2 : tie.Need-mul-if2
 mul-if2 c = search needs

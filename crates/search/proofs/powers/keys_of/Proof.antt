@@ -5,8 +5,8 @@ use mathlib.Core.Path.{_≡_, sym}
 use native.Mathlib.Numerals.{add-one}
 use native.Mathlib.Omega.{arith}
 use borrow.Author.Needs.{needs}
-use Rattle.search.specs.Bounds.{keys-fit}
-use Rattle.search.specs.Rows.{keyBase}
+use Rattle.assignment.specs.Bounds.{keys-fit}
+use Rattle.assignment.specs.Rows.{keyBase}
 use Rattle.search.proofs.powers.keys_of.Statement.{statement}
 use Rattle.search.proofs.powers.keys_of.Tie as tie
 
