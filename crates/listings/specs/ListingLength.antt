@@ -22,14 +22,14 @@ use Rattle.instance.specs.Valid.{Valid}
 use Rattle.instance.specs.declared.Refusal.{Refusal}
 use Rattle.instance.specs.declared.Refusal.the-variants.{Text, WordCount, WordRange, SpanTooLong, NoPlan, ShortBuffer, GivenPlan, CoreOverloaded, GivenTable, JobSlots}
 use Rattle.instance.specs.declared.Verdict.the-variants.{Accepted}
-use Rattle.schedule.specs.DispatchLaws.{slot-is-choice}
-use Rattle.schedule.specs.Earliest.{Choice}
+use Rattle.dispatch.specs.DispatchLaws.{slot-is-choice}
+use Rattle.dispatch.specs.Earliest.{Choice}
 use Rattle.schedule.specs.PlanLaws.{PassingPlan, passing-plan}
 use Rattle.schedule.specs.Plans.{planPasses}
 use Rattle.schedule.specs.PriceBounds.{penalty-at-most, passing-energy-at-most}
 use Rattle.schedule.specs.QuantityBounds.{job-ticks-at-most}
 use Rattle.schedule.specs.Quantities.{choiceAt, isRefused, coreOf, levelOf, jobTicks, priceOf}
-use Rattle.schedule.specs.Rows.{CoreTasks, slotOf}
+use Rattle.dispatch.specs.Rows.{CoreTasks, slotOf}
 use Rattle.schedule.specs.TableLaws.{slotAt-tableOf}
 use Rattle.schedule.specs.Tables.{coreTasks, tableOf, slotAt}
 use Rattle.planner.specs.BestPlanLaws.{best-plan-passes}

@@ -15,7 +15,7 @@ use Rattle.laws.specs.Search.{first}
 use Rattle.laws.specs.Sums.{sum}
 use Rattle.schedule.specs.Plans.{isMust, badChoice, choicesPass, fits, coresFit, planPasses}
 use Rattle.schedule.specs.Quantities.{keeps, ticks, jobTicks, ticksOn, jobs, loadOn, coreLoad, coreEnergy, energy, penalty, cost, priceOf}
-use Rattle.schedule.specs.Rows.{dueAt, afterRelease, earliest, chosen, afterRun, step, dispatched, row}
+use Rattle.dispatch.specs.Rows.{dueAt, afterRelease, earliest, chosen, afterRun, step, dispatched, row}
 use Rattle.schedule.specs.Tables.{coreTasks, tableSize, tableOf}
 use Rattle.schedule.specs.declared.prices.Price.{Price}
 use Rattle.schedule.specs.declared.prices.Priced.{Priced}

@@ -11,7 +11,7 @@ use Rattle.schedule.specs.DrawingLaws.{drawing-of-parts, parts-of-drawin
 use Rattle.schedule.specs.Drawings.{DrawnTable, Drawing}
 use Rattle.schedule.specs.Periods.{Periodic}
 use Rattle.schedule.specs.Plans.{choicesPass, planPasses}
-use Rattle.schedule.specs.Rows.{slotOf}
+use Rattle.dispatch.specs.Rows.{slotOf}
 use Rattle.schedule.specs.ServedRowLaws.{serves-same, drawing-of-rows}
 use Rattle.schedule.specs.ServedRows.{RowServes}
 use Rattle.schedule.specs.TableLaws.{length-tableOf, slotAt-tableOf}

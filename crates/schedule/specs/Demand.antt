@@ -5,7 +5,7 @@ use mathlib.Core.Path.{_≡_}
 use lib.Dec.{eqb}
 use Rattle.laws.specs.Search.{count}
 use Rattle.laws.specs.Sums.{sum}
-use Rattle.schedule.specs.Rows.{CoreTasks}
+use Rattle.dispatch.specs.Rows.{CoreTasks}
 
 -- windows that are not empty and end by the next release
 pub record WellFormed (core : CoreTasks) : Type 0 where

@@ -11,12 +11,12 @@ use borrow.Author.Tests.{eqb-true, eqb-false}
 use Rattle.laws.specs.CountLaws.{count-mono}
 use Rattle.laws.specs.Search.{count}
 use Rattle.schedule.specs.Demand.{WellFormed, Demand, NamesTask, QuietAfterDue, slotsOfJob}
-use Rattle.schedule.specs.DispatchLaws.{leftAt, readyAt, slot-is-choice, left-after-run, ready-le-ticks}
-use Rattle.schedule.specs.DispatchLaws.{afterRelease-at-release, afterRelease-between, afterRun-self, afterRun-other}
-use Rattle.schedule.specs.Earliest.{Choice, chosen-has-left}
+use Rattle.dispatch.specs.DispatchLaws.{leftAt, readyAt, slot-is-choice, left-after-run, ready-le-ticks}
+use Rattle.dispatch.specs.DispatchLaws.{afterRelease-at-release, afterRelease-between, afterRun-self, afterRun-other}
+use Rattle.dispatch.specs.Earliest.{Choice, chosen-has-left}
 use Rattle.schedule.specs.OnTime.{OnTime, done-when-due}
 use Rattle.schedule.specs.OnTimeSteps.{on-time-start, on-time-run, on-time-release}
-use Rattle.schedule.specs.Rows.{CoreTasks, dueAt, afterRun, slotOf}
+use Rattle.dispatch.specs.Rows.{CoreTasks, dueAt, afterRun, slotOf}
 
 -- the slots of job j of task i among the first x ticks from its release
 abbrev pub slotsSoFar : CoreTasks → ℕ → ℕ → ℕ → ℕ

@@ -18,7 +18,7 @@ use Rattle.schedule.specs.Drawings.{Drawing}
 use Rattle.schedule.specs.Periods.{Periodic, period-positive}
 use Rattle.schedule.specs.Plans.{choicesPass, fits, coresFit, planPasses}
 use Rattle.schedule.specs.Quantities.{jobs, loadOn, coreLoad}
-use Rattle.schedule.specs.Rows.{slotOf}
+use Rattle.dispatch.specs.Rows.{slotOf}
 use Rattle.schedule.specs.SchedulingTheorems.{edf-serves-every-job, edf-slots-name-tasks-with-ticks, load-is-demand, served-meets-demand, served-load-is-within-span}
 use Rattle.schedule.specs.ServedRowLaws.{drawing-serves-cores}
 use Rattle.schedule.specs.ServedRows.{OwedSlot, RowServes}

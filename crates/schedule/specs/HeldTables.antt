@@ -13,13 +13,13 @@ use Rattle.laws.specs.OntoLaws.{length-onto, getD-onto-listOf, put-onto}
 use Rattle.laws.specs.PartLaws.{length-part}
 use Rattle.instance.specs.Node.{Problem, taskCount, taskAt, span}
 use Rattle.instance.specs.Valid.{Valid}
-use Rattle.schedule.specs.Dispatching.{CoreOk, tasksOf}
-use Rattle.schedule.specs.DispatchingLaws.{SameTasks, same-row}
+use Rattle.dispatch.specs.Dispatching.{CoreOk, tasksOf}
+use Rattle.dispatch.specs.DispatchingLaws.{SameTasks, same-row}
 use Rattle.schedule.specs.Quantities.{ticksOn}
-use Rattle.schedule.specs.Rows.{row}
+use Rattle.dispatch.specs.Rows.{row}
 use Rattle.schedule.specs.TableLaws.{row-length}
 use Rattle.schedule.specs.Tables.{coreTasks, tableOf, tableSize}
-use Rattle.schedule.specs.declared.dispatch.Core.{Core}
+use Rattle.dispatch.specs.declared.Core.{Core}
 
 -- the struct says of the tasks what core k knows of them
 pub record HeldCore (p : Problem) (plan : List ℕ) (k : ℕ) (core : Core) : Type 0 where
@@ -40,8 +40,11 @@ module _ (p : Problem) (v : Valid p) (plan : List ℕ) (k n : ℕ) (all : n ≡ 
   core-is-held = record {
     is-ok = record {
       few-tasks = omega (arith, v .task-count);
-      period-above-0 = λ i l. rw (period-of-task i l) (v .task i (rw all at l) .period .at-least);
-      window-bounded = λ i l. rw (period-of-task i l) (v .task i (rw all at l) .period .at-most);
+      tasks-ok = λ i l.
+          record {
+            period-above-0 = rw (period-of-task i l) (v .task i (rw all at l) .period .at-least);
+            window-bounded = rw (period-of-task i l) (v .task i (rw all at l) .period .at-most);
+          };
     };
     same-tasks = record {
       same-size = all;

@@ -5,7 +5,7 @@ use native.Mathlib.Nat.{le-trans, add-right-comm, add-mul-div-right, div-eq-of-l
 use native.Mathlib.Omega.{arith}
 use Rattle.laws.specs.DivisionLaws.{div-mono}
 use Rattle.schedule.specs.Demand.{WellFormed, jobsDue}
-use Rattle.schedule.specs.Rows.{CoreTasks}
+use Rattle.dispatch.specs.Rows.{CoreTasks}
 
 pub period-above-0 : {core : CoreTasks} → WellFormed core → (i : ℕ) → i < core .size → 0 < core .period i
 period-above-0 wf i l = le-trans (wf .window-above-0 i l) (wf .window-within-period i l)

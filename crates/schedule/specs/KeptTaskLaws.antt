@@ -3,9 +3,9 @@ use Prim.Native.Nat.{ℕ, zero, suc, _<_}
 use mathlib.Core.Path.{_≡_, sym, ap₂, _∙_}
 use native.Mathlib.Nat.{lt-of-lt-of-le}
 use Rattle.schedule.specs.Demand.{SameTask, KeptAlsoBy}
-use Rattle.schedule.specs.DispatchLaws.{leftAt, readyAt, slot-is-choice, left-at-start, left-after-run, ready-le-ticks}
-use Rattle.schedule.specs.Earliest.{SameReady, choice-among-same, choice-unique}
-use Rattle.schedule.specs.Rows.{CoreTasks, dueAt, afterRelease, afterRun, slotOf}
+use Rattle.dispatch.specs.DispatchLaws.{leftAt, readyAt, slot-is-choice, left-at-start, left-after-run, ready-le-ticks}
+use Rattle.dispatch.specs.Earliest.{SameReady, choice-among-same, choice-unique}
+use Rattle.dispatch.specs.Rows.{CoreTasks, dueAt, afterRelease, afterRun, slotOf}
 
 -- of the tasks kept on the first core, both have the same left before tick t
 abbrev SameLeft : CoreTasks → CoreTasks → ℕ → Type 0

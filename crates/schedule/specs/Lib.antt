@@ -1,6 +1,5 @@
 pub mod Quantities
 pub mod Plans
-pub mod Rows
 pub mod Tables
 pub mod Drawings
 pub mod Checks
@@ -15,8 +14,6 @@ pub mod ServedRowLaws
 pub mod CheckTheorem
 pub mod Outcomes
 pub mod Demand
-pub mod Earliest
-pub mod DispatchLaws
 pub mod JobsDueLaws
 pub mod OnTime
 pub mod OnTimeSteps
@@ -32,9 +29,6 @@ pub mod WorkedOutLaws
 pub mod FitLaws
 pub mod RepeatedTables
 pub mod RepeatedTableLaws
-pub mod Dispatching
-pub mod StepLaws
-pub mod DispatchingLaws
 pub mod HeldQuantities
 pub mod QuantityBounds
 pub mod HeldPlans

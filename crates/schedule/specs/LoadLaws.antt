@@ -6,7 +6,7 @@ use native.Mathlib.Omega.{arith}
 use Rattle.laws.specs.Sums.{sum}
 use Rattle.laws.specs.SumLaws.{sum-mono, sum-scaled}
 use Rattle.schedule.specs.Demand.{WholePeriods, Demand, jobsDue, ticksDue, loadOf}
-use Rattle.schedule.specs.Rows.{CoreTasks}
+use Rattle.dispatch.specs.Rows.{CoreTasks}
 
 -- q whole periods within x ticks, out of n in a span
 share-of-span : (p n ticks q x : ℕ) → q * p ≤ x → n * p * (ticks * q) ≤ x * (n * ticks)

@@ -10,7 +10,7 @@ use borrow.Author.Tests.{le-leb, lt-leb}
 use Rattle.laws.specs.Sums.{sum}
 use Rattle.laws.specs.SumLaws.{sum-mono, term-le-sum}
 use Rattle.schedule.specs.Demand.{jobsDue}
-use Rattle.schedule.specs.Rows.{CoreTasks, dueAt}
+use Rattle.dispatch.specs.Rows.{CoreTasks, dueAt}
 
 -- the ticks left of a job if it is due by tick b
 unfoldable pub leftBy : (b due left : ℕ) → ℕ

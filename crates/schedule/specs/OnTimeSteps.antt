@@ -12,12 +12,12 @@ use Rattle.laws.specs.Below.{lt-or-le}
 use Rattle.laws.specs.DivisionLaws.{suc-div-of-multiple, suc-div-of-other}
 use Rattle.laws.specs.SumLaws.{sum-mono, sum-falls}
 use Rattle.schedule.specs.Demand.{WellFormed, Demand, jobsDue, ticksDue}
-use Rattle.schedule.specs.DispatchLaws.{afterRelease-at-release, afterRelease-between, afterRun-le, afterRun-self}
-use Rattle.schedule.specs.Earliest.{Choice}
+use Rattle.dispatch.specs.DispatchLaws.{afterRelease-at-release, afterRelease-between, afterRun-le, afterRun-self}
+use Rattle.dispatch.specs.Earliest.{Choice}
 use Rattle.schedule.specs.JobsDueLaws.{period-above-0, counted-of-due, jobsDue-mono, jobsDue-later}
 use Rattle.schedule.specs.OnTime.{leftBy, laterJobs, owed, ahead, OnTime, leftBy-due, leftBy-later, leftBy-le, owed-mono}
 use Rattle.schedule.specs.OnTime.{on-time-owing-no-more, on-time-with-less-left}
-use Rattle.schedule.specs.Rows.{CoreTasks, dueAt, afterRelease, afterRun}
+use Rattle.dispatch.specs.Rows.{CoreTasks, dueAt, afterRelease, afterRun}
 
 module _ (core : CoreTasks) (wf : WellFormed core) where
   -- the jobs released after tick t and due by b are no more than those due as many ticks after tick 0

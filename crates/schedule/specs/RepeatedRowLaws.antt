@@ -7,7 +7,7 @@ use lib.Arith.{digits-lt, digits-mod}
 use lib.Dec.{eqb}
 use Rattle.laws.specs.SearchFacts.{count-same}
 use Rattle.schedule.specs.Demand.{WellFormed, WholePeriods, slotsOfJob, repeated}
-use Rattle.schedule.specs.Rows.{CoreTasks}
+use Rattle.dispatch.specs.Rows.{CoreTasks}
 
 -- a tick of job j, taken modulo the span
 tick-in-span : (p n j x : ℕ) → 0 < n → x < p → (j * p + x) % (n * p) ≡ j % n * p + x

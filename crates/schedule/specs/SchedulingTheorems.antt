@@ -10,7 +10,7 @@ use Rattle.schedule.specs.EdfLaws.{slot-names-task, job-served, quiet-af
 use Rattle.schedule.specs.KeptTaskLaws.{same-slots}
 use Rattle.schedule.specs.LoadLaws.{load-within-span-is-demand}
 use Rattle.schedule.specs.RepeatedRowLaws.{job-of-span, repeated-slot, repeated-slots-of-job}
-use Rattle.schedule.specs.Rows.{CoreTasks, slotOf}
+use Rattle.dispatch.specs.Rows.{CoreTasks, slotOf}
 use Rattle.schedule.specs.ServedLaws.{served-load-fits, served-demand}
 
 -- Where the demand condition holds, earliest deadline first gives every job, however late it is released, exactly its

@@ -10,7 +10,7 @@ use Rattle.laws.specs.Sums.{sum}
 use Rattle.laws.specs.SumLaws.{sum-mono, sum-add, sum-scaled}
 use Rattle.schedule.specs.Demand.{WellFormed, WholePeriods, Demand, Serves, jobsDue, ticksDue, loadOf}
 use Rattle.schedule.specs.JobsDueLaws.{due-of-counted, jobsDue-mono, jobsDue-later, none-due-at-0}
-use Rattle.schedule.specs.Rows.{CoreTasks}
+use Rattle.dispatch.specs.Rows.{CoreTasks}
 
 module _ (core : CoreTasks) (wf : WellFormed core) (span : ℕ) (whole : WholePeriods core span) where
   jobsDue-after-spans : (i r n : ℕ) → i < core .size → jobsDue core i (r + n * span) ≡ jobsDue core i r + n * (span / core .period i)

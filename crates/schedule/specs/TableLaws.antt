@@ -5,7 +5,7 @@ use mathlib.Core.Path.{_≡_, _∙_}
 use lib.ListN.{length}
 use Rattle.laws.specs.JoinedLaws.{length-listOf, getD-listOf, length-joined, getD-joined}
 use Rattle.instance.specs.Node.{Problem, span}
-use Rattle.schedule.specs.Rows.{slotOf, row}
+use Rattle.dispatch.specs.Rows.{slotOf, row}
 use Rattle.schedule.specs.Tables.{coreTasks, tableOf, slotAt}
 
 module _ (p : Problem) (plan : List ℕ) where

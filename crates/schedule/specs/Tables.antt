@@ -6,7 +6,7 @@ use Rattle.laws.specs.Lists.{joined}
 use Rattle.instance.specs.Node.{Problem, taskCount, taskAt, span}
 use Rattle.instance.specs.declared.Task.{Task}
 use Rattle.schedule.specs.Quantities.{ticksOn}
-use Rattle.schedule.specs.Rows.{CoreTasks, row}
+use Rattle.dispatch.specs.Rows.{CoreTasks, row}
 
 -- "Job j (from 0) is released at j·p and due at (j+1)·p": from release to due tick, the relative deadline
 abbrev pub window : Task → ℕ

@@ -8,7 +8,7 @@ use lib.Dec.{eqb}
 use lib.ListN.{length}
 use Rattle.laws.specs.Search.{count}
 use Rattle.instance.specs.Node.{Problem, taskCount, taskAt, span}
-use Rattle.schedule.specs.Earliest.{Choice}
+use Rattle.dispatch.specs.Earliest.{Choice}
 use Rattle.schedule.specs.Quantities.{ticksOn}
 use Rattle.schedule.specs.Tables.{releaseOf, dueOf, slotAt}
 

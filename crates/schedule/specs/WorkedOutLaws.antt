@@ -10,11 +10,11 @@ use lib.Seq.{ext-getD}
 use Rattle.laws.specs.Search.{count}
 use Rattle.laws.specs.SearchFacts.{count-same}
 use Rattle.instance.specs.Node.{Problem, taskCount, taskAt, span}
-use Rattle.schedule.specs.DispatchLaws.{readyAt, slot-is-choice}
-use Rattle.schedule.specs.Earliest.{choice-same, choice-unique}
+use Rattle.dispatch.specs.DispatchLaws.{readyAt, slot-is-choice}
+use Rattle.dispatch.specs.Earliest.{choice-same, choice-unique}
 use Rattle.schedule.specs.EdfLaws.{slotsSoFar, accounted}
 use Rattle.schedule.specs.Periods.{Periodic, period-positive, row-of-index, tick-of-index, slot-of-index}
-use Rattle.schedule.specs.Rows.{slotOf, dueAt}
+use Rattle.dispatch.specs.Rows.{slotOf, dueAt}
 use Rattle.schedule.specs.TableLaws.{length-tableOf, slotAt-tableOf}
 use Rattle.schedule.specs.Tables.{coreTasks, tableOf, slotAt}
 use Rattle.schedule.specs.WorkedOut.{slotsBefore, ticksLeft, EarliestDueRuns, WorkedOut}

@@ -1,6 +1,5 @@
 // What a plan costs, the slot table that it gives, and the check of a table.
 mod check;
-mod dispatch;
 mod plan;
 mod prices;
 mod pricing;

@@ -1,8 +1,8 @@
 // The slot table of a plan.
-use crate::dispatch::Core;
-use crate::dispatch::fill_row;
 use crate::plan::plan_passes;
 use crate::quantities::ticks_on;
+use dispatch::Core;
+use dispatch::fill_row;
 use instance::Instance;
 use instance::Refusal;
 use instance::Verdict;

@@ -5,6 +5,7 @@ use native.Mathlib.Omega.{arith}
 use lib.ListN.{length}
 use borrow.Author.Needs.{needs}
 use Rattle.laws.specs.PartLaws.{length-part}
+use Rattle.dispatch.specs.DispatchingLaws.{row-written}
 use Rattle.instance.specs.Held.{problemIn, held-span}
 use Rattle.schedule.specs.HeldSlots.{row-within-table}
 use Rattle.schedule.specs.HeldTables.{rowsOnto, no-rows-onto, all-rows-onto, length-rows-onto, row-onto}
@@ -69,12 +70,7 @@ part-fill-row-end : tie.Need-part-fill-row-end Inv-loop μ-loop
 part-fill-row-end c = row-fits (c .before)
 
 fill-row-requires : tie.Need-fill-row-requires Inv-loop μ-loop
-fill-row-requires c κs = let start = c .before .before .before .before .before .before .before .before in
-    let s = start .pre .0 in
-    let at = c .before .before .before .loop in
-    let span = start .args .inst .span in
-    let its-length = length-part (at .table) (at .k * span) span (row-fits (c .before .before)) in
-    (c .before .core-tasks .ensures .is-ok, omega (arith, its-length, held-span _ s, s .valid .span-at-most))
+fill-row-requires c κs = search needs
 
 add-k : tie.Need-add-k Inv-loop μ-loop
 add-k c = search needs
@@ -86,7 +82,14 @@ loop-again : tie.Need-loop-again Inv-loop μ-loop
 loop-again c = let start = c .before .before .before .before .before .before .before .before .before .before .before in
     let at = c .before .before .before .before .before .before .loop in
     let core = c .before .before .before .before .core-tasks .ensures in
-    (search needs, row-onto _ _ _ _ _ _ _ _ (held-span _ (start .pre .0)) core (at .inv .1) (row-fits (c .before .before .before .before .before)) (c .before .before .fill-row .ensures))
+    let span = start .args .inst .span in
+    let fits = row-fits (c .before .before .before .before .before) in
+    let its-length = length-part (at .table) (at .k * span) span fits in
+    let written =
+    row-written _ _ _ (c .before .before .fill-row .result)
+    record { core-ok = core .is-ok; within-span = omega (arith, its-length, held-span _ (start .pre .0), start .pre .0 .valid .span-at-most) }
+    (c .before .before .fill-row .ensures) in
+    (search needs, row-onto _ _ _ _ _ _ _ _ (held-span _ (start .pre .0)) core (at .inv .1) fits written)
 
 same-length : tie.Need-same-length Inv-loop μ-loop
 same-length c = same-length-so-far (c .before)

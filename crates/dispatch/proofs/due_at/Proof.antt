@@ -2,8 +2,8 @@
 use borrow.Author.Needs.{needs}
 use native.Mathlib.Nat.{div-mul-le-self}
 use native.Mathlib.Omega.{arith}
-use Rattle.schedule.proofs.dispatch.due_at.Statement.{statement}
-use Rattle.schedule.proofs.dispatch.due_at.Tie as tie
+use Rattle.dispatch.proofs.due_at.Statement.{statement}
+use Rattle.dispatch.proofs.due_at.Tie as tie
 
 div-result : tie.Need-div-result
 div-result c = search needs

@@ -5,12 +5,12 @@ use mathlib.Core.Path.{_≡_, refl, _∙_}
 use native.Mathlib.Omega.{arith}
 use borrow.Author.Tests.{ltb-true, ltb-false}
 use lib.ListN.{getD}
-use Rattle.schedule.specs.Dispatching.{tasksOf}
-use Rattle.schedule.specs.StepLaws.{Picked, pick-passes-idle, pick-keeps, pick-takes}
-use Rattle.schedule.specs.Rows.{dueAt, earliest}
+use Rattle.dispatch.specs.Dispatching.{tasksOf}
+use Rattle.dispatch.specs.StepLaws.{Picked, pick-passes-idle, pick-keeps, pick-takes}
+use Rattle.dispatch.specs.Rows.{dueAt, earliest}
 use borrow.Author.Needs.{needs}
-use Rattle.schedule.proofs.dispatch.earliest.Statement.{statement}
-use Rattle.schedule.proofs.dispatch.earliest.Tie as tie
+use Rattle.dispatch.proofs.earliest.Statement.{statement}
+use Rattle.dispatch.proofs.earliest.Tie as tie
 
 abbrev Inv-loop : tie.InvT-loop
 Inv-loop tick core left best₀ best-due₀ i₀ best best-due i =
@@ -45,7 +45,7 @@ due-at-requires : tie.Need-due-at-requires Inv-loop μ-loop
 due-at-requires c κs =
     let start = c .before .before .before .before .before in
     let below = c .before .before .before .loop-test .taken in
-    (start .pre .0 .period-above-0 _ below, omega (arith, start .pre .0 .window-bounded _ below, start .pre .1))
+    (start .pre .0 .tasks-ok _ below .period-above-0, omega (arith, start .pre .0 .tasks-ok _ below .window-bounded, start .pre .1))
 
 cast-best : tie.Need-cast-best Inv-loop μ-loop
 cast-best c = search needs

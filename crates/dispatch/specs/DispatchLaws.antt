@@ -7,8 +7,8 @@ use lib.Dec.{eqb}
 use lib.ListN.{getD, getD-replicate}
 use borrow.Author.Tests.{eq-eqb, ne-eqb}
 use Rattle.laws.specs.JoinedLaws.{getD-listOf}
-use Rattle.schedule.specs.Earliest.{Choice, earliest-is-choice}
-use Rattle.schedule.specs.Rows.{CoreTasks, dueAt, afterRelease, afterRun, earliest, chosen, step, dispatched, slotOf}
+use Rattle.dispatch.specs.Earliest.{Choice, earliest-is-choice}
+use Rattle.dispatch.specs.Rows.{CoreTasks, dueAt, afterRelease, afterRun, earliest, chosen, step, dispatched, slotOf}
 
 -- the ticks left of task i before the releases of tick t
 unfoldable pub leftAt : CoreTasks → ℕ → ℕ → ℕ

@@ -5,12 +5,12 @@ use mathlib.Core.Path.{_≡_}
 use native.Mathlib.Omega.{arith}
 use borrow.Author.Needs.{needs}
 use lib.ListN.{getD}
-use Rattle.schedule.specs.Dispatching.{tasksOf}
-use Rattle.schedule.specs.Earliest.{Choice, earliest-is-choice, chosen-has-left}
-use Rattle.schedule.specs.Rows.{dueAt}
-use Rattle.schedule.specs.StepLaws.{Ran, chosen-le-size, is-stepped}
-use Rattle.schedule.proofs.dispatch.step.Statement.{statement}
-use Rattle.schedule.proofs.dispatch.step.Tie as tie
+use Rattle.dispatch.specs.Dispatching.{tasksOf}
+use Rattle.dispatch.specs.Earliest.{Choice, earliest-is-choice, chosen-has-left}
+use Rattle.dispatch.specs.Rows.{dueAt}
+use Rattle.dispatch.specs.StepLaws.{Ran, chosen-le-size, is-stepped}
+use Rattle.dispatch.proofs.step.Statement.{statement}
+use Rattle.dispatch.proofs.step.Tie as tie
 
 release-requires : tie.Need-release-requires
 release-requires c κs = search needs

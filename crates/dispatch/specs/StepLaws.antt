@@ -14,12 +14,12 @@ use Rattle.instance.specs.Limits.{mostTasks}
 use Rattle.laws.specs.JoinedLaws.{length-listOf, listOf-same, take-is-listOf}
 use Rattle.laws.specs.Lists.{listOf, onto}
 use Rattle.laws.specs.OntoLaws.{length-onto, getD-onto-listOf, getD-onto-listOf-next, set-onto-listOf}
-use Rattle.schedule.specs.Dispatching.{Stepped, readyOf, tasksOf}
-use Rattle.schedule.specs.DispatchLaws.{afterRun-other}
-use Rattle.schedule.specs.Earliest.{Choice, earliest-cong, earliest-is-choice}
-use Rattle.schedule.specs.Rows.{dueAt, afterRelease, afterRun, chosen, earliest, step}
-use Rattle.schedule.specs.declared.dispatch.Core.{Core}
-use Rattle.schedule.specs.declared.dispatch.State.{State}
+use Rattle.dispatch.specs.Dispatching.{Stepped, readyOf, tasksOf}
+use Rattle.dispatch.specs.DispatchLaws.{afterRun-other}
+use Rattle.dispatch.specs.Earliest.{Choice, earliest-cong, earliest-is-choice}
+use Rattle.dispatch.specs.Rows.{dueAt, afterRelease, afterRun, chosen, earliest, step}
+use Rattle.dispatch.specs.declared.Core.{Core}
+use Rattle.dispatch.specs.declared.State.{State}
 
 -- a choice between equals
 pub either-way : (b : Bool) (x : ℕ) → x ≡ cond b x x

@@ -1,4 +1,4 @@
--- `fill_row` writes the row slot by slot, and its state is the core's dispatching after as many ticks.
+-- `write_row` writes the row slot by slot, and its state is the core's dispatching after as many ticks.
 use Prim.Native.Nat.{_≤_, _-_}
 use mathlib.Core.Path.{_≡_, refl, _∙_}
 use native.Mathlib.Omega.{arith}
@@ -8,11 +8,11 @@ use lib.ListN.{length, length-set}
 use Rattle.laws.specs.JoinedLaws.{length-listOf}
 use Rattle.laws.specs.Lists.{listOf, onto}
 use Rattle.laws.specs.OntoLaws.{onto-all, set-onto-listOf}
-use Rattle.schedule.specs.Dispatching.{tasksOf}
-use Rattle.schedule.specs.DispatchingLaws.{Reached, start-is-reached, next-is-reached, last-is-slot}
-use Rattle.schedule.specs.Rows.{slotOf, row}
-use Rattle.schedule.proofs.dispatch.fill_row.Statement.{statement}
-use Rattle.schedule.proofs.dispatch.fill_row.Tie as tie
+use Rattle.dispatch.specs.Dispatching.{tasksOf}
+use Rattle.dispatch.specs.DispatchingLaws.{Reached, start-is-reached, next-is-reached, last-is-slot}
+use Rattle.dispatch.specs.Rows.{slotOf, row}
+use Rattle.dispatch.proofs.write_row.Statement.{statement}
+use Rattle.dispatch.proofs.write_row.Tie as tie
 
 abbrev Inv-loop : tie.InvT-loop
 Inv-loop core slots₀ s₀ t₀ slots s t =
@@ -64,8 +64,8 @@ returns c =
     let all : at .t ≡ length (now (a .slots)) = omega arith in
     at .inv .1 ∙ rw all (onto-all (row (tasksOf (a .core)) (length (now (a .slots)))) (now (a .slots)) (length-listOf _ _))
 
-pub fill-row-spec : {M : Type 1} → statement M
-fill-row-spec =
+pub write-row-spec : {M : Type 1} → statement M
+write-row-spec =
     tie.close
     (tie.spec
     Inv-loop

@@ -1,6 +1,7 @@
 -- What the code's state is after t ticks; and that dispatching depends on the tasks below a core's size alone.
 use Prim.Native.Nat.{ℕ, zero, suc, _+_, _≤_, _<_}
 use mathlib.Core.Path.{_≡_, refl, ap, _∙_}
+use mathlib.Core.Bool.{Bool, true, false}
 use mathlib.Core.List.{List, _∷_}
 use native.Mathlib.Nat.{le-of-suc-le-suc}
 use native.Mathlib.Numerals.{add-one}
@@ -9,11 +10,12 @@ use lib.ListN.{length, getD, take, replicate}
 use Rattle.instance.specs.Limits.{mostTasks}
 use Rattle.laws.specs.JoinedLaws.{listOf-same}
 use Rattle.laws.specs.Lists.{listOf}
-use Rattle.schedule.specs.Dispatching.{Stepped, dispatchOf, tasksOf}
-use Rattle.schedule.specs.Earliest.{earliest-cong}
-use Rattle.schedule.specs.Rows.{CoreTasks, Dispatch, dueAt, afterRelease, afterRun, chosen, earliest, step, dispatched, slotOf, row}
-use Rattle.schedule.specs.declared.dispatch.Core.{Core}
-use Rattle.schedule.specs.declared.dispatch.State.{State}
+use Rattle.laws.specs.Tests.{Tells}
+use Rattle.dispatch.specs.Dispatching.{CoreOk, RowOk, RowTold, Stepped, TaskOk, dispatchOf, tasksOf}
+use Rattle.dispatch.specs.Earliest.{earliest-cong}
+use Rattle.dispatch.specs.Rows.{CoreTasks, Dispatch, dueAt, afterRelease, afterRun, chosen, earliest, step, dispatched, slotOf, row}
+use Rattle.dispatch.specs.declared.Core.{Core}
+use Rattle.dispatch.specs.declared.State.{State}
 
 -- s is the core's state after t ticks
 pub record Reached (core : Core) (t : ℕ) (s : State) : Type 0 where
@@ -92,3 +94,14 @@ module _ (a b : CoreTasks) (same : SameTasks a b) where
   pub same-row : (n : ℕ) → row a n ≡ row b n
   unfolding row
   same-row n = listOf-same (slotOf a) (slotOf b) n (λ t l. ap (λ (d : Dispatch). d .last) (same-dispatched (suc t)))
+
+-- a row that may be written is written
+pub row-written : (core : Core) (slots slots' : List ℕ) (answer : Bool) → RowOk core (length slots) →
+    RowTold core slots slots' answer → slots' ≡ row (tasksOf core) (length slots)
+row-written core slots slots' true ok told = told .1
+row-written core slots slots' false ok told = absurd (told .0 ok)
+
+pub core-told : (core : Core) (answer : Bool) → core .size ≤ mostTasks →
+    Tells answer ((i : ℕ) → i < core .size → TaskOk core i) → Tells answer (CoreOk core)
+core-told core true few sound = record { few-tasks = few; tasks-ok = sound }
+core-told core false few unsound = λ ok. unsound (ok .tasks-ok)

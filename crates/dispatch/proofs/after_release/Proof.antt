@@ -2,9 +2,9 @@ use borrow.Author.Needs.{needs}
 use Prim.Native.Nat.{_%_}
 use lib.Dec.{eqb}
 use borrow.Author.Tests.{eq-eqb, ne-eqb}
-use Rattle.schedule.specs.StepLaws.{either-way}
-use Rattle.schedule.proofs.dispatch.after_release.Statement.{statement}
-use Rattle.schedule.proofs.dispatch.after_release.Tie as tie
+use Rattle.dispatch.specs.StepLaws.{either-way}
+use Rattle.dispatch.proofs.after_release.Statement.{statement}
+use Rattle.dispatch.proofs.after_release.Tie as tie
 
 returns : tie.Need-returns
 returns c = rw (c .if1 .taken) (either-way (eqb (c .before .args .tick % c .before .args .period) 0) (c .before .args .left))

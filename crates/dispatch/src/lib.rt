@@ -1,28 +1,35 @@
-// Earliest deadline first on one core, one tick at a time.
+// Earliest deadline first on one core, one tick at a time, and the row of slots that it gives.
 ghost use mathlib.Core.Bool.{cond};
 ghost use mathlib.Core.Path.{_≡_};
-ghost use Prim.Native.Nat.{_+_, _*_, _/_, _%_, _≤_, _<_};
+ghost use Prim.Native.Nat.{ℕ, _+_, _*_, _/_, _%_, _≤_, _<_};
 ghost use lib.Dec.{eqb};
 ghost use lib.ListN.{length, getD};
-ghost use Rattle.instance.specs.Limits.{mostPeriod, mostSpan, mostWord};
+ghost use Rattle.instance.specs.Limits.{mostPeriod, mostSpan, mostTasks, mostWord};
 ghost use Rattle.laws.specs.Lists.{listOf, onto};
-ghost use Rattle.schedule.specs.Dispatching.{CoreOk, StateOk, Stepped, readyOf, tasksOf};
-ghost use Rattle.schedule.specs.Rows as rows;
+ghost use Rattle.laws.specs.Tests.{Tells};
+ghost use Rattle.dispatch.specs.Dispatching.{CoreOk, RowTold, StateOk, Stepped, TaskOk, readyOf, tasksOf};
+ghost use Rattle.dispatch.specs.Rows as rows;
+
+const MOST_TASKS: usize = 12;
+
+const MOST_PERIOD: u32 = 4096;
+
+const MOST_SPAN: usize = 4096;
 
 // What one core knows of the tasks: a task that is not kept there has no ticks.
-pub(crate) struct Core {
-    pub(crate) size: usize,
-    pub(crate) period: [u32; 12],
-    pub(crate) window: [u32; 12],
-    pub(crate) ticks: [u32; 12],
+pub struct Core {
+    pub size: usize,
+    pub period: [u32; 12],
+    pub window: [u32; 12],
+    pub ticks: [u32; 12],
 }
 
 // Where a core's dispatching stands: the next tick, what each task still has to run, and the number of the task that ran
 // in the tick before, 0 for none.
-pub(crate) struct State {
-    pub(crate) tick: u32,
-    pub(crate) left: [u32; 12],
-    pub(crate) last: u32,
+struct State {
+    tick: u32,
+    left: [u32; 12],
+    last: u32,
 }
 
 // The ticks left of a task once the jobs of this tick are released, from those left before: all of its ticks at a release.
@@ -87,7 +94,7 @@ fn earliest(core: Core, tick: u32, left: [u32; 12]) -> u32
 }
 
 // One tick.
-pub(crate) fn step(core: Core, s: State) -> State
+fn step(core: Core, s: State) -> State
     requires { ⌜ CoreOk core ⌝ }
     requires { ⌜ StateOk s ⌝ }
     ensures { λ r. ⌜ Stepped core s r ⌝ }
@@ -106,7 +113,7 @@ pub(crate) fn step(core: Core, s: State) -> State
 }
 
 // The core's first slots, as many as there is room for.
-pub(crate) fn fill_row(core: Core, slots: &mut [u8])
+fn write_row(core: Core, slots: &mut [u8])
     requires { ⌜ CoreOk core ⌝ }
     requires { ⌜ length (now slots) ≤ mostSpan ⌝ }
     ensures { λ _. ⌜ now (slots .exit) ≡ rows.row (tasksOf core) (length (now (slots .entry))) ⌝ }
@@ -122,4 +129,46 @@ pub(crate) fn fill_row(core: Core, slots: &mut [u8])
         slots[t] = s.last as u8;
         t += 1;
     }
+}
+
+// Each of the core's tasks has a period, and a window that is not too long.
+fn tasks_sound(core: Core) -> bool
+    requires { ⌜ core .size ≤ mostTasks ⌝ }
+    ensures { λ r. ⌜ Tells r ((i : ℕ) → i < core .size → TaskOk core i) ⌝ }
+{
+    let mut i = 0;
+    while i < core.size {
+        if core.period[i] == 0 {
+            return false;
+        }
+        if MOST_PERIOD < core.window[i] {
+            return false;
+        }
+        i += 1;
+    }
+    true
+}
+
+fn is_sound(core: Core) -> bool
+    ensures { λ r. ⌜ Tells r (CoreOk core) ⌝ }
+{
+    if MOST_TASKS < core.size {
+        return false;
+    }
+    tasks_sound(core)
+}
+
+// The core's first slots, as many as there is room for. Answers whether these are at most a span's, and the core's tasks are
+// sound; where they are not, the slots stay as they are.
+pub fn fill_row(core: Core, slots: &mut [u8]) -> bool
+    ensures { λ r. ⌜ RowTold core (now (slots .entry)) (now (slots .exit)) r ⌝ }
+{
+    if MOST_SPAN < slots.len() {
+        return false;
+    }
+    if !is_sound(core) {
+        return false;
+    }
+    write_row(core, slots);
+    true
 }

@@ -1,11 +1,13 @@
 -- The code's core and state, as the definition of a row reads them.
 use Prim.Native.Nat.{ℕ, _+_, _≤_, _<_}
 use mathlib.Core.Path.{_≡_}
+use mathlib.Core.Bool.{Bool, true, false}
+use mathlib.Core.List.{List}
 use lib.ListN.{length, getD, take}
-use Rattle.instance.specs.Limits.{mostWord, mostTasks, mostPeriod}
-use Rattle.schedule.specs.Rows.{CoreTasks, Dispatch, afterRelease, step}
-use Rattle.schedule.specs.declared.dispatch.Core.{Core}
-use Rattle.schedule.specs.declared.dispatch.State.{State}
+use Rattle.instance.specs.Limits.{mostWord, mostTasks, mostPeriod, mostSpan}
+use Rattle.dispatch.specs.Rows.{CoreTasks, Dispatch, afterRelease, row, step}
+use Rattle.dispatch.specs.declared.Core.{Core}
+use Rattle.dispatch.specs.declared.State.{State}
 
 abbrev pub tasksOf : Core → CoreTasks
 tasksOf core =
@@ -24,10 +26,13 @@ dispatchOf core s = record { tick = s .tick; left = take (core .size) (s .left);
 unfoldable pub readyOf : Core → State → ℕ → ℕ
 readyOf core s i = afterRelease (tasksOf core) (s .tick) i (getD (s .left) i 0)
 
+pub record TaskOk (core : Core) (i : ℕ) : Type 0 where
+  pub period-above-0 : 0 < getD (core .period) i 0
+  pub window-bounded : getD (core .window) i 0 ≤ mostPeriod
+
 pub record CoreOk (core : Core) : Type 0 where
   pub few-tasks : core .size ≤ mostTasks
-  pub period-above-0 : (i : ℕ) → i < core .size → 0 < getD (core .period) i 0
-  pub window-bounded : (i : ℕ) → i < core .size → getD (core .window) i 0 ≤ mostPeriod
+  pub tasks-ok : (i : ℕ) → i < core .size → TaskOk core i
 
 pub record StateOk (s : State) : Type 0 where
   pub places : length (s .left) ≡ mostTasks
@@ -39,3 +44,13 @@ pub record Stepped (core : Core) (s r : State) : Type 0 where
   pub dispatch : dispatchOf core r ≡ step (tasksOf core) (dispatchOf core s)
   pub places : length (r .left) ≡ mostTasks
   pub names-task : r .last ≤ core .size
+
+-- what a row asks of the core and of the room for slots
+pub record RowOk (core : Core) (room : ℕ) : Type 0 where
+  pub core-ok : CoreOk core
+  pub within-span : room ≤ mostSpan
+
+-- the row is written where that holds, and else the slots stay as they are
+abbrev pub RowTold : (core : Core) (slots slots' : List ℕ) → Bool → Type 0
+RowTold core slots slots' true = RowOk core (length slots) × (slots' ≡ row (tasksOf core) (length slots))
+RowTold core slots slots' false = (¬ RowOk core (length slots)) × (slots' ≡ slots)

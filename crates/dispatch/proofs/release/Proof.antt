@@ -3,12 +3,12 @@ use Prim.Native.Nat.{_≤_, _-_}
 use mathlib.Core.Path.{_≡_, refl}
 use native.Mathlib.Omega.{arith}
 use Rattle.laws.specs.Lists.{listOf, onto}
-use Rattle.schedule.specs.Dispatching.{readyOf}
-use Rattle.schedule.specs.Rows.{afterRelease}
-use Rattle.schedule.specs.StepLaws.{release-next}
+use Rattle.dispatch.specs.Dispatching.{readyOf}
+use Rattle.dispatch.specs.Rows.{afterRelease}
+use Rattle.dispatch.specs.StepLaws.{release-next}
 use borrow.Author.Needs.{needs}
-use Rattle.schedule.proofs.dispatch.release.Statement.{statement}
-use Rattle.schedule.proofs.dispatch.release.Tie as tie
+use Rattle.dispatch.proofs.release.Statement.{statement}
+use Rattle.dispatch.proofs.release.Tie as tie
 
 abbrev Inv-loop : tie.InvT-loop
 Inv-loop s core left₀ i₀ left i = (i ≤ core .size) × (left ≡ onto (listOf (readyOf core s) i) left₀)
@@ -39,7 +39,7 @@ array-read-after-release : tie.Need-array-read-after-release Inv-loop μ-loop
 array-read-after-release c = search needs
 
 after-release-requires : tie.Need-after-release-requires Inv-loop μ-loop
-after-release-requires c κs = c .before .before .before .before .before .pre .0 .period-above-0 (c .before .before .before .loop .i) (c .before .before .loop-test .taken)
+after-release-requires c κs = c .before .before .before .before .before .pre .0 .tasks-ok (c .before .before .before .loop .i) (c .before .before .loop-test .taken) .period-above-0
 
 mul-left : tie.Need-mul-left Inv-loop μ-loop
 mul-left c = search needs

@@ -8,7 +8,7 @@ use native.Mathlib.Omega.{arith}
 use lib.Dec.{eqb, ltb}
 use borrow.Author.Tests.{eqb-true, eqb-false, ltb-true, ltb-false, ne-eqb}
 use Rattle.laws.specs.Below.{lt-or-le, below-suc}
-use Rattle.schedule.specs.Rows.{earliest}
+use Rattle.dispatch.specs.Rows.{earliest}
 
 -- the number chosen among the tasks below n: 0 where none has ticks left; else that of one with ticks left, such that
 -- none of them is due earlier, and none of a lower number is due at the same tick

@@ -1,0 +1,6 @@
+pub mod Rows
+pub mod Earliest
+pub mod DispatchLaws
+pub mod Dispatching
+pub mod StepLaws
+pub mod DispatchingLaws
