@@ -1,4 +1,4 @@
--- The entries that are no worse than all of smaller load, gathered to a list, one load after the other.
+-- The entries that come before all of smaller load, gathered to a list, one load after the other.
 use Prim.Native.Nat.{ℕ, _+_, _*_, _-_, _≤_, _<_}
 use mathlib.Core.Path.{_≡_}
 use mathlib.Core.Logic.{_⊎_}
