@@ -8,8 +8,6 @@ use Rattle.instance.specs.Limits
 use Rattle.instance.specs.Node.{noLevel}
 use Rattle.instance.specs.Sections.{answered}
 use Rattle.instance.specs.SiteFile.{Taken, Take, _>>=_, done, word, between, levels}
-use Rattle.instance.specs.declared.levels.LevelRead.{LevelRead}
-use Rattle.instance.specs.declared.levels.LevelRead.the-variants as LevelRead
 use Rattle.instance.specs.declared.levels.LevelsRead.{LevelsRead}
 use Rattle.instance.specs.declared.Level.{Level}
 use Rattle.instance.specs.declared.Refusal.{Refusal}
@@ -33,9 +31,6 @@ unfoldable pub levelsSection : Take (List Level)
 levelsSection = do
   h ← word (between 1 Limits.mostLevels)
   levelsAfter h noLevel
-
-abbrev pub levelRead : Taken Level → LevelRead
-levelRead = answered LevelRead.Refused LevelRead.Taken
 
 abbrev pub noLevels : Refusal → LevelsRead
 noLevels r = record { verdict = Refused r; count = 0; levels = replicate Limits.mostLevels noLevel; next = 0 }

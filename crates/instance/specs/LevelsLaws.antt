@@ -7,18 +7,18 @@ use native.Mathlib.Numerals.{add-one}
 use native.Mathlib.Omega.{arith}
 use lib.ListN.{length, drop, set, replicate}
 use Rattle.laws.specs.PaddedLaws.{sets-of-blank-is-padded}
-use Rattle.instance.specs.Levels.{oneLevel, WithinLimits, levelsAfter, levelsSection, levelRead, noLevels, levelsRead, levelsWith}
+use Rattle.instance.specs.Levels.{oneLevel, WithinLimits, levelsAfter, levelsSection, noLevels, levelsRead, levelsWith}
 use Rattle.instance.specs.Limits
 use Rattle.instance.specs.Node.{noLevel}
 use Rattle.instance.specs.RepeatedLaws.{Repeats, Counts, repeated-count, repeated-keeps-place}
-use Rattle.instance.specs.SectionLaws.{answered-taken, answered-refused}
-use Rattle.instance.specs.Sections.{answered}
-use Rattle.instance.specs.SiteFile.{Taken, refused, taken, levels}
+use Rattle.instance.specs.SectionLaws.{pair-taken, pair-refused}
+use Rattle.instance.specs.Sections.{answered, pair, pairRead}
+use Rattle.instance.specs.SiteFile.{Taken, refused, taken, continue, done, between, levels}
 use Rattle.instance.specs.TakenLaws.{Holds, KeepsPlace, continue-assoc, continue-holds, word-holds, done-holds, bind-keeps-place, done-keeps-place, word-keeps-place, between-holds}
-use Rattle.instance.specs.declared.levels.LevelRead.{LevelRead}
-use Rattle.instance.specs.declared.levels.LevelRead.the-variants as LevelRead
 use Rattle.instance.specs.declared.Level.{Level}
 use Rattle.instance.specs.declared.Refusal.{Refusal}
+use Rattle.instance.specs.declared.word.Pair.{Pair}
+use Rattle.instance.specs.declared.word.Pair.the-variants as Pair
 
 -- one level
 
@@ -37,22 +37,22 @@ one-level-within-limits before at words =
     (word-holds _ _ next left (λ w left is pass. between-holds _ _ w pass .1))
     (λ w next left strong. done-holds (λ l next left. WithinLimits l) (fast, strong)))
 
-module _ (before : Level) (all : List ℕ) (at : ℕ) {answer : LevelRead} (read : answer ≡ levelRead (oneLevel before at (drop at all))) where
-  pub level-taken : {l : Level} {next : ℕ} → answer ≡ LevelRead.Taken l next → oneLevel before at (drop at all) ≡ taken l next (drop next all)
-  level-taken is =
-      let found =
-      answered-taken LevelRead.Refused LevelRead.Taken all (oneLevel before at (drop at all)) answer (one-level-keeps-place before .place all at) read (λ r no-refusal.
-      let z : _≡_ {A = ℕ} 0 1 = cc in omega arith)
-      in
-      cc
+module _ (before : Level) (all : List ℕ) (at : ℕ) {answer : Pair}
+    (read : answer ≡ pairRead (pair (between (before .speed + 1) Limits.mostSpeed) (between (before .power + 1) Limits.mostPower) at (drop at all))) where
+  -- a level is a pair of words
+  level-of-pair : oneLevel before at (drop at all)
+      ≡ continue
+      (pair (between (before .speed + 1) Limits.mostSpeed) (between (before .power + 1) Limits.mostPower) at (drop at all))
+      (λ both. done (record { speed = both .0; power = both .1 }))
+  unfolding oneLevel pair
+  level-of-pair = simp continue-assoc
 
-  pub level-refused : {r : Refusal} → answer ≡ LevelRead.Refused r → oneLevel before at (drop at all) ≡ refused r
-  level-refused is =
-      let found =
-      answered-refused LevelRead.Refused LevelRead.Taken (oneLevel before at (drop at all)) answer read (λ l next no-level.
-      let z : _≡_ {A = ℕ} 0 1 = cc in omega arith)
-      in
-      cc
+  pub level-taken : {s w next : ℕ} → answer ≡ Pair.Taken s w next
+      → oneLevel before at (drop at all) ≡ taken (record { speed = s; power = w }) next (drop next all)
+  level-taken is = rw (level-of-pair, pair-taken _ _ _ _ read is)
+
+  pub level-refused : {r : Refusal} → answer ≡ Pair.Refused r → oneLevel before at (drop at all) ≡ refused r
+  level-refused is = rw (level-of-pair, pair-refused _ _ _ _ read is)
 
 -- all of them
 

@@ -5,12 +5,14 @@ use mathlib.Core.List.{List}
 use mathlib.Core.Path.{_≡_, refl, ap, _∙_}
 use native.Mathlib.Omega.{arith}
 use lib.ListN.{drop}
-use Rattle.instance.specs.Sections.{answered, wordRead}
+use Rattle.instance.specs.Sections.{answered, wordRead, pair, pairRead}
 use Rattle.instance.specs.SiteFile.{Taken, refused, taken, word}
-use Rattle.instance.specs.TakenLaws.{Holds, InPlace, word-keeps-place}
+use Rattle.instance.specs.TakenLaws.{Holds, InPlace, KeepsPlace, bind-keeps-place, done-keeps-place, word-keeps-place}
 use Rattle.instance.specs.declared.Refusal.{Refusal}
 use Rattle.instance.specs.declared.Verdict.{Verdict}
 use Rattle.instance.specs.declared.Verdict.the-variants.{Accepted, Refused}
+use Rattle.instance.specs.declared.word.Pair.{Pair}
+use Rattle.instance.specs.declared.word.Pair.the-variants as Pair
 use Rattle.instance.specs.declared.word.Word.{Word}
 use Rattle.instance.specs.declared.word.Word.the-variants as Word
 
@@ -77,4 +79,25 @@ module _ (passes : ℕ → Bool) (all : List ℕ) (at : ℕ) {answer : Word} (re
   pub word-refused : {r : Refusal} → answer ≡ Word.Refused r → word passes at (drop at all) ≡ refused r
   word-refused is =
       let found = answered-refused Word.Refused Word.Taken (word passes at (drop at all)) answer read (λ w next no-word. let z : _≡_ {A = ℕ} 0 1 = cc in omega arith) in
+      cc
+
+-- pairs of words
+
+pair-keeps-place : (first second : ℕ → Bool) → KeepsPlace (pair first second)
+unfolding pair
+pair-keeps-place first second =
+    bind-keeps-place (word-keeps-place first) (λ a. bind-keeps-place (word-keeps-place second) (λ b. done-keeps-place))
+
+module _ (first second : ℕ → Bool) (all : List ℕ) (at : ℕ) {answer : Pair} (read : answer ≡ pairRead (pair first second at (drop at all))) where
+  pub pair-taken : {a b next : ℕ} → answer ≡ Pair.Taken a b next → pair first second at (drop at all) ≡ taken (a, b) next (drop next all)
+  unfolding Holds
+  pair-taken {a} {b} {next} is = from (pair first second at (drop at all)) (pair-keeps-place first second .place all at) read
+    where
+      from : (t : Taken (ℕ × ℕ)) → Holds (InPlace all) t → answer ≡ pairRead t → t ≡ taken (a, b) next (drop next all)
+      from (refused r) place says = let z : _≡_ {A = ℕ} 0 1 = cc in absurd (omega arith)
+      from (taken (x, y) end words) place says = cc
+
+  pub pair-refused : {r : Refusal} → answer ≡ Pair.Refused r → pair first second at (drop at all) ≡ refused r
+  pair-refused is =
+      let found = answered-refused Pair.Refused _ (pair first second at (drop at all)) answer read (λ both next no-pair. let z : _≡_ {A = ℕ} 0 1 = cc in omega arith) in
       cc

@@ -1,9 +1,10 @@
 -- How the code hands over what it takes from the list: a refusal, or what the words make and the index of the next word.
 use Prim.Native.Nat.{ℕ}
-use Rattle.instance.specs.SiteFile.{Taken, refused, taken, Settings}
+use mathlib.Core.Bool.{Bool}
+use Rattle.instance.specs.SiteFile.{Taken, refused, taken, Take, _>>=_, done, word}
 use Rattle.instance.specs.declared.Refusal.{Refusal}
-use Rattle.instance.specs.declared.Verdict.the-variants.{Accepted, Refused}
-use Rattle.instance.specs.declared.settings.SettingsRead.{SettingsRead}
+use Rattle.instance.specs.declared.word.Pair.{Pair}
+use Rattle.instance.specs.declared.word.Pair.the-variants as Pair
 use Rattle.instance.specs.declared.word.Word.{Word}
 use Rattle.instance.specs.declared.word.Word.the-variants as Word
 
@@ -15,11 +16,12 @@ answered on-refused on-taken (taken a next words) = on-taken a next
 abbrev pub wordRead : Taken ℕ → Word
 wordRead = answered Word.Refused Word.Taken
 
-abbrev pub noSettings : Refusal → SettingsRead
-noSettings r = record { verdict = Refused r; weights = record { energy = 0; penalty = 0 }; cores = 0; next = 0 }
+-- two words one after the other
+unfoldable pub pair : (ℕ → Bool) → (ℕ → Bool) → Take (ℕ × ℕ)
+pair first second = do
+  a ← word first
+  b ← word second
+  done (a, b)
 
-abbrev pub theseSettings : Settings → ℕ → SettingsRead
-theseSettings s next = record { verdict = Accepted; weights = s .weights; cores = s .cores; next = next }
-
-unfoldable pub settingsRead : Taken Settings → SettingsRead
-settingsRead = answered noSettings theseSettings
+abbrev pub pairRead : Taken (ℕ × ℕ) → Pair
+pairRead = answered Pair.Refused (λ both next. Pair.Taken (both .0) (both .1) next)

@@ -1,14 +1,16 @@
-// The levels section of a site file.
+// The levels section of a site file: levels that each have more speed and more power than the one before.
 use crate::Level;
 use crate::Refusal;
 use crate::Verdict;
 use crate::limits;
+use crate::word::Pair;
 use crate::word::Word;
+use crate::word::pair_at;
 use crate::word::word_at;
 ghost use mathlib.Core.Path.{_≡_};
 ghost use Prim.Native.Nat.{_≤_};
 ghost use lib.ListN.{drop};
-ghost use Rattle.instance.specs.Levels.{oneLevel, WithinLimits, levelsAfter, levelsSection, levelRead, levelsRead};
+ghost use Rattle.instance.specs.Levels.{levelsAfter, levelsSection, levelsRead};
 ghost use Rattle.instance.specs.Limits.{mostLevels};
 ghost use Rattle.instance.specs.Node.{noLevel};
 ghost use Rattle.instance.specs.SiteFile.{refused};
@@ -19,11 +21,6 @@ pub(crate) struct LevelsRead {
     pub(crate) count: usize,
     pub(crate) levels: [Level; 8],
     pub(crate) next: usize,
-}
-
-enum LevelRead {
-    Taken(Level, usize),
-    Refused(Refusal),
 }
 
 fn no_levels(why: Refusal) -> LevelsRead
@@ -37,25 +34,6 @@ fn no_levels(why: Refusal) -> LevelsRead
     }
 }
 
-// The level at an index, of more speed and more power than the one before it.
-fn level_at(words: &[u32], at: usize, before: Level) -> LevelRead
-    requires { ⌜ WithinLimits before ⌝ }
-    ensures { λ r. ⌜ r ≡ levelRead (oneLevel before at (drop at (now (words .entry)))) ⌝ }
-{
-    match word_at(words, at, before.speed + 1, limits::MOST_SPEED) {
-        Word::Refused(why) => LevelRead::Refused(why),
-        Word::Taken(speed, middle) => match word_at(
-            words,
-            middle,
-            before.power + 1,
-            limits::MOST_POWER,
-        ) {
-            Word::Refused(why) => LevelRead::Refused(why),
-            Word::Taken(power, next) => LevelRead::Taken(Level { speed, power }, next),
-        },
-    }
-}
-
 fn levels_from(words: &[u32], at: usize, count: usize) -> LevelsRead
     requires { ⌜ count ≤ mostLevels ⌝ }
     ensures { λ r. ⌜ r ≡ levelsRead (levelsAfter count noLevel at (drop at (now (words .entry)))) ⌝ }
@@ -65,13 +43,18 @@ fn levels_from(words: &[u32], at: usize, count: usize) -> LevelsRead
     let mut next = at;
     let mut i: usize = 0;
     while i < count {
-        match level_at(words, next, before) {
-            LevelRead::Refused(why) => {
-                return no_levels(why);
-            }
-            LevelRead::Taken(level, after) => {
-                levels[i] = level;
-                before = level;
+        match pair_at(
+            words,
+            next,
+            before.speed + 1,
+            limits::MOST_SPEED,
+            before.power + 1,
+            limits::MOST_POWER,
+        ) {
+            Pair::Refused(why) => return no_levels(why),
+            Pair::Taken(speed, power, after) => {
+                before = Level { speed, power };
+                levels[i] = before;
                 next = after;
                 i += 1;
             }

@@ -4,7 +4,6 @@ mod limits;
 mod multiples;
 mod reader;
 mod refusals;
-mod settings;
 mod site;
 mod tasks;
 mod text;

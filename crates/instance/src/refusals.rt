@@ -7,16 +7,16 @@ pub fn refusal_number(refusal: Refusal) -> u64
     ensures { λ r. ⌜ r ≡ numberOf refusal ⌝ }
 {
     match refusal {
-        Refusal::Text(_) => 1,
-        Refusal::WordCount(_) => 2,
-        Refusal::WordRange(_) => 3,
-        Refusal::SpanTooLong(_) => 4,
-        Refusal::NoPlan => 5,
-        Refusal::ShortBuffer(_) => 6,
-        Refusal::GivenPlan(_) => 7,
-        Refusal::CoreOverloaded(_) => 8,
-        Refusal::GivenTable(_) => 9,
-        Refusal::JobSlots(_) => 10,
+        Refusal::Text(_) => return 1,
+        Refusal::WordCount(_) => return 2,
+        Refusal::WordRange(_) => return 3,
+        Refusal::SpanTooLong(_) => return 4,
+        Refusal::NoPlan => return 5,
+        Refusal::ShortBuffer(_) => return 6,
+        Refusal::GivenPlan(_) => return 7,
+        Refusal::CoreOverloaded(_) => return 8,
+        Refusal::GivenTable(_) => return 9,
+        Refusal::JobSlots(_) => return 10,
     }
 }
 
@@ -25,15 +25,15 @@ pub fn refusal_place(refusal: Refusal) -> u64
     ensures { λ r. ⌜ r ≡ placeOf refusal ⌝ }
 {
     match refusal {
-        Refusal::Text(place) => place as u64,
-        Refusal::WordCount(place) => place as u64,
-        Refusal::WordRange(place) => place as u64,
-        Refusal::SpanTooLong(place) => place as u64,
-        Refusal::NoPlan => 0,
-        Refusal::ShortBuffer(place) => place as u64,
-        Refusal::GivenPlan(place) => place as u64,
-        Refusal::CoreOverloaded(place) => place as u64,
-        Refusal::GivenTable(place) => place as u64,
-        Refusal::JobSlots(place) => place as u64,
+        Refusal::Text(place)
+        | Refusal::WordCount(place)
+        | Refusal::WordRange(place)
+        | Refusal::SpanTooLong(place)
+        | Refusal::ShortBuffer(place)
+        | Refusal::GivenPlan(place)
+        | Refusal::CoreOverloaded(place)
+        | Refusal::GivenTable(place)
+        | Refusal::JobSlots(place) => return place as u64,
+        Refusal::NoPlan => return 0,
     }
 }

@@ -8,15 +8,16 @@ use crate::Verdict;
 use crate::Weights;
 use crate::levels::LevelsRead;
 use crate::levels::levels_at;
-use crate::settings::SettingsRead;
-use crate::settings::settings_at;
+use crate::limits;
 use crate::tasks::TasksRead;
 use crate::tasks::tasks_at;
+use crate::word::Pair;
+use crate::word::pair_at;
 ghost use mathlib.Core.Path.{_≡_};
 ghost use lib.ListN.{drop};
 ghost use Rattle.instance.specs.Outcomes.{instanceOutcome};
 ghost use Rattle.instance.specs.SiteFile.{refused};
-ghost use Rattle.instance.specs.SiteRead.{settingsOf, afterSettings, instanceRead, wholeInstance};
+ghost use Rattle.instance.specs.SiteRead.{afterSettings, instanceRead, wholeInstance};
 
 fn no_instance(why: Refusal) -> InstanceRead
     ensures { λ r. ⌜ r ≡ instanceRead (refused why) ⌝ }
@@ -44,20 +45,20 @@ fn no_instance(why: Refusal) -> InstanceRead
 
 // The instance that the three sections make.
 fn whole_instance(
-    settings: SettingsRead,
+    weights: Weights,
+    cores: u32,
     levelsection: LevelsRead,
     tasksection: TasksRead,
 ) -> InstanceRead
-    ensures { λ r. ⌜ r ≡ wholeInstance settings levelsection tasksection ⌝ }
+    ensures { λ r. ⌜ r ≡ wholeInstance weights cores levelsection tasksection ⌝ }
 {
-    let weights = settings.weights;
     let levels = levelsection.levels;
     let tasks = tasksection.tasks;
     InstanceRead {
         verdict: Verdict::Accepted,
         instance: Instance {
             weights,
-            cores: settings.cores,
+            cores,
             levelcount: levelsection.count,
             levels,
             taskcount: tasksection.count,
@@ -68,10 +69,10 @@ fn whole_instance(
 }
 
 // What follows the settings: the levels, the tasks, and nothing more.
-fn after_settings(words: &[u32], settings: SettingsRead) -> InstanceRead
-    ensures { λ r. ⌜ r ≡ instanceRead (afterSettings (settingsOf settings) (settings .next) (drop (settings .next) (now (words .entry)))) ⌝ }
+fn after_settings(words: &[u32], at: usize, weights: Weights, cores: u32) -> InstanceRead
+    ensures { λ r. ⌜ r ≡ instanceRead (afterSettings weights cores at (drop at (now (words .entry)))) ⌝ }
 {
-    let levelsection = levels_at(words, settings.next);
+    let levelsection = levels_at(words, at);
     let levels_verdict = levelsection.verdict;
     if let Verdict::Refused(why) = levels_verdict {
         return no_instance(why);
@@ -84,17 +85,32 @@ fn after_settings(words: &[u32], settings: SettingsRead) -> InstanceRead
     if tasksection.next < words.len() {
         return no_instance(Refusal::WordCount(tasksection.next));
     }
-    whole_instance(settings, levelsection, tasksection)
+    whole_instance(weights, cores, levelsection, tasksection)
 }
 
-// The instance that the words are, or why they are none.
+// The instance that the words are, or why they are none: the settings are two pairs of words.
 pub fn read_instance(words: &[u32]) -> InstanceRead
     ensures { λ r. ⌜ r ≡ instanceOutcome (now (words .entry)) ⌝ }
 {
-    let settings = settings_at(words, 0);
-    let verdict = settings.verdict;
-    match verdict {
-        Verdict::Refused(why) => no_instance(why),
-        Verdict::Accepted => after_settings(words, settings),
+    match pair_at(
+        words,
+        0,
+        limits::SETTINGS_COUNT,
+        limits::SETTINGS_COUNT,
+        1,
+        limits::MOST_WEIGHT,
+    ) {
+        Pair::Refused(why) => return no_instance(why),
+        Pair::Taken(_, energy, middle) => {
+            match pair_at(words, middle, 1, limits::MOST_WEIGHT, 1, limits::MOST_CORES) {
+                Pair::Refused(why) => return no_instance(why),
+                Pair::Taken(penalty, cores, next) => return after_settings(
+                    words,
+                    next,
+                    Weights { energy, penalty },
+                    cores,
+                ),
+            }
+        }
     }
 }

@@ -28,8 +28,14 @@ loop-holds : tie.Need-loop-holds Inv-loop μ-loop
 loop-holds c =
     (omega arith, (omega arith, omega arith), rw sub-zero (levels-start _ _ _ (c .before .pre)))
 
-level-at-requires : tie.Need-level-at-requires Inv-loop μ-loop
-level-at-requires c κs = c .before .loop .inv .1
+add-pair-at : tie.Need-add-pair-at Inv-loop μ-loop
+add-pair-at c = search needs
+
+add-pair-at-2 : tie.Need-add-pair-at-2 Inv-loop μ-loop
+add-pair-at-2 c = search needs
+
+pair-at-requires : tie.Need-pair-at-requires Inv-loop μ-loop
+pair-at-requires c κs = search needs
 
 enum-known-why : tie.Need-enum-known-why Inv-loop μ-loop
 enum-known-why c = search needs
@@ -41,15 +47,15 @@ returns : tie.Need-returns Inv-loop μ-loop
 unfolding levelsRead
 returns c =
     let called = c .before .before .before .before in
-    let loop = called .before .before .loop in
+    let loop = called .before .before .before .before .loop in
     c .no-levels .ensures
     ∙ sym
-    (repeated-refused levels-repeat noLevels levelsWith level-put _ _ (called .before .loop-test .taken) _ _ _ _
-    (level-refused _ _ _ (called .level-at .ensures) (c .before .before .why .given .1)))
+    (repeated-refused levels-repeat noLevels levelsWith level-put _ _ (called .before .before .before .loop-test .taken) _ _ _ _
+    (level-refused _ _ _ (called .pair-at .ensures) (c .before .before .why .given .1)))
     ∙ loop .inv .2
 
-enum-known-level : tie.Need-enum-known-level Inv-loop μ-loop
-enum-known-level c = search needs
+enum-known-speed : tie.Need-enum-known-speed Inv-loop μ-loop
+enum-known-speed c = search needs
 
 mul-levels : tie.Need-mul-levels Inv-loop μ-loop
 mul-levels c = omega arith
@@ -66,11 +72,11 @@ loop-less c = search needs
 loop-again : tie.Need-loop-again Inv-loop μ-loop
 loop-again c =
     let called = c .before .before .before in
-    let loop = called .before .before .loop in
-    let is = level-taken _ _ _ (called .level-at .ensures) (c .before .level .given .1) in (
+    let loop = called .before .before .before .before .loop in
+    let is = level-taken _ _ _ (called .pair-at .ensures) (c .before .speed .given .1) in (
       omega arith,
       holds-of-taken (λ l next left. WithinLimits l) (one-level-within-limits _ _ _) is,
-      sym (repeated-taken levels-repeat noLevels levelsWith level-put _ _ (called .before .loop-test .taken) _ _ _ _ is)
+      sym (repeated-taken levels-repeat noLevels levelsWith level-put _ _ (called .before .before .before .loop-test .taken) _ _ _ _ is)
           ∙ loop .inv .2,
     )
 
@@ -87,11 +93,13 @@ levels-from-spec =
     Inv-loop
     μ-loop
     loop-holds
-    level-at-requires
+    add-pair-at
+    add-pair-at-2
+    pair-at-requires
     enum-known-why
     no-levels-requires
     returns
-    enum-known-level
+    enum-known-speed
     mul-levels
     array-set-from-levels
     add-i

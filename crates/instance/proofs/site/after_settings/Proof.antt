@@ -77,7 +77,7 @@ returns-4 c =
     let levels = levels-taken _ _ _ (leveled .levels-at .ensures) (tasked .before .enum-told .given .1) in
     let tasks = tasks-taken _ _ _ (tasked .tasks-at .ensures) (ended .enum-told2 .given .1) in
     rw (levels .is, tasks .is, end-of-all _ _ (c .before .if1 .left))
-    (c .whole-instance .ensures ∙ ap₂ (wholeInstance (leveled .before .before .args .settings)) (levels .answers) (tasks .answers))
+    (c .whole-instance .ensures ∙ ap₂ (wholeInstance (leveled .before .before .args .weights) (leveled .before .before .args .cores)) (levels .answers) (tasks .answers))
 
 pub after-settings-spec : {M : Type 1} → statement M
 after-settings-spec =
