@@ -221,13 +221,15 @@ fn check_read(inst: Instance, plan: &[u32], table: &[u8]) -> Verdict
     requires { ⌜ Sound inst ⌝ }
     ensures { λ r. ⌜ r ≡ check (problemIn inst) (now (plan .entry)) (now (table .entry)) ⌝ }
 {
-    match choices_pass(inst, plan) {
-        Verdict::Refused(r) => Verdict::Refused(r),
-        Verdict::Accepted => match slots_pass(inst, plan, table) {
-            Verdict::Refused(r) => Verdict::Refused(r),
-            Verdict::Accepted => jobs_pass(inst, plan, table),
-        },
+    let choices = choices_pass(inst, plan);
+    let Verdict::Accepted = choices else {
+        return choices;
+    };
+    let slots = slots_pass(inst, plan, table);
+    if let Verdict::Accepted = slots {
+        return jobs_pass(inst, plan, table);
     }
+    slots
 }
 
 // Whether a table is one of the plan's for the instance: every kept job has its ticks between release and due tick, and
@@ -236,10 +238,9 @@ pub fn check_table(instance: &[u32], plan: &[u32], table: &[u8]) -> Verdict
     ensures { λ r. ⌜ r ≡ checkOutcome (now (instance .entry)) (now (plan .entry)) (now (table .entry)) ⌝ }
 {
     let read = read_instance(instance);
-    let inst = read.instance;
     let verdict = read.verdict;
-    match verdict {
-        Verdict::Refused(r) => Verdict::Refused(r),
-        Verdict::Accepted => check_read(inst, plan, table),
+    if let Verdict::Accepted = verdict {
+        return check_read(read.instance, plan, table);
     }
+    verdict
 }

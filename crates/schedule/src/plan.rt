@@ -127,8 +127,9 @@ pub(crate) fn plan_passes(inst: Instance, plan: &[u32]) -> Verdict
     requires { ⌜ Sound inst ⌝ }
     ensures { λ r. ⌜ r ≡ planPasses (problemIn inst) (now (plan .entry)) ⌝ }
 {
-    match choices_pass(inst, plan) {
-        Verdict::Accepted => cores_fit(inst, plan),
-        Verdict::Refused(r) => Verdict::Refused(r),
+    let verdict = choices_pass(inst, plan);
+    if let Verdict::Accepted = verdict {
+        return cores_fit(inst, plan);
     }
+    verdict
 }

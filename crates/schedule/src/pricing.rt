@@ -16,9 +16,9 @@ pub fn price(instance: &[u32], plan: &[u32]) -> Priced
     if let Verdict::Refused(r) = verdict {
         return Priced::Refused(r);
     }
-    let inst = read.instance;
-    match plan_passes(inst, plan) {
-        Verdict::Accepted => Priced::Cost(price_of(inst, plan)),
-        Verdict::Refused(r) => Priced::Refused(r),
+    let plan_verdict = plan_passes(read.instance, plan);
+    if let Verdict::Refused(r) = plan_verdict {
+        return Priced::Refused(r);
     }
+    Priced::Cost(price_of(read.instance, plan))
 }

@@ -102,13 +102,11 @@ fn tabulate_read(inst: Instance, plan: &[u32], table: &mut [u8]) -> Verdict
     if table.len() < size {
         return Verdict::Refused(Refusal::ShortBuffer(size));
     }
-    match plan_passes(inst, plan) {
-        Verdict::Refused(r) => Verdict::Refused(r),
-        Verdict::Accepted => {
-            fill_table(inst, plan, table);
-            Verdict::Accepted
-        }
+    let verdict = plan_passes(inst, plan);
+    if let Verdict::Accepted = verdict {
+        fill_table(inst, plan, table);
     }
+    verdict
 }
 
 // Writes the table of a plan, one byte a slot.
@@ -117,10 +115,9 @@ pub fn tabulate(instance: &[u32], plan: &[u32], table: &mut [u8]) -> Verdict
     ensures { λ _. ⌜ now (table .exit) ≡ tableOutcome (now (instance .entry)) (now (plan .entry)) (now (table .entry)) .table ⌝ }
 {
     let read = read_instance(instance);
-    let inst = read.instance;
     let verdict = read.verdict;
-    match verdict {
-        Verdict::Refused(r) => Verdict::Refused(r),
-        Verdict::Accepted => tabulate_read(inst, plan, table),
+    if let Verdict::Accepted = verdict {
+        return tabulate_read(read.instance, plan, table);
     }
+    verdict
 }

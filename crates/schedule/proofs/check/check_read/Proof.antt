@@ -9,55 +9,55 @@ use Rattle.schedule.proofs.check.check_read.Tie as tie
 choices-pass-requires : tie.Need-choices-pass-requires
 choices-pass-requires c κs = search needs
 
-enum-known-r : tie.Need-enum-known-r
-enum-known-r c = search needs
-
 enum-told : tie.Need-enum-told
 enum-told c = search needs
+
+enum-told-2 : tie.Need-enum-told-2
+enum-told-2 c = search needs
+
+returns : tie.Need-returns
+unfolding check
+returns c = rw (← c .before .before .choices-pass .ensures, c .enum-told2 .given .1) refl
 
 slots-pass-requires : tie.Need-slots-pass-requires
 slots-pass-requires c κs = search needs
 
-enum-known-r-2 : tie.Need-enum-known-r-2
-enum-known-r-2 c = search needs
-
-enum-told-2 : tie.Need-enum-told-2
-enum-told-2 c = search needs
+enum-told-3 : tie.Need-enum-told-3
+enum-told-3 c = search needs
 
 jobs-pass-requires : tie.Need-jobs-pass-requires
 jobs-pass-requires c κs = let s = c .before .before .before .before .before .before .before .before .pre in (
   s,
   (
     choices-pass _ _ .0 (sym (c .before .before .before .before .before .choices-pass .ensures) ∙ c .before .before .before .enum-told .given .1),
-    slots-pass _ (valid-is-periodic (s .valid)) _ _ .0 (sym (c .before .before .slots-pass .ensures) ∙ c .enum-told2 .given .1) .table-size,
+    slots-pass _ (valid-is-periodic (s .valid)) _ _ .0 (sym (c .before .before .slots-pass .ensures) ∙ c .enum-told3 .given .1) .table-size,
   ),
 )
-
-returns : tie.Need-returns
-unfolding check
-returns c = rw (← c .before .before .before .choices-pass .ensures, c .before .r .given .1) refl
 
 returns-2 : tie.Need-returns-2
 unfolding check
 returns-2 c = rw (← c .before .before .before .before .before .before .choices-pass .ensures, c .before .before .before .before .enum-told .given .1)
-    (rw (← c .before .before .before .slots-pass .ensures, c .before .r2 .given .1) refl)
+    (rw (← c .before .before .before .slots-pass .ensures, c .before .enum-told3 .given .1) (c .jobs-pass .ensures))
+
+enum-told-4 : tie.Need-enum-told-4
+enum-told-4 c = search needs
 
 returns-3 : tie.Need-returns-3
 unfolding check
-returns-3 c = rw (← c .before .before .before .before .before .before .choices-pass .ensures, c .before .before .before .before .enum-told .given .1)
-    (rw (← c .before .before .before .slots-pass .ensures, c .before .enum-told2 .given .1) (c .jobs-pass .ensures))
+returns-3 c = rw (← c .before .before .before .before .before .choices-pass .ensures, c .before .before .before .enum-told .given .1)
+    (rw (← c .before .before .slots-pass .ensures, c .enum-told4 .given .1) refl)
 
 pub check-read-spec : {M : Type 1} → statement M
 check-read-spec =
     tie.close
     (tie.spec
     choices-pass-requires
-    enum-known-r
     enum-told
-    slots-pass-requires
-    enum-known-r-2
     enum-told-2
-    jobs-pass-requires
     returns
+    slots-pass-requires
+    enum-told-3
+    jobs-pass-requires
     returns-2
+    enum-told-4
     returns-3)

@@ -15,18 +15,18 @@ cores-fit-requires : tie.Need-cores-fit-requires
 cores-fit-requires c κs = let accepted = sym (c .before .before .choices-pass .ensures) ∙ c .enum-told .given .1 in
     (c .before .before .before .before .pre, choices-pass _ _ .0 accepted .one-choice-per-task)
 
-enum-known-r : tie.Need-enum-known-r
-enum-known-r c = search needs
-
 returns : tie.Need-returns
 unfolding planPasses
 returns c = rw (← c .before .before .before .choices-pass .ensures, c .before .enum-told .given .1) (c .cores-fit .ensures)
 
+enum-told-2 : tie.Need-enum-told-2
+enum-told-2 c = search needs
+
 returns-2 : tie.Need-returns-2
 unfolding planPasses
-returns-2 c = rw (← c .before .before .before .choices-pass .ensures, c .before .r .given .1) refl
+returns-2 c = rw (← c .before .before .choices-pass .ensures, c .enum-told2 .given .1) refl
 
 pub plan-passes-spec : {M : Type 1} → statement M
 plan-passes-spec =
     tie.close
-    (tie.spec choices-pass-requires enum-told cores-fit-requires enum-known-r returns returns-2)
+    (tie.spec choices-pass-requires enum-told cores-fit-requires returns enum-told-2 returns-2)

@@ -6,9 +6,9 @@ use borrow.Author.Needs.{needs}
 use Rattle.schedule.proofs.pricing.price.Statement.{statement}
 use Rattle.schedule.proofs.pricing.price.Tie as tie
 
-holds-problem : (c : tie.After-inst) →
-    HoldsProblemOf (c .before .before .before .before .before .before .args .instance .now) (c .before .before .before .read-instance .result .instance)
-holds-problem c = accepted-read-holds-problem _ _ (c .before .before .before .read-instance .ensures) (c .before .enum-told .given .1)
+holds-problem : (c : tie.After-enum-told) →
+    HoldsProblemOf (c .before .before .before .before .before .args .instance .now) (c .before .before .read-instance .result .instance)
+holds-problem c = accepted-read-holds-problem _ _ (c .before .before .read-instance .ensures) (c .enum-told .given .1)
 
 read-instance-requires : tie.Need-read-instance-requires
 read-instance-requires c κs = search needs
@@ -27,6 +27,15 @@ enum-told c = search needs
 plan-passes-requires : tie.Need-plan-passes-requires
 plan-passes-requires c κs = holds-problem c .sound
 
+enum-known-plan-verdict : tie.Need-enum-known-plan-verdict
+enum-known-plan-verdict c = search needs
+
+returns-2 : tie.Need-returns-2
+unfolding priceOutcome
+returns-2 c = let called = c .before .before .before in
+    let refuses = sym (called .plan-passes .ensures) ∙ c .before .plan-verdict .given .1 in
+    rw (holds-problem (called .before) .problem, refuses) refl
+
 enum-told-2 : tie.Need-enum-told-2
 enum-told-2 c = search needs
 
@@ -34,20 +43,11 @@ price-of-requires : tie.Need-price-of-requires
 price-of-requires c κs = let called = c .before .before in
     (holds-problem (called .before) .sound, sym (called .plan-passes .ensures) ∙ c .enum-told2 .given .1)
 
-enum-known-r : tie.Need-enum-known-r
-enum-known-r c = search needs
-
-returns-2 : tie.Need-returns-2
-unfolding priceOutcome
-returns-2 c = let called = c .before .before .before in
-    let passes = sym (called .plan-passes .ensures) ∙ c .before .enum-told2 .given .1 in
-    rw (holds-problem (called .before) .problem, passes) (ap Cost (c .price-of .ensures))
-
 returns-3 : tie.Need-returns-3
 unfolding priceOutcome
 returns-3 c = let called = c .before .before .before in
-    let refuses = sym (called .plan-passes .ensures) ∙ c .before .r .given .1 in
-    rw (holds-problem (called .before) .problem, refuses) refl
+    let passes = sym (called .plan-passes .ensures) ∙ c .before .enum-told2 .given .1 in
+    rw (holds-problem (called .before) .problem, passes) (ap Cost (c .price-of .ensures))
 
 pub price-spec : {M : Type 1} → statement M
 price-spec =
@@ -58,8 +58,8 @@ price-spec =
     returns
     enum-told
     plan-passes-requires
+    enum-known-plan-verdict
+    returns-2
     enum-told-2
     price-of-requires
-    enum-known-r
-    returns-2
     returns-3)

@@ -24,9 +24,6 @@ room-left c = omega (arith, c .before .table-size .ensures, c .if1 .left)
 plan-passes-requires : tie.Need-plan-passes-requires
 plan-passes-requires c κs = search needs
 
-enum-known-r : tie.Need-enum-known-r
-enum-known-r c = search needs
-
 enum-told : tie.Need-enum-told
 enum-told c = search needs
 
@@ -35,18 +32,22 @@ fill-table-requires c κs = let passes = sym (c .before .before .before .plan-pa
     let plan-length = passing-plan _ _ passes .allowed .one-choice-per-task in
     (c .before .before .before .before .before .before .before .before .pre, (plan-length, room-left (c .before .before .before .before)))
 
-returns-2 : tie.Need-returns-2
-returns-2 c = let refused = sym (c .before .before .before .plan-passes .ensures) ∙ c .before .r .given .1 in
-    let given = plan-is-refused _ _ _ (room-left (c .before .before .before .before)) refused in
-    (given .same-answer, given .same-table)
+enum-told-2 : tie.Need-enum-told-2
+enum-told-2 c = search needs
 
 same-length : tie.Need-same-length
 same-length c = search needs
 
-returns-3 : tie.Need-returns-3
-returns-3 c = let passes = sym (c .before .before .before .before .before .before .plan-passes .ensures) ∙ c .before .before .before .before .enum-told .given .1 in
+returns-2 : tie.Need-returns-2
+returns-2 c = let accepted = c .before .before .before .before .enum-told .given .1 in
+    let passes = sym (c .before .before .before .before .before .before .plan-passes .ensures) ∙ accepted in
     let given = table-is-written _ _ _ (room-left (c .before .before .before .before .before .before .before)) passes in
-    (given .same-answer, c .before .before .fill-table .ensures ∙ given .same-table)
+    (accepted ∙ given .same-answer, c .before .before .fill-table .ensures ∙ given .same-table)
+
+returns-3 : tie.Need-returns-3
+returns-3 c = let refused = c .enum-told2 .given .1 in
+    let given = plan-is-refused _ _ _ (room-left (c .before .before .before)) (sym (c .before .before .plan-passes .ensures) ∙ refused) in
+    (refused ∙ given .same-answer, given .same-table)
 
 pub tabulate-read-spec : {M : Type 1} → statement M
 tabulate-read-spec =
@@ -55,9 +56,9 @@ tabulate-read-spec =
     table-size-requires
     returns
     plan-passes-requires
-    enum-known-r
     enum-told
     fill-table-requires
-    returns-2
+    enum-told-2
     same-length
+    returns-2
     returns-3)
