@@ -9,11 +9,10 @@ use lib.ListN.{length, getD, take, drop}
 use Rattle.laws.specs.PartLaws.{length-part, getD-part}
 use Rattle.laws.specs.Search.{count}
 use Rattle.laws.specs.SearchFacts.{count-same}
-use Rattle.instance.specs.Held.{problemIn, Sound, held-levelcount, held-task}
-use Rattle.instance.specs.Node.{Problem, levelCount, taskCount, taskAt, noTask, span}
+use Rattle.instance.specs.Held.{problemIn, Sound, held-levelcount}
+use Rattle.instance.specs.Node.{Problem, levelCount, taskCount, taskAt, span}
 use Rattle.instance.specs.Valid.{Valid}
 use Rattle.instance.specs.declared.Instance.{Instance}
-use Rattle.instance.specs.declared.Task.{Task}
 use Rattle.schedule.specs.Checks.{jobSlots}
 use Rattle.schedule.specs.Drawings.{AllowedPlan}
 use Rattle.schedule.specs.HeldSlots.{row-within-table}
@@ -35,9 +34,6 @@ window-within-span p i j l =
 module _ (inst : Instance) (s : Sound inst) where
   pub held-core-of : (plan : List ℕ) (i k : ℕ) → k ≡ pred (choiceAt plan i) / inst .levelcount → k ≡ coreOf (problemIn inst) plan i
   held-core-of plan i k e = e ∙ ap (λ (h : ℕ). pred (choiceAt plan i) / h) (held-levelcount inst s)
-
-  pub held-period : (i : ℕ) → i < taskCount (problemIn inst) → getD (inst .tasks) i noTask .period ≡ taskAt (problemIn inst) i .period
-  held-period i h = ap (λ (t : Task). t .period) (held-task inst s i h)
 
 -- job j's part of a table of n slots: d slots from its release tick on, in core k's row of w slots
 pub window-within-table : (p : Problem) (i j k w d n : ℕ) → w ≡ span p → d ≡ taskAt p i .period → tableSize p ≤ n → k < p .cores → j < jobs p i →

@@ -1,15 +1,14 @@
 -- Which plans may be given, from the fields of the struct that holds the problem, test by test as the code makes them.
-use Prim.Native.Nat.{ℕ, _*_, _<_, _≤_}
+use Prim.Native.Nat.{ℕ, _*_, _≤_}
 use mathlib.Core.Bool.{Bool, true, false, not, _||_}
 use mathlib.Core.List.{List}
 use mathlib.Core.Path.{_≡_, refl, ap, ap₂, _∙_}
 use native.Mathlib.Omega.{arith}
 use lib.Dec.{leb, ltb, eqb}
-use lib.ListN.{getD}
 use borrow.Author.Tests.{lt-ltb, le-ltb, leb-true, leb-false, eq-eqb, ne-eqb}
-use Rattle.instance.specs.Held.{problemIn, Sound, held-task, held-levelcount, held-span}
+use Rattle.instance.specs.Held.{problemIn, Sound, held-levelcount, held-span}
 use Rattle.instance.specs.Limits.{mostCores, mayNotBeRefused}
-use Rattle.instance.specs.Node.{taskCount, noTask, span}
+use Rattle.instance.specs.Node.{taskAt, span}
 use Rattle.instance.specs.declared.Instance.{Instance}
 use Rattle.instance.specs.declared.Task.{Task}
 use Rattle.schedule.specs.Plans.{isMust, mostChoice, badChoice, fits}
@@ -34,21 +33,21 @@ module _ (inst : Instance) (s : Sound inst) where
   pub cores-at-most : inst .cores ≤ mostCores
   cores-at-most = omega (arith, held-cores, s .valid .cores .at-most)
 
-  pub held-most-choice : inst .cores * inst .levelcount ≡ mostChoice (problemIn inst)
+  held-most-choice : inst .cores * inst .levelcount ≡ mostChoice (problemIn inst)
   held-most-choice = ap₂ (λ (m h : ℕ). m * h) held-cores (held-levelcount inst s)
 
-  pub refused-is-bad-if-must : (plan : List ℕ) (i : ℕ) → i < taskCount (problemIn inst) → choiceAt plan i ≡ 0 →
-      eqb (getD (inst .tasks) i noTask .penalty) mayNotBeRefused ≡ badChoice (problemIn inst) plan i
+  pub refused-is-bad-if-must : (plan : List ℕ) (i : ℕ) (task : Task) → choiceAt plan i ≡ 0 → task ≡ taskAt (problemIn inst) i →
+      eqb (task .penalty) mayNotBeRefused ≡ badChoice (problemIn inst) plan i
   unfolding badChoice isMust
-  refused-is-bad-if-must plan i h none =
+  refused-is-bad-if-must plan i task none same =
       rw (le-ltb (mostChoice (problemIn inst)) (choiceAt plan i) (omega arith), eq-eqb (choiceAt plan i) 0 none)
-      (ap (λ (t : Task). eqb (t .penalty) mayNotBeRefused) (held-task inst s i h))
+      (ap (λ (t : Task). eqb (t .penalty) mayNotBeRefused) same)
 
   pub kept-is-bad-above-most : (plan : List ℕ) (i : ℕ) → (choiceAt plan i ≡ 0 → ⊥) →
-      ltb (mostChoice (problemIn inst)) (choiceAt plan i) ≡ badChoice (problemIn inst) plan i
+      ltb (inst .cores * inst .levelcount) (choiceAt plan i) ≡ badChoice (problemIn inst) plan i
   unfolding badChoice
   kept-is-bad-above-most plan i kept =
-      rw (ne-eqb (choiceAt plan i) 0 kept) (or-nothing (ltb (mostChoice (problemIn inst)) (choiceAt plan i)))
+      rw (ne-eqb (choiceAt plan i) 0 kept, held-most-choice) (or-nothing (ltb (mostChoice (problemIn inst)) (choiceAt plan i)))
 
   pub load-above-span-does-not-fit : (plan : List ℕ) (k load : ℕ) → load ≡ coreLoad (problemIn inst) plan k →
       ltb (inst .span) load ≡ not (fits (problemIn inst) plan k)

@@ -1,30 +1,25 @@
 -- The price of a plan, from the fields of the struct that holds the problem.
-use Prim.Native.Nat.{ℕ, _+_, _*_, _/_, _<_, _≤_}
+use Prim.Native.Nat.{ℕ, _+_, _*_, _/_, _≤_}
 use mathlib.Core.List.{List}
 use mathlib.Core.Path.{_≡_, refl, ap, ap₂, _∙_}
-use lib.ListN.{getD}
 use borrow.Author.Tests.{eq-eqb}
 use native.Mathlib.Nat.{mul-le-mul}
-use Rattle.instance.specs.Held.{problemIn, Sound, held-task}
-use Rattle.instance.specs.Limits.{mostCores, mostPower, mostSpan, mostTasks, mostWeight, mayNotBeRefused}
-use Rattle.instance.specs.Node.{taskCount, noTask}
+use Rattle.instance.specs.Held.{problemIn, Sound}
+use Rattle.instance.specs.Limits.{mostCores, mostPower, mostSpan, mostTasks, mostWeight}
+use Rattle.instance.specs.Node.{taskAt}
 use Rattle.instance.specs.declared.Instance.{Instance}
 use Rattle.instance.specs.declared.Task.{Task}
 use Rattle.schedule.specs.HeldQuantities.{held-jobs}
 use Rattle.schedule.specs.PlanLaws.{PassingPlan}
-use Rattle.schedule.specs.PriceBounds.{penaltyOf, mostPenaltyOf, job-penalty-at-most, penalty-at-most, passing-energy-at-most}
+use Rattle.schedule.specs.PriceBounds.{penaltyOf, mostPenaltyOf, penalty-at-most, passing-energy-at-most}
 use Rattle.schedule.specs.Quantities.{choiceAt, energy, penalty, cost, priceOf}
 use Rattle.schedule.specs.declared.prices.Price.{Price}
 
-module _ (inst : Instance) (s : Sound inst) (i : ℕ) (h : i < taskCount (problemIn inst)) where
-  pub held-penalty-at-most : getD (inst .tasks) i noTask .penalty ≤ mayNotBeRefused
-  held-penalty-at-most = rw (held-task inst s i h) (job-penalty-at-most (problemIn inst) (s .valid) i h)
-
-  pub held-penalty-of : (plan : List ℕ) (jobs : ℕ) → choiceAt plan i ≡ 0 → jobs ≡ inst .span / getD (inst .tasks) i noTask .period →
-      jobs * getD (inst .tasks) i noTask .penalty ≡ penaltyOf (problemIn inst) plan i
-  held-penalty-of plan jobs none e =
-      rw (eq-eqb (choiceAt plan i) 0 none)
-      (ap₂ _*_ (e ∙ held-jobs inst s i h) (ap (λ (t : Task). t .penalty) (held-task inst s i h)))
+module _ (inst : Instance) (s : Sound inst) where
+  pub held-penalty-of : (i : ℕ) (plan : List ℕ) (task : Task) (jobs : ℕ) → choiceAt plan i ≡ 0 → task ≡ taskAt (problemIn inst) i →
+      jobs ≡ inst .span / task .period → jobs * task .penalty ≡ penaltyOf (problemIn inst) plan i
+  held-penalty-of i plan task jobs none same e =
+      rw (eq-eqb (choiceAt plan i) 0 none) (ap₂ _*_ (e ∙ held-jobs inst s i task same) (ap (λ (t : Task). t .penalty) same))
 
 module _ (inst : Instance) (s : Sound inst) (plan : List ℕ) where
   pub weighted-energy-at-most : (all : ℕ) → PassingPlan (problemIn inst) plan → all ≡ energy (problemIn inst) plan →

@@ -5,6 +5,7 @@ use crate::quantities::core_of;
 use crate::quantities::is_kept_on;
 use crate::quantities::job_ticks;
 use crate::quantities::jobs_of;
+use crate::quantities::task_of;
 use crate::table::table_size;
 use instance::Instance;
 use instance::Refusal;
@@ -133,8 +134,9 @@ fn release_slot(inst: Instance, plan: &[u32], i: usize, j: usize) -> usize
     requires { ⌜ j < jobs (problemIn inst) i ⌝ }
     ensures { λ r. ⌜ r ≡ coreOf (problemIn inst) (now (plan .entry)) i * span (problemIn inst) + releaseOf (problemIn inst) i j ⌝ }
 {
+    let task = task_of(inst, i);
     let k = core_of(plan[i], inst.levelcount);
-    k * inst.span as usize + j * inst.tasks[i].period as usize
+    k * inst.span as usize + j * task.period as usize
 }
 
 // The slots that job j of task i has between its release and its due tick.
@@ -147,7 +149,8 @@ fn job_slots(inst: Instance, plan: &[u32], table: &[u8], i: usize, j: usize) -> 
     ensures { λ r. ⌜ r ≡ jobSlots (problemIn inst) (now (plan .entry)) (now (table .entry)) i j ⌝ }
 {
     let release = release_slot(inst, plan, i, j);
-    let due = release + inst.tasks[i].period as usize;
+    let task = task_of(inst, i);
+    let due = release + task.period as usize;
     slots_of(&table[release..due], i as u8 + 1)
 }
 

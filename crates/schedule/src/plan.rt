@@ -1,5 +1,6 @@
 // Which plans may be given: the refusals 7 and 8.
 use crate::quantities::core_load;
+use crate::quantities::task_of;
 use instance::Instance;
 use instance::MAY_NOT_BE_REFUSED;
 use instance::Refusal;
@@ -7,21 +8,13 @@ use instance::Verdict;
 ghost use mathlib.Core.Path.{_≡_};
 ghost use mathlib.Core.Bool.{not};
 ghost use Prim.Native.Nat.{min, _<_};
-ghost use lib.Dec.{ltb};
 ghost use lib.ListN.{length};
 ghost use Rattle.instance.specs.Held.{Sound, problemIn};
 ghost use Rattle.instance.specs.Node.{taskCount};
-ghost use Rattle.schedule.specs.Plans.{mostChoice, badChoice, choicesPass, fits, coresFit, planPasses};
+ghost use Rattle.schedule.specs.Plans.{badChoice, choicesPass, fits, coresFit, planPasses};
 ghost use Rattle.laws.specs.Search.{first};
 
-// Whether a choice is above every choice that names a core and a level.
-fn is_above_most(inst: Instance, choice: u32) -> bool
-    requires { ⌜ Sound inst ⌝ }
-    ensures { λ r. ⌜ r ≡ ltb (mostChoice (problemIn inst)) choice ⌝ }
-{
-    inst.cores as usize * inst.levelcount < choice as usize
-}
-
+// Whether a choice is above every choice that names a core and a level, or refuses a task that may not be refused.
 fn is_bad_choice(inst: Instance, plan: &[u32], i: usize) -> bool
     requires { ⌜ Sound inst ⌝ }
     requires { ⌜ i < taskCount (problemIn inst) ⌝ }
@@ -30,9 +23,10 @@ fn is_bad_choice(inst: Instance, plan: &[u32], i: usize) -> bool
 {
     let choice = plan[i];
     if choice == 0 {
-        return inst.tasks[i].penalty == MAY_NOT_BE_REFUSED;
+        let task = task_of(inst, i);
+        return task.penalty == MAY_NOT_BE_REFUSED;
     }
-    is_above_most(inst, choice)
+    inst.cores * (inst.levelcount as u32) < choice
 }
 
 // The first task whose choice is bad, or the number of tasks.
@@ -84,16 +78,6 @@ pub(crate) fn choices_pass(inst: Instance, plan: &[u32]) -> Verdict
     Verdict::Refused(Refusal::GivenPlan(smaller(plan.len(), inst.taskcount)))
 }
 
-fn is_overloaded(inst: Instance, plan: &[u32], k: usize) -> bool
-    requires { ⌜ Sound inst ⌝ }
-    requires { ⌜ length (now plan) ≡ taskCount (problemIn inst) ⌝ }
-    ensures { λ r. ⌜ r ≡ not (fits (problemIn inst) (now (plan .entry)) k) ⌝ }
-{
-    let load = core_load(inst, plan, k);
-    let span = inst.span as u64;
-    span < load
-}
-
 // The first core that does not fit, or the number of cores.
 fn first_overloaded(inst: Instance, plan: &[u32]) -> usize
     requires { ⌜ Sound inst ⌝ }
@@ -103,7 +87,8 @@ fn first_overloaded(inst: Instance, plan: &[u32]) -> usize
     let cores = inst.cores as usize;
     let mut k = 0;
     while k < cores {
-        if is_overloaded(inst, plan, k) {
+        let load = core_load(inst, plan, k);
+        if (inst.span as u64) < load {
             return k;
         }
         k += 1;

@@ -1,18 +1,19 @@
 // Energy, penalty and cost of a plan, added up core by core and task by task.
+use crate::quantities::chosen_level;
 use crate::quantities::jobs_in;
-use crate::quantities::level_of;
 use crate::quantities::load_on;
+use crate::quantities::task_of;
 use instance::Instance;
 use instance::Refusal;
 ghost use mathlib.Core.Path.{_≡_};
 ghost use Prim.Native.Nat.{_<_};
 ghost use lib.ListN.{length};
 ghost use Rattle.instance.specs.Held.{Sound, problemIn};
-ghost use Rattle.instance.specs.Node.{levelAt, taskCount};
+ghost use Rattle.instance.specs.Node.{taskCount};
 ghost use Rattle.instance.specs.declared.Verdict.the-variants.{Accepted};
 ghost use Rattle.schedule.specs.Plans.{planPasses};
 ghost use Rattle.schedule.specs.PriceBounds.{energyOn, penaltyOf};
-ghost use Rattle.schedule.specs.Quantities.{levelOf, coreEnergy, energy, penalty, priceOf};
+ghost use Rattle.schedule.specs.Quantities.{coreEnergy, energy, penalty, priceOf};
 
 // What a plan comes to over one span.
 pub struct Price {
@@ -26,16 +27,6 @@ pub enum Priced {
     Refused(Refusal),
 }
 
-// The power of the level that task i's choice names.
-fn power_of(inst: Instance, plan: &[u32], i: usize) -> u32
-    requires { ⌜ Sound inst ⌝ }
-    requires { ⌜ i < length (now plan) ⌝ }
-    ensures { λ r. ⌜ r ≡ levelAt (problemIn inst) (levelOf (problemIn inst) (now (plan .entry)) i) .power ⌝ }
-{
-    let l = level_of(plan[i], inst.levelcount);
-    inst.levels[l].power
-}
-
 // The energy of task i on core k: none where it is not kept there.
 fn energy_on(inst: Instance, plan: &[u32], k: usize, i: usize) -> u64
     requires { ⌜ Sound inst ⌝ }
@@ -43,7 +34,8 @@ fn energy_on(inst: Instance, plan: &[u32], k: usize, i: usize) -> u64
     requires { ⌜ i < length (now plan) ⌝ }
     ensures { λ r. ⌜ r ≡ energyOn (problemIn inst) (now (plan .entry)) k i ⌝ }
 {
-    load_on(inst, plan, k, i) * power_of(inst, plan, i) as u64
+    let level = chosen_level(inst, plan[i]);
+    load_on(inst, plan, k, i) * level.power as u64
 }
 
 fn core_energy(inst: Instance, plan: &[u32], k: usize) -> u64
@@ -83,8 +75,8 @@ fn penalty_of(inst: Instance, plan: &[u32], i: usize) -> u64
     ensures { λ r. ⌜ r ≡ penaltyOf (problemIn inst) (now (plan .entry)) i ⌝ }
 {
     if plan[i] == 0 {
-        let jobs = jobs_in(inst.span, inst.tasks[i].period);
-        return jobs as u64 * inst.tasks[i].penalty as u64;
+        let task = task_of(inst, i);
+        return jobs_in(inst.span, task.period) as u64 * task.penalty as u64;
     }
     0
 }

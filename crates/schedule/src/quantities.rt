@@ -1,10 +1,12 @@
 // Ticks, jobs and load of the tasks of a plan.
 use instance::Instance;
+use instance::Level;
+use instance::Task;
 ghost use mathlib.Core.Path.{_≡_};
 ghost use Prim.Native.Nat.{pred, _/_, _%_, _<_};
 ghost use lib.ListN.{length};
 ghost use Rattle.instance.specs.Held.{Sound, problemIn};
-ghost use Rattle.instance.specs.Node.{taskCount};
+ghost use Rattle.instance.specs.Node.{taskCount, levelCount, levelAt, taskAt};
 ghost use Rattle.schedule.specs.Quantities.{ticks, jobs, keeps, jobTicks, ticksOn, loadOn, coreLoad};
 
 // The ticks of a job: cycles divided by speed, rounded up; 0 at no speed.
@@ -29,7 +31,7 @@ pub fn jobs_in(span: u32, period: u32) -> u32
 }
 
 // The level that a choice names, counted from 0.
-pub(crate) fn level_of(choice: u32, levels: usize) -> usize
+fn level_of(choice: u32, levels: usize) -> usize
     requires { ⌜ 0 < levels ⌝ }
     ensures { λ r. ⌜ r ≡ pred choice % levels ⌝ }
     ensures { λ r. ⌜ r < levels ⌝ }
@@ -51,13 +53,32 @@ pub(crate) fn core_of(choice: u32, levels: usize) -> usize
     (choice - 1) as usize / levels
 }
 
+// Task i, counted from 0.
+pub(crate) fn task_of(inst: Instance, i: usize) -> Task
+    requires { ⌜ Sound inst ⌝ }
+    requires { ⌜ i < taskCount (problemIn inst) ⌝ }
+    ensures { λ r. ⌜ r ≡ taskAt (problemIn inst) i ⌝ }
+{
+    inst.tasks[i]
+}
+
+// What a choice's level is: its speed and power.
+pub(crate) fn chosen_level(inst: Instance, choice: u32) -> Level
+    requires { ⌜ Sound inst ⌝ }
+    ensures { λ r. ⌜ r ≡ levelAt (problemIn inst) (pred choice % levelCount (problemIn inst)) ⌝ }
+{
+    let l = level_of(choice, inst.levelcount);
+    inst.levels[l]
+}
+
 // The jobs of task i in a span.
 pub(crate) fn jobs_of(inst: Instance, i: usize) -> u32
     requires { ⌜ Sound inst ⌝ }
     requires { ⌜ i < taskCount (problemIn inst) ⌝ }
     ensures { λ r. ⌜ r ≡ jobs (problemIn inst) i ⌝ }
 {
-    jobs_in(inst.span, inst.tasks[i].period)
+    let task = task_of(inst, i);
+    jobs_in(inst.span, task.period)
 }
 
 // The ticks of a job of task i at the level that its choice names.
@@ -67,8 +88,9 @@ pub(crate) fn job_ticks(inst: Instance, plan: &[u32], i: usize) -> u32
     requires { ⌜ i < length (now plan) ⌝ }
     ensures { λ r. ⌜ r ≡ jobTicks (problemIn inst) (now (plan .entry)) i ⌝ }
 {
-    let l = level_of(plan[i], inst.levelcount);
-    ticks_of(inst.tasks[i].cycles, inst.levels[l].speed)
+    let task = task_of(inst, i);
+    let level = chosen_level(inst, plan[i]);
+    ticks_of(task.cycles, level.speed)
 }
 
 // Whether the plan keeps task i on core k, counted from 0.

@@ -1,5 +1,6 @@
 // The slot table of a plan.
 use crate::plan::plan_passes;
+use crate::quantities::task_of;
 use crate::quantities::ticks_on;
 use dispatch::Core;
 use dispatch::fill_row;
@@ -28,7 +29,8 @@ fn periods_of(inst: Instance) -> [u32; 12]
     let mut periods = [0; 12];
     let mut i = 0;
     while i < inst.taskcount {
-        periods[i] = inst.tasks[i].period;
+        let task = task_of(inst, i);
+        periods[i] = task.period;
         i += 1;
     }
     periods

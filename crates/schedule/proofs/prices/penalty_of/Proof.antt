@@ -1,7 +1,7 @@
 use mathlib.Core.Path.{refl}
 use native.Mathlib.Omega.{arith}
 use borrow.Author.Tests.{ne-eqb}
-use Rattle.schedule.specs.HeldPrices.{held-penalty-at-most, held-penalty-of}
+use Rattle.schedule.specs.HeldPrices.{held-penalty-of}
 use Rattle.schedule.specs.PriceBounds.{penaltyOf-at-most}
 use borrow.Author.Needs.{needs}
 use Rattle.schedule.proofs.prices.penalty_of.Statement.{statement}
@@ -13,11 +13,8 @@ mul-if1 c = search needs
 shared-slice-read-if1 : tie.Need-shared-slice-read-if1
 shared-slice-read-if1 c = search needs
 
-mul-jobs-in : tie.Need-mul-jobs-in
-mul-jobs-in c = search needs
-
-element-copy-out-jobs-in : tie.Need-element-copy-out-jobs-in
-element-copy-out-jobs-in c = search needs
+task-of-requires : tie.Need-task-of-requires
+task-of-requires c κs = search needs
 
 jobs-in-requires : tie.Need-jobs-in-requires
 jobs-in-requires c κs = search needs
@@ -25,24 +22,17 @@ jobs-in-requires c κs = search needs
 cast-result : tie.Need-cast-result
 cast-result c = search needs
 
-mul-result : tie.Need-mul-result
-mul-result c = search needs
-
-element-copy-out-result : tie.Need-element-copy-out-result
-element-copy-out-result c = search needs
-
 cast-result-2 : tie.Need-cast-result-2
-cast-result-2 c = let start = c .before .before .before .before in
-    omega (arith, held-penalty-at-most _ (start .pre .0) _ (start .pre .1 .0))
+cast-result-2 c = search needs
 
-mul-result-2 : tie.Need-mul-result-2
-mul-result-2 c = let start = c .before .before .before .before in
-    let same = held-penalty-of _ (start .pre .0) _ (start .pre .1 .0) (start .args .plan .now) _ (c .before .if1 .taken) (c .jobs-in .ensures) in
+mul-result : tie.Need-mul-result
+mul-result c = let start = c .before .before .before .before .before .before in
+    let same = held-penalty-of _ (start .pre .0) _ (start .args .plan .now) _ _ (c .before .before .before .if1 .taken) (c .before .before .task-of .ensures) (c .before .jobs-in .ensures) in
     omega (arith, penaltyOf-at-most _ (start .pre .0 .valid) (start .args .plan .now) _ (start .pre .1 .0))
 
 returns : tie.Need-returns
-returns c = let start = c .before .before .before .before in
-    held-penalty-of _ (start .pre .0) _ (start .pre .1 .0) (start .args .plan .now) _ (c .before .if1 .taken) (c .jobs-in .ensures)
+returns c = let start = c .before .before .before .before .before .before in
+    held-penalty-of _ (start .pre .0) _ (start .args .plan .now) _ _ (c .before .before .before .if1 .taken) (c .before .before .task-of .ensures) (c .before .jobs-in .ensures)
 
 returns-2 : tie.Need-returns-2
 returns-2 c = rw (ne-eqb _ _ (c .if1 .left)) refl
@@ -53,13 +43,10 @@ penalty-of-spec =
     (tie.spec
     mul-if1
     shared-slice-read-if1
-    mul-jobs-in
-    element-copy-out-jobs-in
+    task-of-requires
     jobs-in-requires
     cast-result
-    mul-result
-    element-copy-out-result
     cast-result-2
-    mul-result-2
+    mul-result
     returns
     returns-2)
