@@ -1,6 +1,5 @@
 // Reads the examples, line by line. A line that begins with - is a heading, which is printed; one with t, b, r, w, v or c is
 // an example. Any other line says something to the reader.
-use crate::print::print;
 use crate::runs::show_runs;
 use crate::show;
 use crate::small;
@@ -8,31 +7,25 @@ use instance::TextRead;
 
 pub(crate) fn run(text: &[u8]) {
     let mut start = 0;
-    let mut i = 0;
-    while i < text.len() {
-        if text[i] == 10 {
-            run_line(text, start, i);
-            start = i + 1;
+    while start < text.len() {
+        let end = bytes::scan::find(text, start, text.len(), 10);
+        run_line(&text[start..end]);
+        if end == text.len() {
+            return;
         }
-        i += 1;
+        start = end + 1;
     }
 }
 
-fn run_line(text: &[u8], start: usize, end: usize) {
-    if end <= start {
+fn run_line(line: &[u8]) {
+    if line.len() == 0 {
         return;
     }
-    if text.len() < end {
+    if line[0] == 45 {
+        lines::print_line(line);
         return;
     }
-    let line = &text[start..end];
-    let kind = line[0];
-    if kind == 45 {
-        print(line);
-        print(b"\n");
-        return;
-    }
-    run_example(kind, &line[1..]);
+    run_example(line[0], &line[1..]);
 }
 
 fn run_example(kind: u8, given: &[u8]) {
@@ -45,16 +38,12 @@ fn run_example(kind: u8, given: &[u8]) {
 
 // The byte that a letter stands for.
 fn byte_of(letter: u8) -> u8 {
-    if 64 <= letter && letter <= 90 {
-        return std::num::wrapping_sub_u8(letter, 64);
+    match letter {
+        64..=90 => std::num::wrapping_sub_u8(letter, 64),
+        95 => 32,
+        126 => 255,
+        _ => letter,
     }
-    if letter == 95 {
-        return 32;
-    }
-    if letter == 126 {
-        return 255;
-    }
-    letter
 }
 
 fn spell(bytes: &mut [u8; 256], given: &[u8]) {
@@ -78,10 +67,11 @@ fn show_spelt(kind: u8, bytes: &[u8; 256], n: usize) {
     if all.len() < n {
         return;
     }
+    let text = &all[0..n];
     if kind == 116 {
-        show::text(&all[0..n]);
+        show::text(text);
     } else {
-        show::text_into_three(&all[0..n]);
+        show::text_into_three(text);
     }
 }
 
@@ -106,6 +96,14 @@ fn show_front(kind: u8, words: &[u32; 64], n: usize) {
     }
 }
 
+// The word at a place, 0 past the end.
+fn word(words: &[u32], at: usize) -> u32 {
+    if at < words.len() {
+        return words[at];
+    }
+    0
+}
+
 fn show_words(kind: u8, words: &[u32]) {
     if kind == 119 {
         show::words(words);
@@ -114,21 +112,9 @@ fn show_words(kind: u8, words: &[u32]) {
         show_runs(words);
     }
     if kind == 118 {
-        show_change(words);
+        small::varied(word(words, 0), word(words, 1));
     }
     if kind == 99 {
-        show_cut(words);
-    }
-}
-
-fn show_change(words: &[u32]) {
-    if 2 <= words.len() {
-        small::varied(words[0], words[1]);
-    }
-}
-
-fn show_cut(words: &[u32]) {
-    if 1 <= words.len() {
-        small::cut(words[0]);
+        small::cut(word(words, 0));
     }
 }

@@ -1,7 +1,6 @@
 // Runs the reading of texts and of word lists on worked examples, which it reads from standard input, and prints what each
 // one gives. The expected lines are worked out from the paper, by hand.
 mod examples;
-mod print;
 mod runs;
 mod show;
 mod small;

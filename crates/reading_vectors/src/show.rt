@@ -1,16 +1,38 @@
 // Prints a line for each example: what is read, or the refusal's number and place.
-use crate::print::print;
-use crate::print::print_field;
-use crate::print::print_refusal;
-use crate::print::print_words;
 use instance::Instance;
+use instance::Refusal;
 use instance::TextRead;
 use instance::Verdict;
+use lines::print;
+use lines::print_field;
+use lines::print_filled;
 
-fn print_front(words: &[u32; 2048], n: usize) {
-    let all = &words[..];
-    if n <= all.len() {
-        print_words(&all[0..n]);
+fn print_refusal(r: Refusal) {
+    let numbers = [instance::refusal_number(r), instance::refusal_place(r)];
+    print_filled(b"refused # #\n", &numbers);
+}
+
+fn print_word(word: u32) {
+    print_field(b" ", word as u64);
+}
+
+fn print_list(words: &[u32]) {
+    let mut i = 0;
+    while i < words.len() {
+        print_word(words[i]);
+        i += 1;
+    }
+}
+
+fn print_words(words: &[u32]) {
+    print(b"words");
+    print_list(words);
+    print(b"\n");
+}
+
+fn print_front(words: &[u32], n: usize) {
+    if n <= words.len() {
+        print_words(&words[0..n]);
     }
 }
 
@@ -23,29 +45,24 @@ pub(crate) fn text(bytes: &[u8]) {
     }
 }
 
-fn print_count(read: TextRead) {
-    match read {
-        TextRead::Words(n) => {
-            print_field(b"", n as u64);
-            print(b" ");
-        }
-        TextRead::Refused(r) => print_refusal(r),
-    }
+fn print_count(n: usize) {
+    print_field(b"", n as u64);
+    print(b" ");
 }
 
 // The same with a buffer of three words that held 7, 8 and 9, and what the buffer holds then.
 pub(crate) fn text_into_three(bytes: &[u8]) {
     let mut words = [7u32, 8, 9];
-    print_count(instance::words_of_text(bytes, &mut words));
+    match instance::words_of_text(bytes, &mut words) {
+        TextRead::Words(n) => print_count(n),
+        TextRead::Refused(r) => print_refusal(r),
+    }
     print_words(&words);
 }
 
 fn print_sizes(cores: u32, levels: usize, tasks: usize, span: u32) {
-    print_field(b"cores ", cores as u64);
-    print_field(b" levels ", levels as u64);
-    print_field(b" tasks ", tasks as u64);
-    print_field(b" span ", span as u64);
-    print(b"\n");
+    let numbers = [cores as u64, levels as u64, tasks as u64, span as u64];
+    print_filled(b"cores # levels # tasks # span #\n", &numbers);
 }
 
 fn print_instance(inst: Instance) {

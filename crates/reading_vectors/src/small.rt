@@ -1,7 +1,6 @@
 // A small list with a word changed, and its first words.
-use crate::print::print;
-use crate::print::print_field;
 use crate::show;
+use lines::print_filled;
 
 // One core, two levels, one task: word by word
 // 0 count, 1 energy weight, 2 penalty weight, 3 cores, 4 levels, 5 speed, 6 power, 7 speed, 8 power, 9 tasks, 10 period,
@@ -16,9 +15,8 @@ fn change(list: &mut [u32; 13], at: u32, word: u32) {
 
 // The list with one word changed.
 pub(crate) fn varied(at: u32, word: u32) {
-    print_field(b"", at as u64);
-    print_field(b" is ", word as u64);
-    print(b": ");
+    let numbers = [at as u64, word as u64];
+    print_filled(b"# is #: ", &numbers);
     let mut list = SMALL;
     change(&mut list, at, word);
     show_small(&list);
@@ -36,7 +34,7 @@ fn show_front(list: &[u32], n: usize) {
 
 // The list's first words.
 pub(crate) fn cut(n: u32) {
-    print_field(b"", n as u64);
-    print(b" words: ");
+    let numbers = [n as u64];
+    print_filled(b"# words: ", &numbers);
     show_front(&SMALL, n as usize);
 }

@@ -1,93 +1,77 @@
 // Reads the examples, line by line. A line that begins with - is a heading, which is printed; one with s gives a site, which
 // its second byte names; one with p, t, l or c is an example at such a site. Any other line says something to the reader.
-use crate::print::print;
 use crate::show;
 use instance::TextRead;
 
-// Where the line of each site begins and ends, at twice the byte that names it and after, is kept in `sites`.
+// Where the words of each site begin, at the byte that names it, is kept in `sites`.
 pub(crate) fn run(text: &[u8]) {
-    let mut sites = [0usize; 512];
+    let mut sites = [0usize; 256];
     let mut start = 0;
-    let mut i = 0;
-    while i < text.len() {
-        if text[i] == 10 {
-            run_line(text, start, i, &mut sites);
-            start = i + 1;
+    while start < text.len() {
+        let end = bytes::scan::find(text, start, text.len(), 10);
+        run_line(text, &text[start..end], start, &mut sites);
+        if end == text.len() {
+            return;
         }
-        i += 1;
+        start = end + 1;
     }
 }
 
-fn run_line(text: &[u8], start: usize, end: usize, sites: &mut [usize; 512]) {
-    if end <= start {
-        return;
-    }
-    if text.len() < end {
-        return;
-    }
-    let line = &text[start..end];
+fn run_line(text: &[u8], line: &[u8], start: usize, sites: &mut [usize; 256]) {
     if line.len() < 2 {
         return;
     }
     if line[0] == 45 {
-        print(line);
-        print(b"\n");
+        lines::print_line(line);
         return;
     }
-    if line[0] == 115 {
-        set_site(sites, line[1], start, end);
-        return;
-    }
-    run_at(text, sites, line[1], line);
+    run_named(text, line[0], line[1], &line[2..], start, sites);
 }
 
-fn set_site(sites: &mut [usize; 512], name: u8, start: usize, end: usize) {
-    let at = 2 * name as usize;
-    sites[at] = start;
-    sites[at + 1] = end;
-}
-
-fn run_at(text: &[u8], sites: &[usize; 512], name: u8, line: &[u8]) {
-    let at = 2 * name as usize;
-    let start = sites[at];
-    let end = sites[at + 1];
-    if end < start {
-        return;
-    }
-    if end <= text.len() {
-        run_example(&text[start..end], line);
+// A line with a site's name in it, which begins with this kind.
+fn run_named(
+    text: &[u8],
+    kind: u8,
+    name: u8,
+    given: &[u8],
+    start: usize,
+    sites: &mut [usize; 256],
+) {
+    if kind == 115 {
+        sites[name as usize] = std::num::wrapping_add_usize(start, 2);
+    } else {
+        run_at(text, sites[name as usize], kind, given);
     }
 }
 
-// The words after the first two bytes of a line; none where they are not read.
-fn words_of(line: &[u8], words: &mut [u32; 64]) -> usize {
-    if line.len() < 2 {
-        return 0;
+fn run_at(text: &[u8], start: usize, kind: u8, given: &[u8]) {
+    if start < text.len() {
+        let end = bytes::scan::find(text, start, text.len(), 10);
+        run_example(kind, &text[start..end], given);
     }
-    match instance::words_of_text(&line[2..], words) {
+}
+
+// The words of a text; none where they are not read.
+fn words_of(text: &[u8], words: &mut [u32; 64]) -> usize {
+    match instance::words_of_text(text, words) {
         TextRead::Words(n) => n,
         TextRead::Refused(_) => 0,
     }
 }
 
-fn run_example(site: &[u8], line: &[u8]) {
+fn run_example(kind: u8, site: &[u8], given: &[u8]) {
     let mut words = [0; 64];
     let n = words_of(site, &mut words);
-    let mut given = [0; 64];
-    let m = words_of(line, &mut given);
-    if 0 < line.len() {
-        show_fronts(line[0], &words, n, &given, m);
-    }
+    let mut numbers = [0; 64];
+    let m = words_of(given, &mut numbers);
+    show_fronts(kind, &words, n, &numbers, m);
 }
 
-fn show_fronts(kind: u8, words: &[u32; 64], n: usize, given: &[u32; 64], m: usize) {
+fn show_fronts(kind: u8, words: &[u32; 64], n: usize, numbers: &[u32; 64], m: usize) {
     let all = &words[..];
-    let numbers = &given[..];
-    if all.len() < n {
-        return;
-    }
-    if m <= numbers.len() {
-        show_kind(kind, &all[0..n], &numbers[0..m]);
+    let given = &numbers[..];
+    if n <= all.len() && m <= given.len() {
+        show_kind(kind, &all[0..n], &given[0..m]);
     }
 }
 
@@ -111,13 +95,15 @@ fn show_kind(kind: u8, words: &[u32], given: &[u32]) {
 // The first so many numbers are a plan, those after it a table.
 fn show_check(words: &[u32], choices: u32, given: &[u32]) {
     let n = choices as usize;
-    if given.len() < n {
-        return;
+    if n <= given.len() {
+        check_slots(words, &given[0..n], &given[n..]);
     }
-    let table = &given[n..];
+}
+
+fn check_slots(words: &[u32], plan: &[u32], table: &[u32]) {
     let mut slots = [0u8; 64];
     copy_slots(&mut slots, table);
-    check_front(words, &given[0..n], &slots, table.len());
+    check_front(words, plan, &slots, table.len());
 }
 
 fn check_front(words: &[u32], plan: &[u32], slots: &[u8; 64], n: usize) {

@@ -1,7 +1,6 @@
 // Runs pricing, tabling and the check on worked examples, which it reads from standard input, and prints what each one
 // gives. The expected lines are worked out from the paper, by hand.
 mod examples;
-mod print;
 mod show;
 
 use libc::STDIN_FILENO;

@@ -1,17 +1,20 @@
 // Prints a line for each example.
-use crate::print::print;
-use crate::print::print_field;
-use crate::print::print_refusal;
-use crate::print::print_slots;
+use instance::Refusal;
 use instance::Verdict;
+use lines::print;
+use lines::print_field;
+use lines::print_filled;
 use schedule::Price;
 use schedule::Priced;
 
+fn print_refusal(r: Refusal) {
+    let numbers = [instance::refusal_number(r), instance::refusal_place(r)];
+    print_filled(b"refused # #\n", &numbers);
+}
+
 fn print_price(price: Price) {
-    print_field(b"energy ", price.energy);
-    print_field(b" penalty ", price.penalty);
-    print_field(b" cost ", price.cost);
-    print(b"\n");
+    let numbers = [price.energy, price.penalty, price.cost];
+    print_filled(b"energy # penalty # cost #\n", &numbers);
 }
 
 pub(crate) fn price(words: &[u32], plan: &[u32]) {
@@ -28,6 +31,18 @@ fn print_verdict(verdict: Verdict, accepted: &[u8]) {
     }
 }
 
+fn print_slot(slot: u8) {
+    print_field(b" ", slot as u64);
+}
+
+fn print_slots(slots: &[u8]) {
+    let mut i = 0;
+    while i < slots.len() {
+        print_slot(slots[i]);
+        i += 1;
+    }
+}
+
 // Tables into a buffer, and prints the buffer.
 fn table_into(words: &[u32], plan: &[u32], slots: &mut [u8]) {
     print_verdict(schedule::tabulate(words, plan, slots), b"table");
@@ -39,7 +54,7 @@ fn table_into(words: &[u32], plan: &[u32], slots: &mut [u8]) {
 pub(crate) fn table(words: &[u32], room: u32, plan: &[u32]) {
     let mut slots = [77u8; 64];
     if room <= 64 {
-        table_into(words, plan, &mut slots[0..room as usize]);
+        table_into(words, plan, &mut slots[..room as usize]);
     }
 }
 
@@ -57,10 +72,12 @@ fn slots_with(slots: &[u8; 4096], number: u8) -> u64 {
 
 // How many slots are idle, and how many each of two tasks has.
 fn print_counts(slots: &[u8; 4096]) {
-    print_field(b"", slots_with(slots, 0));
-    print_field(b" task 1 ", slots_with(slots, 1));
-    print_field(b" task 2 ", slots_with(slots, 2));
-    print(b"\n");
+    let counts = [
+        slots_with(slots, 0),
+        slots_with(slots, 1),
+        slots_with(slots, 2),
+    ];
+    print_filled(b"# task 1 # task 2 #\n", &counts);
 }
 
 // Tables a long row, prints what it holds, and checks it.

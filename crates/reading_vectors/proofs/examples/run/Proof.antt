@@ -3,27 +3,40 @@ use Prim.Native.Nat.{_≤_, _-_}
 use lib.ListN.{length}
 use Rattle.reading_vectors.proofs.examples.run.Statement.{statement}
 use Rattle.reading_vectors.proofs.examples.run.Tie as tie
+use Rattle.reading_vectors.proofs.examples.run.Reads as reads
+use Rattle.reading_vectors.proofs.examples.run.Lts as lts
+use Rattle.bytes.proofs.scan.find.Reads as find-reads
+use Rattle.reading_vectors.proofs.examples.run_line.Reads as run-line-reads
 
 abbrev Inv-loop : tie.InvT-loop
-Inv-loop text start₀ i₀ start i = i ≤ length text
+Inv-loop text start₀ start = start ≤ length text
 
 abbrev μ-loop : tie.MeasureT-loop
-μ-loop text start₀ i₀ start i = length text - i
+μ-loop text start₀ start = length text - start
 
 loop-holds : tie.Need-loop-holds Inv-loop μ-loop
 loop-holds c = search needs
 
-shared-slice-read-if1 : tie.Need-shared-slice-read-if1 Inv-loop μ-loop
-shared-slice-read-if1 c = search needs
+find-requires : tie.Need-find-requires Inv-loop μ-loop
+find-requires c κs = search needs
+
+sub-run-line : tie.Need-sub-run-line Inv-loop μ-loop
+sub-run-line c = search needs
+
+part-run-line-start : tie.Need-part-run-line-start Inv-loop μ-loop
+part-run-line-start c = search needs
+
+part-run-line-end : tie.Need-part-run-line-end Inv-loop μ-loop
+part-run-line-end c = search needs
 
 run-line-requires : tie.Need-run-line-requires Inv-loop μ-loop
 run-line-requires c κs = search needs
 
+returns : tie.Need-returns Inv-loop μ-loop
+returns c = search needs
+
 add-start : tie.Need-add-start Inv-loop μ-loop
 add-start c = search needs
-
-add-i : tie.Need-add-i Inv-loop μ-loop
-add-i c = search needs
 
 loop-less : tie.Need-loop-less Inv-loop μ-loop
 loop-less c = search needs
@@ -31,8 +44,8 @@ loop-less c = search needs
 loop-again : tie.Need-loop-again Inv-loop μ-loop
 loop-again c = search needs
 
-returns : tie.Need-returns Inv-loop μ-loop
-returns c = search needs
+returns-2 : tie.Need-returns-2 Inv-loop μ-loop
+returns-2 c = search needs
 
 pub run-spec : {M : Type 1} → statement M
 run-spec =
@@ -41,10 +54,13 @@ run-spec =
     Inv-loop
     μ-loop
     loop-holds
-    shared-slice-read-if1
+    find-requires
+    sub-run-line
+    part-run-line-start
+    part-run-line-end
     run-line-requires
+    returns
     add-start
-    add-i
     loop-less
     loop-again
-    returns)
+    returns-2)

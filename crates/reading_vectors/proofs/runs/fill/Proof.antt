@@ -2,12 +2,14 @@ use borrow.Author.Needs.{needs}
 use Prim.Native.Nat.{_-_}
 use Rattle.reading_vectors.proofs.runs.fill.Statement.{statement}
 use Rattle.reading_vectors.proofs.runs.fill.Tie as tie
+use Rattle.reading_vectors.proofs.runs.fill.Reads as reads
+use Rattle.reading_vectors.proofs.runs.fill.Lts as lts
 
 abbrev Inv-loop : tie.InvT-loop
-Inv-loop text₀ from byte count at₀ k₀ text at k = Unit {0}
+Inv-loop text₀ from byte at₀ text at = Unit {0}
 
 abbrev μ-loop : tie.MeasureT-loop
-μ-loop text₀ from byte count at₀ k₀ text at k = count - k
+μ-loop text₀ from byte at₀ text at = 5000 - at
 
 loop-holds : tie.Need-loop-holds Inv-loop μ-loop
 loop-holds c = search needs
@@ -20,9 +22,6 @@ element-write-text c = search needs
 
 add-at : tie.Need-add-at Inv-loop μ-loop
 add-at c = search needs
-
-add-k : tie.Need-add-k Inv-loop μ-loop
-add-k c = search needs
 
 loop-less : tie.Need-loop-less Inv-loop μ-loop
 loop-less c = search needs
@@ -43,7 +42,6 @@ fill-spec =
     cast-text
     element-write-text
     add-at
-    add-k
     loop-less
     loop-again
     returns)

@@ -5,19 +5,13 @@ use Rattle.reading_vectors.proofs.runs.fill_all.Statement.{statement}
 use Rattle.reading_vectors.proofs.runs.fill_all.Tie as tie
 
 abbrev Inv-loop : tie.InvT-loop
-Inv-loop text₀ runs end₀ byte₀ i₀ text end byte i = i ≤ length runs
+Inv-loop text₀ runs end₀ i₀ text end i = i ≤ length runs
 
 abbrev μ-loop : tie.MeasureT-loop
-μ-loop text₀ runs end₀ byte₀ i₀ text end byte i = length runs - i
+μ-loop text₀ runs end₀ i₀ text end i = length runs - i
 
 loop-holds : tie.Need-loop-holds Inv-loop μ-loop
 loop-holds c = search needs
-
-mul-byte : tie.Need-mul-byte Inv-loop μ-loop
-mul-byte c = search needs
-
-shared-slice-read-byte : tie.Need-shared-slice-read-byte Inv-loop μ-loop
-shared-slice-read-byte c = search needs
 
 mul-fill : tie.Need-mul-fill Inv-loop μ-loop
 mul-fill c = search needs
@@ -27,6 +21,16 @@ shared-slice-read-fill c = search needs
 
 fill-requires : tie.Need-fill-requires Inv-loop μ-loop
 fill-requires c κs = search needs
+
+mul-wrapping-add-u32 : tie.Need-mul-wrapping-add-u32 Inv-loop μ-loop
+mul-wrapping-add-u32 c = search needs
+
+shared-slice-read-wrapping-add-u32 :
+    tie.Need-shared-slice-read-wrapping-add-u32 Inv-loop μ-loop
+shared-slice-read-wrapping-add-u32 c = search needs
+
+wrapping-add-u32-requires : tie.Need-wrapping-add-u32-requires Inv-loop μ-loop
+wrapping-add-u32-requires c κs = search needs
 
 add-i : tie.Need-add-i Inv-loop μ-loop
 add-i c = search needs
@@ -47,11 +51,12 @@ fill-all-spec =
     Inv-loop
     μ-loop
     loop-holds
-    mul-byte
-    shared-slice-read-byte
     mul-fill
     shared-slice-read-fill
     fill-requires
+    mul-wrapping-add-u32
+    shared-slice-read-wrapping-add-u32
+    wrapping-add-u32-requires
     add-i
     loop-less
     loop-again

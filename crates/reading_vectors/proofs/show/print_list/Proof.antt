@@ -1,8 +1,8 @@
 use borrow.Author.Needs.{needs}
 use Prim.Native.Nat.{_≤_, _-_}
 use lib.ListN.{length}
-use Rattle.reading_vectors.proofs.print.print_list.Statement.{statement}
-use Rattle.reading_vectors.proofs.print.print_list.Tie as tie
+use Rattle.reading_vectors.proofs.show.print_list.Statement.{statement}
+use Rattle.reading_vectors.proofs.show.print_list.Tie as tie
 
 abbrev Inv-loop : tie.InvT-loop
 Inv-loop words i₀ i = i ≤ length words

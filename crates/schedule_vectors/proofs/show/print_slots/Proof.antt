@@ -1,8 +1,8 @@
 use borrow.Author.Needs.{needs}
 use Prim.Native.Nat.{_≤_, _-_}
 use lib.ListN.{length}
-use Rattle.schedule_vectors.proofs.print.print_slots.Statement.{statement}
-use Rattle.schedule_vectors.proofs.print.print_slots.Tie as tie
+use Rattle.schedule_vectors.proofs.show.print_slots.Statement.{statement}
+use Rattle.schedule_vectors.proofs.show.print_slots.Tie as tie
 
 abbrev Inv-loop : tie.InvT-loop
 Inv-loop slots i₀ i = i ≤ length slots
