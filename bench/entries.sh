@@ -5,11 +5,12 @@ set -eu
 cd "$(dirname "$0")/.."
 room=target/bench/entries
 mkdir -p "$room/crates/timed/src"
-for crate in laws instance schedule search; do
+crates=(laws instance dispatch schedule assignment rows search)
+for crate in "${crates[@]}"; do
     ln -sfn "../../../../crates/$crate" "$room/crates/$crate"
-done
+    grep "^$crate:" crates.txt
+done >"$room/crates.txt"
 ln -sfn ../.. "$room/target"
-grep -E '^(laws|instance|schedule|search):' crates.txt >"$room/crates.txt"
 echo 'timed: instance schedule search' >>"$room/crates.txt"
 cat >"$room/crates/timed/src/lib.rt" <<'END'
 use instance::Verdict;
