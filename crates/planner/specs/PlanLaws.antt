@@ -18,8 +18,10 @@ use Rattle.schedule.specs.Outcomes.{priceOutcome, tableOutcome}
 use Rattle.schedule.specs.ReadLaws.{HoldsProblemOf}
 use Rattle.schedule.specs.Tables.{tableSize}
 use Rattle.schedule.specs.declared.prices.Priced.{Priced}
+use Rattle.search.specs.declared.Found.the-variants as Found
+use Rattle.search.specs.declared.Found.{Found}
 use Rattle.planner.specs.ArithmeticLaws.{passing-plan-is-priced, passing-plan-is-tabled}
-use Rattle.planner.specs.BestChoices.{chosenOf, chosenOnto}
+use Rattle.planner.specs.BestChoices.{foundOf, chosenOnto}
 use Rattle.planner.specs.BestPlanLaws.{best-plan-passes}
 use Rattle.planner.specs.EndingLaws.{best-plan-length}
 use Rattle.planner.specs.Outcomes.{PlanOutcome, planRefused, planAnswered, planOutcome}
@@ -27,16 +29,15 @@ use Rattle.planner.specs.Planned.{Planned}
 use Rattle.planner.specs.PlannedLaws.{of-reading, where-room, planOutcome-is-planned}
 use Rattle.planner.specs.Planning.{bestPlan}
 use Rattle.planner.specs.RoomLaws.{enough-room, no-room, front-of-onto}
-use Rattle.planner.specs.declared.best.Chosen.the-variants.{Cost, NoPlan}
-use Rattle.planner.specs.declared.best.Chosen.{Chosen}
 
 abbrev pub planGiven : Priced → List ℕ → List ℕ → PlanOutcome
 planGiven answer plan table = record { answer = answer; plan = plan; table = table }
 
 -- what is left to do with a plan buffer once its first n choices are chosen: table and price of these
-abbrev pub planFrom : List ℕ → ℕ → List ℕ → Chosen → List ℕ → PlanOutcome
-planFrom words n table NoPlan plan = planRefused Refusal.NoPlan plan table
-planFrom words n table (Cost c) plan =
+abbrev pub planFrom : List ℕ → ℕ → List ℕ → Found → List ℕ → PlanOutcome
+planFrom words n table Found.NoPlan plan = planRefused Refusal.NoPlan plan table
+planFrom words n table Found.OutOfLimits plan = planRefused Refusal.NoPlan plan table
+planFrom words n table (Found.Cheapest c) plan =
     planGiven (priceOutcome words (take n plan)) plan (tableOutcome words (take n plan) table .table)
 
 -- what the contract of planning says of an answer and of the buffers after it
@@ -92,13 +93,13 @@ module _ (words : List ℕ) (inst : Instance) (held : HoldsProblemOf words inst)
           (where-room words plan table (problemIn inst) (held .problem) Accepted
           (rw (plan-has-room, enough-room (tableSize (problemIn inst)) table size-at-most) refl))
 
-      pub chosen-outcome : (r : Chosen) (after : List ℕ) → r ≡ chosenOf (problemIn inst) (bestPlan (problemIn inst)) →
+      pub chosen-outcome : (r : Found) (after : List ℕ) → r ≡ foundOf (problemIn inst) (bestPlan (problemIn inst)) →
           after ≡ chosenOnto (bestPlan (problemIn inst)) plan →
           planFrom words (inst .taskcount) table r after ≡ planOutcome words plan table
       chosen-outcome r after found chosen = rw (found, chosen) (go (bestPlan (problemIn inst)) refl)
         where
           go : (best : Option (List ℕ)) → bestPlan (problemIn inst) ≡ best →
-              planFrom words (inst .taskcount) table (chosenOf (problemIn inst) best) (chosenOnto best plan) ≡ planOutcome words plan table
+              planFrom words (inst .taskcount) table (foundOf (problemIn inst) best) (chosenOnto best plan) ≡ planOutcome words plan table
           go none same = rw same at answered-outcome
           go (some best) same =
               let p = problemIn inst in

@@ -9,44 +9,15 @@ ghost use mathlib.Core.Path.{_≡_};
 ghost use lib.ListN.{length};
 ghost use Rattle.instance.specs.Held.{Sound, problemIn};
 ghost use Rattle.instance.specs.Node.{taskCount};
-ghost use Rattle.planner.specs.BestChoices.{chosenFrom, chosenOf, chosenOnto};
-ghost use Rattle.planner.specs.OfferedLaws.{shapeOf};
+ghost use Rattle.planner.specs.BestChoices.{foundOf, chosenOnto};
 ghost use Rattle.planner.specs.Planning.{bestPlan};
 
-// What the best plan costs.
-pub(crate) enum Chosen {
-    Cost(u64),
-    NoPlan,
-}
-
-fn shape_of(inst: Instance) -> Shape
-    requires { ⌜ Sound inst ⌝ }
-    ensures { λ r. ⌜ r ≡ shapeOf (problemIn inst) ⌝ }
-{
-    Shape {
-        items: inst.taskcount,
-        cores: inst.cores as usize,
-        levels: inst.levelcount,
-        capacity: inst.span as usize,
-    }
-}
-
-fn chosen_from(found: Found) -> Chosen
-    ensures { λ r. ⌜ r ≡ chosenFrom found ⌝ }
-{
-    match found {
-        Found::Cheapest(total) => Chosen::Cost(total),
-        Found::NoPlan => Chosen::NoPlan,
-        // never so: an instance is within the limits of the search
-        Found::OutOfLimits => Chosen::NoPlan,
-    }
-}
-
-// Writes the best plan to the front of the buffer, or nothing where there is none.
-pub(crate) fn best_choices(inst: Instance, plan: &mut [u32]) -> Chosen
+// Writes the best plan to the front of the buffer, or nothing where there is none. An instance is within the limits of the
+// search.
+pub(crate) fn best_choices(inst: Instance, plan: &mut [u32]) -> Found
     requires { ⌜ Sound inst ⌝ }
     requires { ⌜ taskCount (problemIn inst) ≤ length (now plan) ⌝ }
-    ensures { λ r. ⌜ r ≡ chosenOf (problemIn inst) (bestPlan (problemIn inst)) ⌝ }
+    ensures { λ r. ⌜ r ≡ foundOf (problemIn inst) (bestPlan (problemIn inst)) ⌝ }
     ensures { λ _. ⌜ now (plan .exit) ≡ chosenOnto (bestPlan (problemIn inst)) (now (plan .entry)) ⌝ }
 {
     let mut load = [0; 96];
@@ -54,6 +25,11 @@ pub(crate) fn best_choices(inst: Instance, plan: &mut [u32]) -> Chosen
     let mut refusal = [0; 12];
     let mut must = [false; 12];
     fill_options(inst, &mut load, &mut cost, &mut refusal, &mut must);
-    let found = cheapest_plan(shape_of(inst), &load, &cost, &refusal, &must, plan);
-    chosen_from(found)
+    let shape = Shape {
+        items: inst.taskcount,
+        cores: inst.cores as usize,
+        levels: inst.levelcount,
+        capacity: inst.span as usize,
+    };
+    cheapest_plan(shape, &load, &cost, &refusal, &must, plan)
 }

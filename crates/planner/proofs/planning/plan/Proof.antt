@@ -10,16 +10,16 @@ read-instance-requires c κs = search needs
 enum-known-verdict : tie.Need-enum-known-verdict
 enum-known-verdict c = search needs
 
+returns : tie.Need-returns
+returns c =
+    let refuses = refused-read-refuses-words _ _ (c .before .before .before .read-instance .ensures) (c .before .verdict .given .1) in
+    given-outcome-is-promised _ _ _ _ _ _ (refused-words-outcome _ _ _ refuses)
+
 enum-told : tie.Need-enum-told
 enum-told c = search needs
 
 plan-read-requires : tie.Need-plan-read-requires
-plan-read-requires c κs = accepted-read-holds-problem _ _ (c .before .before .before .before .before .read-instance .ensures) (c .before .before .enum-told .given .1)
-
-returns : tie.Need-returns
-returns c =
-    let refuses = refused-read-refuses-words _ _ (c .before .before .before .before .read-instance .ensures) (c .before .verdict .given .1) in
-    given-outcome-is-promised _ _ _ _ _ _ (refused-words-outcome _ _ _ refuses)
+plan-read-requires c κs = accepted-read-holds-problem _ _ (c .before .before .before .before .read-instance .ensures) (c .before .before .enum-told .given .1)
 
 same-length : tie.Need-same-length
 same-length c = search needs
@@ -36,9 +36,9 @@ plan-spec =
     (tie.spec
     read-instance-requires
     enum-known-verdict
+    returns
     enum-told
     plan-read-requires
-    returns
     same-length
     same-length-2
     returns-2)
