@@ -3,7 +3,7 @@
 use Prim.Native.Nat.{ℕ}
 use mathlib.Core.List.{List}
 use Rattle.instance.specs.Refusals.{Reading, refused, accepted, numberOf, placeOf}
-use Rattle.instance.specs.Text.{wordsOf}
+use Rattle.text.specs.Text.{wordsOf}
 use Rattle.instance.specs.declared.Verdict.{Verdict}
 use Rattle.instance.specs.declared.Verdict.the-variants.{Accepted, Refused}
 use Rattle.schedule.specs.Outcomes.{checkOutcome}

@@ -2,10 +2,10 @@
 use crate::answers::Checked;
 use crate::answers::checked_of;
 use crate::choices::words_of_bytes;
-use instance::TextRead;
 use instance::Verdict;
-use instance::words_of_text;
 use schedule::check_table;
+use text::TextRead;
+use text::words_of_text;
 ghost use mathlib.Core.Path.{_≡_};
 ghost use Rattle.desk.specs.DeskOutcomes.{checkedOf, textCheckOutcome};
 ghost use Rattle.schedule.specs.Outcomes.{checkOutcome};

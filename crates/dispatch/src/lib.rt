@@ -1,4 +1,7 @@
 // Earliest deadline first on one core, one tick at a time, and the row of slots that it gives.
+use instance::MOST_PERIOD;
+use instance::MOST_SPAN;
+use instance::MOST_TASKS;
 ghost use mathlib.Core.Bool.{cond};
 ghost use mathlib.Core.Path.{_≡_};
 ghost use Prim.Native.Nat.{ℕ, _+_, _*_, _/_, _%_, _≤_, _<_};
@@ -9,12 +12,6 @@ ghost use Rattle.laws.specs.Lists.{listOf, onto};
 ghost use Rattle.laws.specs.Tests.{Tells};
 ghost use Rattle.dispatch.specs.Dispatching.{CoreOk, RowTold, StateOk, Stepped, TaskOk, readyOf, tasksOf};
 ghost use Rattle.dispatch.specs.Rows as rows;
-
-const MOST_TASKS: usize = 12;
-
-const MOST_PERIOD: u32 = 4096;
-
-const MOST_SPAN: usize = 4096;
 
 // What one core knows of the tasks: a task that is not kept there has no ticks.
 pub struct Core {
@@ -152,7 +149,7 @@ fn tasks_sound(core: Core) -> bool
 fn is_sound(core: Core) -> bool
     ensures { λ r. ⌜ Tells r (CoreOk core) ⌝ }
 {
-    if MOST_TASKS < core.size {
+    if (MOST_TASKS as usize) < core.size {
         return false;
     }
     tasks_sound(core)
@@ -163,7 +160,7 @@ fn is_sound(core: Core) -> bool
 pub fn fill_row(core: Core, slots: &mut [u8]) -> bool
     ensures { λ r. ⌜ RowTold core (now (slots .entry)) (now (slots .exit)) r ⌝ }
 {
-    if MOST_SPAN < slots.len() {
+    if (MOST_SPAN as usize) < slots.len() {
         return false;
     }
     if !is_sound(core) {

@@ -1,11 +1,6 @@
 pub mod Limits
 pub mod Refusals
 pub mod Node
-pub mod Text
-pub mod Tokens
-pub mod TextLaws
-pub mod TokenSteps
-pub mod TextSteps
 pub mod SiteFile
 pub mod Outcomes
 pub mod Valid
@@ -17,12 +12,6 @@ pub mod ReadLevels
 pub mod ReadTasks
 pub mod SiteFileLaws
 pub mod SiteFileRefusals
-pub mod WordsLaws
-pub mod NumberCountLaws
-pub mod TextRefusals
-pub mod Decimal
-pub mod DecimalLaws
-pub mod SpelledLaws
 pub mod Sections
 pub mod Levels
 pub mod Tasks

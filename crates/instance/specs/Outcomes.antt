@@ -1,36 +1,11 @@
--- The whole outcome of each entry point of reading, for every input: the answer, and what each lent buffer holds
--- afterwards.
+-- The whole outcome of reading an instance, for every list of words.
 use Prim.Native.Nat.{ℕ}
 use mathlib.Core.List.{List}
-use lib.ListN.{length}
-use Rattle.laws.specs.Lists.{onto}
 use Rattle.instance.specs.Node.{Problem, stored, noInstance}
-use Rattle.instance.specs.Refusals.{Reading, refused, accepted, room}
+use Rattle.instance.specs.Refusals.{Reading, refused, accepted}
 use Rattle.instance.specs.SiteFile.{problemOf}
-use Rattle.instance.specs.Text.{wordsOf}
 use Rattle.instance.specs.declared.InstanceRead.{InstanceRead}
-use Rattle.instance.specs.declared.TextRead.{TextRead}
-use Rattle.instance.specs.declared.TextRead.the-variants as TextRead
-use Rattle.instance.specs.declared.Verdict.{Verdict}
 use Rattle.instance.specs.declared.Verdict.the-variants.{Accepted, Refused}
-
-pub record WordsOutcome : Type 0 where
-  pub answer : TextRead
-  pub words : List ℕ
-
--- "Every refusal leaves all lent buffers unchanged. An accepted call writes only the words or bytes its result needs,
--- from the front of each buffer."
-abbrev pub wordsWhere : Verdict → List ℕ → List ℕ → WordsOutcome
-wordsWhere Accepted ws buffer = record { answer = TextRead.Words (length ws); words = onto ws buffer }
-wordsWhere (Refused r) ws buffer = record { answer = TextRead.Refused r; words = buffer }
-
--- "Turning text into words: 1, then 6."
-abbrev pub wordsOutcomeOf : Reading (List ℕ) → List ℕ → WordsOutcome
-wordsOutcomeOf (refused r) buffer = record { answer = TextRead.Refused r; words = buffer }
-wordsOutcomeOf (accepted ws) buffer = wordsWhere (room (length ws) buffer) ws buffer
-
-unfoldable pub wordsOutcome : List ℕ → List ℕ → WordsOutcome
-wordsOutcome text buffer = wordsOutcomeOf (wordsOf text) buffer
 
 abbrev pub instanceReadOf : Reading Problem → InstanceRead
 instanceReadOf (refused r) = record { verdict = Refused r; instance = noInstance }

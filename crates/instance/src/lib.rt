@@ -1,19 +1,19 @@
-// What a site's file says: from text to words, from words to an instance, and the refusals 1 to 10 of document 01.
+// What the words of a site's file say: an instance, or a refusal; and the refusals 1 to 10 of document 01.
 mod levels;
 mod limits;
 mod multiples;
-mod reader;
 mod refusals;
 mod site;
 mod tasks;
-mod text;
 mod word;
 
 pub use limits::MAY_NOT_BE_REFUSED;
+pub use limits::MOST_PERIOD;
+pub use limits::MOST_SPAN;
+pub use limits::MOST_TASKS;
 pub use refusals::refusal_number;
 pub use refusals::refusal_place;
 pub use site::read_instance;
-pub use text::words_of_text;
 
 // A clock level: cycles run in a tick, and power drawn in a busy tick.
 pub struct Level {
@@ -60,12 +60,6 @@ pub enum Refusal {
 
 pub enum Verdict {
     Accepted,
-    Refused(Refusal),
-}
-
-// How many words a text holds.
-pub enum TextRead {
-    Words(usize),
     Refused(Refusal),
 }
 

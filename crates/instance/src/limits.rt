@@ -12,9 +12,9 @@ pub(crate) const MOST_SPEED: u32 = 65_535;
 
 pub(crate) const MOST_POWER: u32 = 65_535;
 
-pub(crate) const MOST_TASKS: u32 = 12;
+pub const MOST_TASKS: u32 = 12;
 
-pub(crate) const MOST_PERIOD: u32 = 4_096;
+pub const MOST_PERIOD: u32 = 4_096;
 
 pub(crate) const MOST_CYCLES: u32 = 100_000_000;
 
@@ -22,4 +22,4 @@ pub(crate) const MOST_PENALTY: u32 = 1_000_000;
 
 pub const MAY_NOT_BE_REFUSED: u32 = 4_294_967_295;
 
-pub(crate) const MOST_SPAN: u32 = 4_096;
+pub const MOST_SPAN: u32 = 4_096;

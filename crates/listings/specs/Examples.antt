@@ -2,10 +2,10 @@
 use mathlib.Core.List.{List, [], _∷_, map}
 use mathlib.Core.Path.{_≡_, refl}
 use Prim.Native.String.{String}
-use Rattle.instance.specs.Decimal.{decimal, digitsOf}
+use Rattle.text.specs.Decimal.{decimal, digitsOf}
 use Rattle.instance.specs.Node.{span, spanFrom}
 use Rattle.instance.specs.SiteFile.{problemOf, siteFile, settings, levels, tasks, period, isPenalty, between, word, end}
-use Rattle.instance.specs.Text.{wordsOf, numbers, firstFault, faulty, begins, isDigit, isBlank, valueAfter}
+use Rattle.text.specs.Text.{wordsOf, numbers, firstFault, faulty, begins, isDigit, isBlank, valueAfter}
 use Rattle.laws.specs.Lists.{listOf, joined}
 use Rattle.laws.specs.Multiples.{lcm}
 use Rattle.laws.specs.Search.{first}

@@ -7,7 +7,7 @@ use native.Mathlib.Omega.{arith}
 use lib.ListN.{length, getD, take}
 use lib.Seq.{take-suc, take-length}
 use Rattle.laws.specs.Lists.{joined}
-use Rattle.instance.specs.Decimal.{decimal, spaced}
+use Rattle.text.specs.Decimal.{decimal, spaced}
 use Rattle.instance.specs.Refusals.{numberOf, placeOf}
 use Rattle.instance.specs.declared.Refusal.{Refusal}
 use Rattle.listings.specs.Lines.{bytes, ended, line}

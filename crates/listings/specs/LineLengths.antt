@@ -7,8 +7,8 @@ use native.Mathlib.Omega.{arith}
 use lib.ListN.{length, getD, length-append}
 use Rattle.laws.specs.Below.{lt-or-le}
 use Rattle.laws.specs.Lists.{joined}
-use Rattle.instance.specs.Decimal.{decimal}
-use Rattle.instance.specs.DecimalLaws.{decimal-of-digit, decimal-by-tens}
+use Rattle.text.specs.Decimal.{decimal}
+use Rattle.text.specs.DecimalLaws.{decimal-of-digit, decimal-by-tens}
 use Rattle.schedule.specs.declared.prices.Price.{Price}
 use Rattle.listings.specs.Lines.{bytes, ended, line}
 use Rattle.listings.specs.Listing.{numbersLine, spanLine, costLine, keptLine, refusedLine}

@@ -5,11 +5,11 @@ use mathlib.Core.Bool.{cond}
 use mathlib.Core.List.{List, [], _∷_, _++_, map}
 use mathlib.Core.Option.{Option, none, some}
 use Rattle.laws.specs.Lists.{listOf, joined}
-use Rattle.instance.specs.Decimal.{decimal}
+use Rattle.text.specs.Decimal.{decimal}
 use Rattle.instance.specs.Node.{Problem, taskCount, span}
 use Rattle.instance.specs.Refusals.{Reading, refused, accepted, numberOf, placeOf}
 use Rattle.instance.specs.SiteFile.{problemOf}
-use Rattle.instance.specs.Text.{wordsOf}
+use Rattle.text.specs.Text.{wordsOf}
 use Rattle.instance.specs.declared.Refusal.{Refusal}
 use Rattle.instance.specs.declared.Refusal.the-variants.{NoPlan}
 use Rattle.schedule.specs.Quantities.{isRefused, coreOf, levelOf, jobTicks, priceOf}

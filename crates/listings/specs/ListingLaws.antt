@@ -10,7 +10,7 @@ use Rattle.instance.specs.Limits.{mostCores, mostSpan, mostTasks}
 use Rattle.instance.specs.Node.{taskCount}
 use Rattle.instance.specs.Refusals.{refused, accepted}
 use Rattle.instance.specs.SiteFile.{problemOf}
-use Rattle.instance.specs.Text.{wordsOf}
+use Rattle.text.specs.Text.{wordsOf}
 use Rattle.instance.specs.declared.Instance.{Instance}
 use Rattle.instance.specs.declared.Refusal.{Refusal}
 use Rattle.instance.specs.declared.Verdict.the-variants.{Accepted}

@@ -11,13 +11,13 @@ use Rattle.laws.specs.JoinedLaws.{length-listOf, getD-listOf}
 use Rattle.laws.specs.Lists.{listOf}
 use Rattle.instance.specs.Limits.{mostCores, mostLevels, mostSpan, mostTasks}
 use Rattle.instance.specs.Node.{Problem, levelCount, taskCount, span}
-use Rattle.instance.specs.NumberCountLaws.{mostTextWords, read-words-at-most}
+use Rattle.text.specs.NumberCountLaws.{mostTextWords, read-words-at-most}
 use Rattle.instance.specs.Refusals.{Reading, refused, accepted, numberOf, placeOf}
 use Rattle.instance.specs.SiteFile.{problemOf}
 use Rattle.instance.specs.SiteFileLaws.{accepted-is-valid}
 use Rattle.instance.specs.SiteFileRefusals.{reading-refusal}
-use Rattle.instance.specs.Text.{wordsOf}
-use Rattle.instance.specs.TextRefusals.{text-refusal-place}
+use Rattle.text.specs.Text.{wordsOf}
+use Rattle.text.specs.TextRefusals.{text-refusal-place}
 use Rattle.instance.specs.Valid.{Valid}
 use Rattle.instance.specs.declared.Refusal.{Refusal}
 use Rattle.instance.specs.declared.Refusal.the-variants.{Text, WordCount, WordRange, SpanTooLong, NoPlan, ShortBuffer, GivenPlan, CoreOverloaded, GivenTable, JobSlots}

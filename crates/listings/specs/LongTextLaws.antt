@@ -10,8 +10,8 @@ use lib.Seq.{take-all, take-take, length-take-le}
 use borrow.Author.Tests.{lt-ltb}
 use Rattle.laws.specs.Below.{lt-or-le}
 use Rattle.instance.specs.Limits.{mostTextBytes}
-use Rattle.instance.specs.NumberCountLaws.{first-fault-at-most}
-use Rattle.instance.specs.Text.{firstFault, wordsOf}
+use Rattle.text.specs.NumberCountLaws.{first-fault-at-most}
+use Rattle.text.specs.Text.{firstFault, wordsOf}
 use Rattle.listings.specs.Listing.{listingOfWords, listingOf}
 
 words-of-front : (text : List ℕ) (n : ℕ) → mostTextBytes < n → wordsOf (take n text) ≡ wordsOf text

@@ -2,7 +2,7 @@
 // answers the position after them.
 ghost use Prim.Native.Nat.{_+_};
 ghost use mathlib.Core.List.{[], _∷_};
-ghost use Rattle.instance.specs.Decimal.{decimal};
+ghost use Rattle.text.specs.Decimal.{decimal};
 ghost use Rattle.listings.specs.Placing.{Room, Put};
 
 pub(crate) fn put_byte(out: &mut [u8], at: usize, byte: u8) -> usize

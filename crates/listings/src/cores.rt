@@ -7,7 +7,7 @@ ghost use Prim.Native.Nat.{_<_};
 ghost use mathlib.Core.List.{_∷_};
 ghost use mathlib.Core.Path.{_≡_};
 ghost use lib.ListN.{length};
-ghost use Rattle.instance.specs.Decimal.{spaced};
+ghost use Rattle.text.specs.Decimal.{spaced};
 ghost use Rattle.instance.specs.Held.{Sound, problemIn};
 ghost use Rattle.laws.specs.Lists.{joined};
 ghost use Rattle.schedule.specs.Tables.{tableSize};

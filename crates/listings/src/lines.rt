@@ -7,7 +7,7 @@ use instance::refusal_number;
 use instance::refusal_place;
 use schedule::Price;
 ghost use mathlib.Core.List.{[], _∷_, _++_};
-ghost use Rattle.instance.specs.Decimal.{decimal};
+ghost use Rattle.text.specs.Decimal.{decimal};
 ghost use Rattle.listings.specs.Listing.{numbersLine, refusalLine, spanLine, costLine, keptLine, refusedLine};
 ghost use Rattle.listings.specs.Placing.{Room, Put};
 

@@ -7,7 +7,7 @@ use Rattle.instance.specs.Limits.{mayNotBeRefused}
 use Rattle.instance.specs.Node.{Problem, taskCount, span, spanFrom}
 use Rattle.instance.specs.Refusals.{Reading, refused, accepted, numberOf, placeOf, room}
 use Rattle.instance.specs.SiteFile.{problemOf, siteFile, settings, levels, tasks, period, isPenalty, between, word, end}
-use Rattle.instance.specs.Text.{wordsOf, numbers, firstFault, faulty, begins, isDigit, isBlank, valueAfter}
+use Rattle.text.specs.Text.{wordsOf, numbers, firstFault, faulty, begins, isDigit, isBlank, valueAfter}
 use Rattle.instance.specs.declared.Refusal.{Refusal}
 use Rattle.laws.specs.Lists.{listOf, joined, onto}
 use Rattle.laws.specs.Multiples.{lcm}

@@ -9,16 +9,17 @@ use mathlib.Core.Path.{_≡_}
 use lib.ListN.{length, take}
 use Rattle.laws.specs.Lists.{onto}
 use Rattle.laws.specs.Sums.{sum}
-use Rattle.instance.specs.Decimal.{spelled}
+use Rattle.text.specs.Decimal.{spelled}
 use Rattle.instance.specs.Limits.{mostTextBytes}
 use Rattle.instance.specs.Node.{Problem, levelCount, taskCount, levelAt, taskAt, span}
-use Rattle.instance.specs.Outcomes.{wordsOutcome, instanceOutcome}
+use Rattle.instance.specs.Outcomes.{instanceOutcome}
+use Rattle.text.specs.Outcomes.{wordsOutcome}
 use Rattle.instance.specs.Refusals.{accepted, room, _andThen_}
 use Rattle.instance.specs.SiteFile.{problemOf}
 use Rattle.instance.specs.SiteFileLaws.{accepted-is-valid, accepted-is-written, valid-is-accepted}
 use Rattle.instance.specs.SpanLaws.{period-divides-span, span-divides-common-multiple}
-use Rattle.instance.specs.SpelledLaws.{AllWords, spelled-is-read-back}
-use Rattle.instance.specs.Text.{wordsOf}
+use Rattle.text.specs.SpelledLaws.{AllWords, spelled-is-read-back}
+use Rattle.text.specs.Text.{wordsOf}
 use Rattle.instance.specs.Valid.{Valid, wordsOfProblem}
 use Rattle.instance.specs.declared.Verdict.the-variants.{Accepted}
 use Rattle.schedule.specs.CheckTheorem.{check-accepts-exactly-drawings, check-accepts-exactly-drawn-tables}

@@ -5,10 +5,11 @@ use mathlib.Core.Option.{Option, none, some}
 use mathlib.Core.Path.{_≡_, refl}
 use lib.ListN.{length}
 use Rattle.instance.specs.Node.{Problem, taskCount}
-use Rattle.instance.specs.Outcomes.{WordsOutcome, wordsOutcome, wordsOutcomeOf, wordsWhere, instanceOutcome, instanceReadOf}
+use Rattle.instance.specs.Outcomes.{instanceOutcome, instanceReadOf}
+use Rattle.text.specs.Outcomes.{WordsOutcome, wordsOutcome, wordsOutcomeOf, wordsWhere}
 use Rattle.instance.specs.Refusals.{Reading, numberOf, room, _andThen_}
 use Rattle.instance.specs.SiteFile.{problemOf}
-use Rattle.instance.specs.Text.{wordsOf}
+use Rattle.text.specs.Text.{wordsOf}
 use Rattle.instance.specs.declared.Refusal.{Refusal}
 use Rattle.instance.specs.declared.Verdict.{Verdict}
 use Rattle.instance.specs.declared.Verdict.the-variants.{Accepted, Refused}

@@ -8,8 +8,8 @@ use lib.ListN.{length, drop}
 use Rattle.instance.specs.Refusals.{Reading, numberOf}
 use Rattle.instance.specs.declared.Refusal.{Refusal}
 use Rattle.instance.specs.declared.Refusal.the-variants.{NoPlan}
-use Rattle.instance.specs.declared.TextRead.{TextRead}
-use Rattle.instance.specs.declared.TextRead.the-variants as TextRead
+use Rattle.text.specs.declared.TextRead.{TextRead}
+use Rattle.text.specs.declared.TextRead.the-variants as TextRead
 use Rattle.instance.specs.declared.Verdict.{Verdict}
 use Rattle.instance.specs.declared.Verdict.the-variants.{Accepted, Refused}
 use Rattle.schedule.specs.declared.prices.Priced.{Priced}

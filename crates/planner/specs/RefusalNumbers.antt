@@ -13,7 +13,7 @@ use Rattle.instance.specs.Node.{Problem, taskCount}
 use Rattle.instance.specs.Refusals.{Reading, numberOf, room, _andThen_}
 use Rattle.instance.specs.SiteFile.{problemOf}
 use Rattle.instance.specs.SiteFileRefusals.{refused-with-2-3-or-4}
-use Rattle.instance.specs.Text.{firstFault, wordsOf}
+use Rattle.text.specs.Text.{firstFault, wordsOf}
 use Rattle.instance.specs.declared.Refusal.{Refusal}
 use Rattle.instance.specs.declared.Refusal.the-variants.{Text, ShortBuffer, GivenPlan, CoreOverloaded, GivenTable, JobSlots}
 use Rattle.instance.specs.declared.Verdict.{Verdict}

@@ -3,7 +3,7 @@
 use crate::runs::show_runs;
 use crate::show;
 use crate::small;
-use instance::TextRead;
+use text::TextRead;
 
 pub(crate) fn run(text: &[u8]) {
     let mut start = 0;

@@ -1,11 +1,11 @@
 // Prints a line for each example: what is read, or the refusal's number and place.
 use instance::Instance;
 use instance::Refusal;
-use instance::TextRead;
 use instance::Verdict;
 use lines::print;
 use lines::print_field;
 use lines::print_filled;
+use text::TextRead;
 
 fn print_refusal(r: Refusal) {
     let numbers = [instance::refusal_number(r), instance::refusal_place(r)];

@@ -1,7 +1,7 @@
 // Reads the examples, line by line. A line that begins with - is a heading, which is printed; one with s gives a site, which
 // its second byte names; one with p, t, l or c is an example at such a site. Any other line says something to the reader.
 use crate::show;
-use instance::TextRead;
+use text::TextRead;
 
 // Where the words of each site begin, at the byte that names it, is kept in `sites`.
 pub(crate) fn run(text: &[u8]) {

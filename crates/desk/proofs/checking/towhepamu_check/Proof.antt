@@ -1,7 +1,7 @@
 use mathlib.Core.Path.{sym, ap, _∙_}
 use native.Mathlib.Omega.{arith}
 use lib.Seq.{length-take-le}
-use Rattle.instance.specs.NumberCountLaws.{FrontIsText, text-is-refused, words-at-front}
+use Rattle.text.specs.NumberCountLaws.{FrontIsText, text-is-refused, words-at-front}
 use Rattle.desk.specs.DeskOutcomes.{checkedOf, textCheckOutcome}
 use borrow.Author.Needs.{needs}
 use Rattle.desk.proofs.checking.towhepamu_check.Statement.{statement}

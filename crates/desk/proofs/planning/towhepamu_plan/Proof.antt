@@ -1,7 +1,7 @@
 use mathlib.Core.Path.{refl, sym, ap, _∙_}
 use native.Mathlib.Omega.{arith}
 use lib.Seq.{length-take-le}
-use Rattle.instance.specs.NumberCountLaws.{FrontIsText, text-is-refused, words-at-front}
+use Rattle.text.specs.NumberCountLaws.{FrontIsText, text-is-refused, words-at-front}
 use Rattle.desk.specs.DeskOutcomes.{plannedOf, textPlanOutcome}
 use borrow.Author.Needs.{needs}
 use Rattle.desk.proofs.planning.towhepamu_plan.Statement.{statement}

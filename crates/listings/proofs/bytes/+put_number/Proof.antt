@@ -1,6 +1,6 @@
 use mathlib.Core.Path.{_∙_}
 use native.Mathlib.Omega.{arith}
-use Rattle.instance.specs.DecimalLaws.{decimal-of-digit, decimal-by-tens}
+use Rattle.text.specs.DecimalLaws.{decimal-of-digit, decimal-by-tens}
 use Rattle.listings.specs.Placing.{room-for-first, room-for-next, put-next}
 use Prim.Native.Nat.{ℕ, _<_}
 use borrow.Fn.Kinds.{In}

@@ -3,7 +3,7 @@ use Prim.Native.Nat.{_-_}
 use mathlib.Core.List.{_∷_}
 use native.Mathlib.Omega.{arith}
 use lib.ListN.{length, getD}
-use Rattle.instance.specs.Decimal.{decimal}
+use Rattle.text.specs.Decimal.{decimal}
 use Rattle.listings.specs.LineLaws.{spaced-one-by-one}
 use Rattle.listings.proofs.cores.put_slots.Statement.{statement}
 use Rattle.listings.proofs.cores.put_slots.Tie as tie

@@ -2,7 +2,7 @@ use mathlib.Core.Path.{_≡_, sym}
 use native.Mathlib.Omega.{arith}
 use lib.Seq.{length-take-le}
 use borrow.Author.Needs.{needs}
-use Rattle.instance.specs.NumberCountLaws.{FrontIsText, text-is-refused, words-at-front}
+use Rattle.text.specs.NumberCountLaws.{FrontIsText, text-is-refused, words-at-front}
 use Rattle.listings.specs.Listing.{refusalLine, listingOf}
 use Rattle.listings.specs.ListingLaws.{refused-text-listing, read-text-listing}
 use Rattle.listings.proofs.site.put_listing.Statement.{statement}

@@ -1,0 +1,16 @@
+-- `instance::text::is_blank` meets its contract.
+use borrow.Author.Tests.{eq-eqb, ne-eqb}
+use Rattle.text.specs.Text.{isBlank}
+use Rattle.text.proofs.words.is_blank.Statement.{statement}
+use Rattle.text.proofs.words.is_blank.Tie as tie
+
+returns : tie.Need-returns
+unfolding isBlank
+returns c = rw (eq-eqb (c .before .args .b) 32 (c .if1 .taken))
+
+returns-2 : tie.Need-returns-2
+unfolding isBlank
+returns-2 c = rw (ne-eqb (c .before .args .b) 32 (c .if1 .left))
+
+pub is-blank-spec : {M : Type 1} → statement M
+is-blank-spec = tie.close (tie.spec returns returns-2)

@@ -1,0 +1,12 @@
+pub mod Text
+pub mod Outcomes
+pub mod Tokens
+pub mod TextLaws
+pub mod TokenSteps
+pub mod TextSteps
+pub mod WordsLaws
+pub mod NumberCountLaws
+pub mod TextRefusals
+pub mod Decimal
+pub mod DecimalLaws
+pub mod SpelledLaws
