@@ -1,18 +1,14 @@
--- The test of a table's slots, from the fields of the struct that holds the problem: of a slot, of a row, of the table.
-use Prim.Native.Nat.{ℕ, _+_, _*_, _-_, _≤_, _<_}
+-- The test of a table's slots, from the fields of the struct that holds the problem: of a slot, and along the rows.
+use Prim.Native.Nat.{ℕ, _+_, _*_, _-_, _/_, _≤_, _<_}
 use mathlib.Core.Bool.{true, false, not}
 use mathlib.Core.List.{List}
-use mathlib.Core.Path.{_≡_, refl, sym, ap, _∙_}
-use native.Mathlib.Nat.{le-of-eq, mul-le-mul, mul-le-mul-right}
+use mathlib.Core.Path.{_≡_, refl, ap}
+use native.Mathlib.Nat.{le-mul-of-pos-right, mul-le-mul, mul-le-mul-right}
 use native.Mathlib.Numerals.{sub-one}
 use native.Mathlib.Omega.{arith}
 use lib.Arith.{digits-div}
-use lib.ListN.{length, getD, take, drop, List·getD-eq-default}
+use lib.ListN.{length, getD, List·getD-eq-default}
 use borrow.Author.Tests.{eq-eqb, ne-eqb}
-use Rattle.laws.specs.PartLaws.{length-part, getD-part}
-use Rattle.laws.specs.PartSearchLaws.{first-same, first-in-part, none-after-part}
-use Rattle.laws.specs.Search.{first}
-use Rattle.laws.specs.SearchFacts.{first-of-none}
 use Rattle.instance.specs.Held.{problemIn, Sound, held-span}
 use Rattle.instance.specs.Limits.{mostCores, mostSpan}
 use Rattle.instance.specs.Node.{Problem, span}
@@ -39,35 +35,39 @@ module _ (p : Problem) (plan : List ℕ) (k slot : ℕ) where
 pub row-within-table : (p : Problem) (w n k : ℕ) → w ≡ span p → tableSize p ≤ n → k < p .cores → k * w + w ≤ n
 row-within-table p w n k wide room h = let whole : p .cores * w ≤ n = rw wide room in omega (arith, mul-le-mul-right w h)
 
--- all rows were searched
-pub no-stray-in-rows : (p : Problem) (plan table : List ℕ) (w k : ℕ) → w ≡ span p → length table ≡ tableSize p → k ≡ p .cores →
-    ((x : ℕ) → x < k * w → straySlot p plan table x ≡ false) → length table ≡ first (straySlot p plan table) (tableSize p)
-no-stray-in-rows p plan table w k wide size all none =
-    size ∙ sym (first-of-none (straySlot p plan table) (tableSize p) (λ x l. none x (rw (all, wide) l)))
+-- a walk over rows of w slots stands at slot x: in core k's row, which ends before the slot `next`, or at its end
+pub record AtSlot (w k next x : ℕ) : Type 0 where
+  pub row-end : next ≡ k * w + w
+  pub from : k * w ≤ x
+  pub to : x ≤ next
 
--- the search of core k's row, and what it says of the table
-module _ (p : Problem) (plan table : List ℕ) (w : ℕ) (wide : w ≡ span p) (size : length table ≡ tableSize p) (k : ℕ) (h : k < p .cores) where
-  row-slot : (t : ℕ) → t < w →
-      strayValue p plan k (getD (take ((k * w + w) - k * w) (drop (k * w) table)) t 0) ≡ straySlot p plan table (k * w + t)
+pub record InRow (w k next x : ℕ) : Type 0 where
+  pub row-end : next ≡ k * w + w
+  pub from : k * w ≤ x
+  pub below : x < next
+
+module _ {w k next x : ℕ} where
+  pub core-at-most : 0 < w → AtSlot w k next x → k ≤ x
+  core-at-most some at = omega (arith, le-mul-of-pos-right k some, at .from)
+
+  pub row-goes-on : AtSlot w k next x → (x ≡ next → ⊥) → InRow w k next x
+  row-goes-on at differs = record { row-end = at .row-end; from = at .from; below = omega (arith, at .to) }
+
+  pub next-row-begins : 0 < w → AtSlot w k next x → x ≡ next → InRow w (k + 1) (next + w) x
+  next-row-begins some at same =
+      record { row-end = omega (arith, at .row-end); from = omega (arith, at .row-end); below = omega arith }
+
+  pub slot-passed : InRow w k next x → AtSlot w k next (x + 1)
+  slot-passed at = record { row-end = at .row-end; from = omega (arith, at .from); to = omega (arith, at .below) }
+
+  -- the row that a slot is in is its core's
+  pub slot-of-core : (p : Problem) (plan table : List ℕ) → w ≡ span p → InRow w k next x →
+      strayValue p plan k (getD table x 0) ≡ straySlot p plan table x
   unfolding straySlot
-  row-slot t l = rw (← wide, digits-div k l, getD-part table (k * w) w t 0 l) refl
-
-  pub in-its-row : (t : ℕ) → let row = take ((k * w + w) - k * w) (drop (k * w) table) in
-      t ≡ first (λ t. strayValue p plan k (getD row t 0)) (length row) → t ≡ first (λ t. straySlot p plan table (k * w + t)) w
-  in-its-row t found =
-      found
-      ∙ rw (length-part table (k * w) w (row-within-table p w (length table) k wide (le-of-eq (sym size)) h))
-      (first-same _ (λ t. straySlot p plan table (k * w + t)) w row-slot)
-
-  module _ (none-before : (x : ℕ) → x < k * w → straySlot p plan table x ≡ false) (t : ℕ)
-      (found : t ≡ first (λ t. straySlot p plan table (k * w + t)) w) where
-    pub stray-in-row-is-first-stray : t < w → k * w + t ≡ first (straySlot p plan table) (tableSize p)
-    stray-in-row-is-first-stray l =
-        rw (← wide, first-in-part (straySlot p plan table) w k none-before (p .cores) h (rw found at l))
-        (ap (λ (t : ℕ). k * w + t) found)
-
-    pub no-stray-after-row : w ≤ t → (x : ℕ) → x < (k + 1) * w → straySlot p plan table x ≡ false
-    no-stray-after-row past = none-after-part (straySlot p plan table) w k none-before (rw found at past)
+  slot-of-core p plan table wide at =
+      let split : k * w + (x - k * w) ≡ x = omega (arith, at .from) in
+      let core : (k * w + (x - k * w)) / w ≡ k = digits-div k (omega (arith, at .from, at .below, at .row-end)) in
+      rw (← wide, rw split at core) refl
 
 pub table-size-at-most : (p : Problem) → Valid p → tableSize p ≤ mostCores * mostSpan
 table-size-at-most p v = mul-le-mul (v .cores .at-most) (v .span-at-most)

@@ -12,15 +12,14 @@ use instance::Refusal;
 use instance::Verdict;
 use instance::read_instance;
 ghost use mathlib.Core.Path.{_≡_};
-ghost use mathlib.Core.Bool.{not};
 ghost use Prim.Native.Nat.{_+_, _*_, _<_};
 ghost use lib.Dec.{eqb};
 ghost use lib.ListN.{length, getD};
-ghost use Rattle.laws.specs.Search.{first, count};
+ghost use Rattle.laws.specs.Search.{count};
 ghost use Rattle.instance.specs.Held.{Sound, problemIn};
 ghost use Rattle.instance.specs.Node.{taskCount, span};
 ghost use Rattle.schedule.specs.Drawings.{AllowedPlan};
-ghost use Rattle.schedule.specs.Checks.{strayValue, straySlot, slotsPass, jobSlots, isServed, jobsPass, check};
+ghost use Rattle.schedule.specs.Checks.{strayValue, slotsPass, jobSlots, isServed, jobsPass, check};
 ghost use Rattle.schedule.specs.Outcomes.{checkOutcome};
 ghost use Rattle.schedule.specs.Quantities.{choiceAt, coreOf, jobs};
 ghost use Rattle.schedule.specs.Tables.{releaseOf, tableSize};
@@ -40,62 +39,26 @@ fn is_stray(inst: Instance, plan: &[u32], k: usize, slot: u8) -> bool
     true
 }
 
-// The first stray slot of core k's row, or the row's length.
-fn first_stray_in_row(inst: Instance, plan: &[u32], k: usize, row: &[u8]) -> usize
-    requires { ⌜ Sound inst ⌝ }
-    ensures { λ r. ⌜ r ≡ first (λ t. strayValue (problemIn inst) (now (plan .entry)) k (getD (now (row .entry)) t 0)) (length (now (row .entry))) ⌝ }
-{
-    let mut t = 0;
-    while t < row.len() {
-        if is_stray(inst, plan, k, row[t]) {
-            return t;
-        }
-        t += 1;
-    }
-    t
-}
-
-// The first stray slot of core k's row of a table, or the row's length.
-fn first_stray_of_core(inst: Instance, plan: &[u32], table: &[u8], k: usize) -> usize
-    requires { ⌜ Sound inst ⌝ }
-    requires { ⌜ length (now table) ≡ tableSize (problemIn inst) ⌝ }
-    requires { ⌜ k < problemIn inst .cores ⌝ }
-    ensures { λ r. ⌜ r ≡ first (λ t. straySlot (problemIn inst) (now (plan .entry)) (now (table .entry)) (k * inst .span + t)) (inst .span) ⌝ }
-{
-    let span = inst.span as usize;
-    let from = k * span;
-    let to = from + span;
-    first_stray_in_row(inst, plan, k, &table[from..to])
-}
-
-// The first stray slot of a table, or the table's length.
-fn first_stray(inst: Instance, plan: &[u32], table: &[u8]) -> usize
-    requires { ⌜ Sound inst ⌝ }
-    requires { ⌜ length (now table) ≡ tableSize (problemIn inst) ⌝ }
-    ensures { λ r. ⌜ r ≡ first (straySlot (problemIn inst) (now (plan .entry)) (now (table .entry))) (tableSize (problemIn inst)) ⌝ }
-{
-    let cores = inst.cores as usize;
-    let span = inst.span as usize;
-    let mut k = 0;
-    while k < cores {
-        let t = first_stray_of_core(inst, plan, table, k);
-        if t < span {
-            return k * span + t;
-        }
-        k += 1;
-    }
-    table.len()
-}
-
-// The test of the slots, where a table has as many as it must.
+// The test of the slots, where a table has as many as it must: x is the slot that is looked at, k the core that it is of,
+// and next the slot at which the next core's row begins.
 fn slots_named(inst: Instance, plan: &[u32], table: &[u8]) -> Verdict
     requires { ⌜ Sound inst ⌝ }
     requires { ⌜ length (now table) ≡ tableSize (problemIn inst) ⌝ }
     ensures { λ r. ⌜ r ≡ slotsPass (problemIn inst) (now (plan .entry)) (now (table .entry)) ⌝ }
 {
-    let x = first_stray(inst, plan, table);
-    if x < table.len() {
-        return Verdict::Refused(Refusal::GivenTable(x));
+    let span = inst.span as usize;
+    let mut k = 0;
+    let mut next = span;
+    let mut x = 0;
+    while x < table.len() {
+        if x == next {
+            k += 1;
+            next += span;
+        }
+        if is_stray(inst, plan, k, table[x]) {
+            return Verdict::Refused(Refusal::GivenTable(x));
+        }
+        x += 1;
     }
     Verdict::Accepted
 }
@@ -189,32 +152,19 @@ fn is_served(inst: Instance, plan: &[u32], table: &[u8], i: usize) -> bool
     jobs_served(inst, plan, table, i)
 }
 
-// The first task that has a job with more or fewer slots than ticks, or the number of tasks.
-fn first_unserved(inst: Instance, plan: &[u32], table: &[u8]) -> usize
-    requires { ⌜ Sound inst ⌝ }
-    requires { ⌜ AllowedPlan (problemIn inst) (now plan) ⌝ }
-    requires { ⌜ length (now table) ≡ tableSize (problemIn inst) ⌝ }
-    ensures { λ r. ⌜ r ≡ first (λ i. not (isServed (problemIn inst) (now (plan .entry)) (now (table .entry)) i)) (taskCount (problemIn inst)) ⌝ }
-{
-    let mut i = 0;
-    while i < inst.taskcount {
-        if !is_served(inst, plan, table, i) {
-            return i;
-        }
-        i += 1;
-    }
-    i
-}
-
+// The test of the jobs: none has more or fewer slots than ticks.
 fn jobs_pass(inst: Instance, plan: &[u32], table: &[u8]) -> Verdict
     requires { ⌜ Sound inst ⌝ }
     requires { ⌜ AllowedPlan (problemIn inst) (now plan) ⌝ }
     requires { ⌜ length (now table) ≡ tableSize (problemIn inst) ⌝ }
     ensures { λ r. ⌜ r ≡ jobsPass (problemIn inst) (now (plan .entry)) (now (table .entry)) ⌝ }
 {
-    let i = first_unserved(inst, plan, table);
-    if i < inst.taskcount {
-        return Verdict::Refused(Refusal::JobSlots(i + 1));
+    let mut i = 0;
+    while i < inst.taskcount {
+        if !is_served(inst, plan, table, i) {
+            return Verdict::Refused(Refusal::JobSlots(i + 1));
+        }
+        i += 1;
     }
     Verdict::Accepted
 }

@@ -6,13 +6,11 @@ use instance::MAY_NOT_BE_REFUSED;
 use instance::Refusal;
 use instance::Verdict;
 ghost use mathlib.Core.Path.{_≡_};
-ghost use mathlib.Core.Bool.{not};
 ghost use Prim.Native.Nat.{min, _<_};
 ghost use lib.ListN.{length};
 ghost use Rattle.instance.specs.Held.{Sound, problemIn};
 ghost use Rattle.instance.specs.Node.{taskCount};
-ghost use Rattle.schedule.specs.Plans.{badChoice, choicesPass, fits, coresFit, planPasses};
-ghost use Rattle.laws.specs.Search.{first};
+ghost use Rattle.schedule.specs.Plans.{badChoice, choicesPass, coresFit, planPasses};
 
 // Whether a choice is above every choice that names a core and a level, or refuses a task that may not be refused.
 fn is_bad_choice(inst: Instance, plan: &[u32], i: usize) -> bool
@@ -29,31 +27,18 @@ fn is_bad_choice(inst: Instance, plan: &[u32], i: usize) -> bool
     inst.cores * (inst.levelcount as u32) < choice
 }
 
-// The first task whose choice is bad, or the number of tasks.
-fn first_bad_choice(inst: Instance, plan: &[u32]) -> usize
-    requires { ⌜ Sound inst ⌝ }
-    requires { ⌜ length (now plan) ≡ taskCount (problemIn inst) ⌝ }
-    ensures { λ r. ⌜ r ≡ first (badChoice (problemIn inst) (now (plan .entry))) (taskCount (problemIn inst)) ⌝ }
-{
-    let mut i = 0;
-    while i < inst.taskcount {
-        if is_bad_choice(inst, plan, i) {
-            return i;
-        }
-        i += 1;
-    }
-    i
-}
-
 // The test of the choices, where there is one for each task.
 fn choices_allowed(inst: Instance, plan: &[u32]) -> Verdict
     requires { ⌜ Sound inst ⌝ }
     requires { ⌜ length (now plan) ≡ taskCount (problemIn inst) ⌝ }
     ensures { λ r. ⌜ r ≡ choicesPass (problemIn inst) (now (plan .entry)) ⌝ }
 {
-    let i = first_bad_choice(inst, plan);
-    if i < inst.taskcount {
-        return Verdict::Refused(Refusal::GivenPlan(i));
+    let mut i = 0;
+    while i < inst.taskcount {
+        if is_bad_choice(inst, plan, i) {
+            return Verdict::Refused(Refusal::GivenPlan(i));
+        }
+        i += 1;
     }
     Verdict::Accepted
 }
@@ -78,32 +63,19 @@ pub(crate) fn choices_pass(inst: Instance, plan: &[u32]) -> Verdict
     Verdict::Refused(Refusal::GivenPlan(smaller(plan.len(), inst.taskcount)))
 }
 
-// The first core that does not fit, or the number of cores.
-fn first_overloaded(inst: Instance, plan: &[u32]) -> usize
+fn cores_fit(inst: Instance, plan: &[u32]) -> Verdict
     requires { ⌜ Sound inst ⌝ }
     requires { ⌜ length (now plan) ≡ taskCount (problemIn inst) ⌝ }
-    ensures { λ r. ⌜ r ≡ first (λ k. not (fits (problemIn inst) (now (plan .entry)) k)) (problemIn inst .cores) ⌝ }
+    ensures { λ r. ⌜ r ≡ coresFit (problemIn inst) (now (plan .entry)) ⌝ }
 {
     let cores = inst.cores as usize;
     let mut k = 0;
     while k < cores {
         let load = core_load(inst, plan, k);
         if (inst.span as u64) < load {
-            return k;
+            return Verdict::Refused(Refusal::CoreOverloaded(k + 1));
         }
         k += 1;
-    }
-    k
-}
-
-fn cores_fit(inst: Instance, plan: &[u32]) -> Verdict
-    requires { ⌜ Sound inst ⌝ }
-    requires { ⌜ length (now plan) ≡ taskCount (problemIn inst) ⌝ }
-    ensures { λ r. ⌜ r ≡ coresFit (problemIn inst) (now (plan .entry)) ⌝ }
-{
-    let k = first_overloaded(inst, plan);
-    if k < inst.cores as usize {
-        return Verdict::Refused(Refusal::CoreOverloaded(k + 1));
     }
     Verdict::Accepted
 }

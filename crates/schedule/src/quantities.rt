@@ -30,18 +30,6 @@ pub fn jobs_in(span: u32, period: u32) -> u32
     span / period
 }
 
-// The level that a choice names, counted from 0.
-fn level_of(choice: u32, levels: usize) -> usize
-    requires { ⌜ 0 < levels ⌝ }
-    ensures { λ r. ⌜ r ≡ pred choice % levels ⌝ }
-    ensures { λ r. ⌜ r < levels ⌝ }
-{
-    if choice == 0 {
-        return 0;
-    }
-    (choice - 1) as usize % levels
-}
-
 // The core that a choice names, counted from 0.
 pub(crate) fn core_of(choice: u32, levels: usize) -> usize
     requires { ⌜ 0 < levels ⌝ }
@@ -62,12 +50,15 @@ pub(crate) fn task_of(inst: Instance, i: usize) -> Task
     inst.tasks[i]
 }
 
-// What a choice's level is: its speed and power.
+// The level that a choice names.
 pub(crate) fn chosen_level(inst: Instance, choice: u32) -> Level
     requires { ⌜ Sound inst ⌝ }
     ensures { λ r. ⌜ r ≡ levelAt (problemIn inst) (pred choice % levelCount (problemIn inst)) ⌝ }
 {
-    let l = level_of(choice, inst.levelcount);
+    let mut l = 0;
+    if choice != 0 {
+        l = (choice - 1) as usize % inst.levelcount;
+    }
     inst.levels[l]
 }
 

@@ -10,46 +10,14 @@ use instance::Verdict;
 use instance::read_instance;
 ghost use mathlib.Core.Path.{_≡_};
 ghost use Prim.Native.Nat.{_≤_};
-ghost use lib.ListN.{length, replicate};
-ghost use Rattle.laws.specs.Lists.{listOf, onto};
+ghost use lib.ListN.{length};
+ghost use Rattle.laws.specs.Lists.{onto};
 ghost use Rattle.instance.specs.Held.{Sound, problemIn};
-ghost use Rattle.instance.specs.Limits.{mostTasks};
-ghost use Rattle.instance.specs.Node.{taskCount, taskAt};
+ghost use Rattle.instance.specs.Node.{taskCount};
 ghost use Rattle.instance.specs.Refusals.{accepted};
 ghost use Rattle.schedule.specs.HeldTables.{HeldCore};
 ghost use Rattle.schedule.specs.Outcomes.{tableOutcomeOf, tableOutcome};
-ghost use Rattle.schedule.specs.Quantities.{ticksOn};
 ghost use Rattle.schedule.specs.Tables.{tableOf, tableSize};
-
-// The tasks' periods.
-fn periods_of(inst: Instance) -> [u32; 12]
-    requires { ⌜ Sound inst ⌝ }
-    ensures { λ r. ⌜ r ≡ onto (listOf (λ i. taskAt (problemIn inst) i .period) (taskCount (problemIn inst))) (replicate mostTasks 0) ⌝ }
-{
-    let mut periods = [0; 12];
-    let mut i = 0;
-    while i < inst.taskcount {
-        let task = task_of(inst, i);
-        periods[i] = task.period;
-        i += 1;
-    }
-    periods
-}
-
-// The ticks of a job of each task on core k, counted from 0.
-fn ticks_of_core(inst: Instance, plan: &[u32], k: usize) -> [u32; 12]
-    requires { ⌜ Sound inst ⌝ }
-    requires { ⌜ length (now plan) ≡ taskCount (problemIn inst) ⌝ }
-    ensures { λ r. ⌜ r ≡ onto (listOf (ticksOn (problemIn inst) (now (plan .entry)) k) (taskCount (problemIn inst))) (replicate mostTasks 0) ⌝ }
-{
-    let mut ticks = [0; 12];
-    let mut i = 0;
-    while i < inst.taskcount {
-        ticks[i] = ticks_on(inst, plan, k, i);
-        i += 1;
-    }
-    ticks
-}
 
 // What core k, counted from 0, knows of the tasks.
 fn core_tasks(inst: Instance, plan: &[u32], k: usize) -> Core
@@ -57,12 +25,19 @@ fn core_tasks(inst: Instance, plan: &[u32], k: usize) -> Core
     requires { ⌜ length (now plan) ≡ taskCount (problemIn inst) ⌝ }
     ensures { λ r. ⌜ HeldCore (problemIn inst) (now (plan .entry)) k r ⌝ }
 {
-    let periods = periods_of(inst);
-    let ticks = ticks_of_core(inst, plan, k);
+    let mut period = [0; 12];
+    let mut ticks = [0; 12];
+    let mut i = 0;
+    while i < inst.taskcount {
+        let task = task_of(inst, i);
+        period[i] = task.period;
+        ticks[i] = ticks_on(inst, plan, k, i);
+        i += 1;
+    }
     Core {
         size: inst.taskcount,
-        period: periods,
-        window: periods,
+        period,
+        window: period,
         ticks,
     }
 }

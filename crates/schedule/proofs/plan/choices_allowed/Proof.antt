@@ -1,28 +1,79 @@
-use borrow.Author.Needs.{needs}
-use mathlib.Core.Path.{refl, _∙_}
-use Rattle.instance.specs.Held.{held-taskcount}
+-- `choices_allowed` tries the choices in order: none that it has passed is bad.
+use Prim.Native.Nat.{ℕ, _-_, _≤_, _<_}
+use mathlib.Core.Bool.{false}
+use mathlib.Core.Path.{_≡_, refl, sym, _∙_}
+use native.Mathlib.Omega.{arith}
+use borrow.Author.Count.{below-none, below-more}
+use Rattle.laws.specs.FirstLaws.{first-unique}
+use Rattle.laws.specs.Search.{first}
+use Rattle.instance.specs.Held.{problemIn, held-taskcount}
+use Rattle.instance.specs.Node.{taskCount}
 use Rattle.instance.specs.declared.Refusal.the-variants.{GivenPlan}
-use Rattle.schedule.specs.Plans.{choicesPass}
+use Rattle.schedule.specs.Plans.{badChoice, choicesPass}
 use Rattle.schedule.specs.VerdictLaws.{found-is-refused, none-found-passes, same-length-goes-on}
 use Rattle.schedule.proofs.plan.choices_allowed.Statement.{statement}
 use Rattle.schedule.proofs.plan.choices_allowed.Tie as tie
 
-first-bad-choice-requires : tie.Need-first-bad-choice-requires
-first-bad-choice-requires c κs = search needs
+abbrev Inv-loop : tie.InvT-loop
+Inv-loop inst plan i₀ i = (i ≤ inst .taskcount) × ((x : ℕ) → x < i → badChoice (problemIn inst) plan x ≡ false)
 
-returns : tie.Need-returns
+abbrev μ-loop : tie.MeasureT-loop
+μ-loop inst plan i₀ i = inst .taskcount - i
+
+loop-holds : tie.Need-loop-holds Inv-loop μ-loop
+loop-holds c = (omega arith, below-none _)
+
+is-bad-choice-requires : tie.Need-is-bad-choice-requires Inv-loop μ-loop
+is-bad-choice-requires c κs = let start = c .before .before .before .before in
+    let count = held-taskcount _ (start .pre .0) in
+    (start .pre .0, (omega (arith, c .if1 .taken), start .pre .1))
+
+returns : tie.Need-returns Inv-loop μ-loop
 unfolding choicesPass
-returns c = let start = c .before .before .before .before in
-    let size = held-taskcount _ (start .pre .0) in
-    found-is-refused GivenPlan _ _ size _ _ (c .before .before .first-bad-choice .ensures) (c .if1 .taken)
+returns c = let start = c .before .before .before .before .before .before in
+    let wanted = held-taskcount _ (start .pre .0) in
+    let found : c .before .before .before .before .loop .i ≡ first (badChoice (problemIn (start .args .inst)) (start .args .plan .now)) (taskCount (problemIn (start .args .inst))) =
+    sym (first-unique _ (record {
+      at-most = omega (arith, c .before .before .before .before .loop .inv .0, wanted);
+      none-below = c .before .before .before .before .loop .inv .1;
+      passes-below = λ below. sym (c .before .is-bad-choice .ensures) ∙ (c .if2 .taken);
+    })) in
+    found-is-refused GivenPlan _ _ wanted _ _ found (c .before .before .if1 .taken)
     ∙ same-length-goes-on GivenPlan _ _ refl _ _ (start .pre .1)
 
-returns-2 : tie.Need-returns-2
+add-i : tie.Need-add-i Inv-loop μ-loop
+add-i c = omega arith
+
+loop-less : tie.Need-loop-less Inv-loop μ-loop
+loop-less c = omega (arith, c .before .before .if1 .taken)
+
+loop-again : tie.Need-loop-again Inv-loop μ-loop
+loop-again c = let start = c .before .before .before .before .before .before in
+    (omega (arith, c .before .before .if1 .taken), below-more _ _ (c .before .before .before .before .loop .inv .1) (sym (c .before .is-bad-choice .ensures) ∙ (c .if2 .left)))
+
+returns-2 : tie.Need-returns-2 Inv-loop μ-loop
 unfolding choicesPass
 returns-2 c = let start = c .before .before .before .before in
-    let size = held-taskcount _ (start .pre .0) in
-    none-found-passes GivenPlan _ _ size _ _ (c .before .before .first-bad-choice .ensures) (c .if1 .left)
+    let wanted = held-taskcount _ (start .pre .0) in
+    let found : c .before .before .loop .i ≡ first (badChoice (problemIn (start .args .inst)) (start .args .plan .now)) (taskCount (problemIn (start .args .inst))) =
+    sym (first-unique _ (record {
+      at-most = omega (arith, c .before .before .loop .inv .0, wanted);
+      none-below = c .before .before .loop .inv .1;
+      passes-below = λ below. absurd (omega (arith, c .if1 .left));
+    })) in
+    none-found-passes GivenPlan _ _ wanted _ _ found (c .if1 .left)
     ∙ same-length-goes-on GivenPlan _ _ refl _ _ (start .pre .1)
 
 pub choices-allowed-spec : {M : Type 1} → statement M
-choices-allowed-spec = tie.close (tie.spec first-bad-choice-requires returns returns-2)
+choices-allowed-spec =
+    tie.close
+    (tie.spec
+    Inv-loop
+    μ-loop
+    loop-holds
+    is-bad-choice-requires
+    returns
+    add-i
+    loop-less
+    loop-again
+    returns-2)
