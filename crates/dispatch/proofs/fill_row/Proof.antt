@@ -6,6 +6,9 @@ use borrow.Author.Needs.{needs}
 use Rattle.dispatch.proofs.fill_row.Statement.{statement}
 use Rattle.dispatch.proofs.fill_row.Tie as tie
 
+cast-if1 : tie.Need-cast-if1
+cast-if1 c = search needs
+
 returns : tie.Need-returns
 returns c = search needs
 
@@ -28,4 +31,4 @@ returns-3 c =
 pub fill-row-spec : {M : Type 1} → statement M
 fill-row-spec =
     tie.close
-    (tie.spec returns is-sound-requires returns-2 write-row-requires same-length returns-3)
+    (tie.spec cast-if1 returns is-sound-requires returns-2 write-row-requires same-length returns-3)

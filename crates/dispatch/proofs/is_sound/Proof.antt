@@ -5,6 +5,9 @@ use borrow.Author.Needs.{needs}
 use Rattle.dispatch.proofs.is_sound.Statement.{statement}
 use Rattle.dispatch.proofs.is_sound.Tie as tie
 
+cast-if1 : tie.Need-cast-if1
+cast-if1 c = search needs
+
 returns : tie.Need-returns
 returns c = search needs
 
@@ -15,4 +18,4 @@ returns-2 : tie.Need-returns-2
 returns-2 c = core-told _ (c .tasks-sound .result) (omega arith) (c .tasks-sound .ensures)
 
 pub is-sound-spec : {M : Type 1} → statement M
-is-sound-spec = tie.close (tie.spec returns tasks-sound-requires returns-2)
+is-sound-spec = tie.close (tie.spec cast-if1 returns tasks-sound-requires returns-2)
