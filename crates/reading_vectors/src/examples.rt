@@ -77,7 +77,7 @@ fn show_spelt(kind: u8, bytes: &[u8; 256], n: usize) {
 
 // The words of a text; none where they are not read.
 fn words_of(text: &[u8], words: &mut [u32; 64]) -> usize {
-    match instance::words_of_text(text, words) {
+    match text::words_of_text(text, words) {
         TextRead::Words(n) => n,
         TextRead::Refused(_) => 0,
     }

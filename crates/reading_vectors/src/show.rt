@@ -39,7 +39,7 @@ fn print_front(words: &[u32], n: usize) {
 // The words of a text, read into a buffer with room for all.
 pub(crate) fn text(bytes: &[u8]) {
     let mut words = [7u32; 2048];
-    match instance::words_of_text(bytes, &mut words) {
+    match text::words_of_text(bytes, &mut words) {
         TextRead::Words(n) => print_front(&words, n),
         TextRead::Refused(r) => print_refusal(r),
     }
@@ -53,7 +53,7 @@ fn print_count(n: usize) {
 // The same with a buffer of three words that held 7, 8 and 9, and what the buffer holds then.
 pub(crate) fn text_into_three(bytes: &[u8]) {
     let mut words = [7u32, 8, 9];
-    match instance::words_of_text(bytes, &mut words) {
+    match text::words_of_text(bytes, &mut words) {
         TextRead::Words(n) => print_count(n),
         TextRead::Refused(r) => print_refusal(r),
     }

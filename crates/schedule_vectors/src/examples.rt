@@ -53,7 +53,7 @@ fn run_at(text: &[u8], start: usize, kind: u8, given: &[u8]) {
 
 // The words of a text; none where they are not read.
 fn words_of(text: &[u8], words: &mut [u32; 64]) -> usize {
-    match instance::words_of_text(text, words) {
+    match text::words_of_text(text, words) {
         TextRead::Words(n) => n,
         TextRead::Refused(_) => 0,
     }
