@@ -37,7 +37,7 @@ abbrev pub mostRefusalCost : ℕ
 mostRefusalCost = mostWeight * (mostSpan * mostPenalty)
 
 module _ {p : Problem} (v : Valid p) where
-  pub jobs-of-task-at-most : (i : ℕ) → i < taskCount p → jobsOf p (taskAt p i) ≤ mostSpan
+  jobs-of-task-at-most : (i : ℕ) → i < taskCount p → jobsOf p (taskAt p i) ≤ mostSpan
   unfolding jobs jobsOf
   jobs-of-task-at-most i h = jobs-at-most p v [] i h
 

@@ -1,74 +1,57 @@
 // A problem as the search takes it: what each task asks of a core and costs, at each level and where it is refused.
 use instance::Instance;
 use instance::MAY_NOT_BE_REFUSED;
+use instance::Task;
 use schedule::jobs_in;
 use schedule::ticks_of;
 ghost use Prim.Native.Nat.{_+_, _*_, _≤_, _<_};
 ghost use mathlib.Core.Path.{_≡_};
 ghost use Rattle.instance.specs.Held.{Sound, problemIn};
-ghost use Rattle.instance.specs.Node.{levelCount, span, taskAt, taskCount};
+ghost use Rattle.instance.specs.Limits.{mostPower};
+ghost use Rattle.instance.specs.Node.{span, taskAt, taskCount};
 ghost use Rattle.planner.specs.OfferedOptions.{LevelsOffered, OptionsOffered};
 ghost use Rattle.planner.specs.OptionsOf.{itemOf};
 
-// What task i asks of a core over a span, at level l.
-fn load_at(inst: Instance, i: usize, l: usize) -> u64
+// What a load costs at a level of this power, where a core takes it. A load that no core takes is never chosen, and its
+// cost need not fit 64 bits.
+fn cost_of(inst: Instance, load: u64, power: u32) -> u64
     requires { ⌜ Sound inst ⌝ }
-    requires { ⌜ i < taskCount (problemIn inst) ⌝ }
-    requires { ⌜ l < levelCount (problemIn inst) ⌝ }
-    ensures { λ r. ⌜ r ≡ itemOf (problemIn inst) (taskAt (problemIn inst) i) .load l ⌝ }
+    requires { ⌜ power ≤ mostPower ⌝ }
+    ensures { λ r. ⌜ (load ≤ span (problemIn inst) → r ≡ inst .weights .energy * (load * power)) ⌝ }
 {
-    let jobs = jobs_in(inst.span, inst.tasks[i].period);
-    let ticks = ticks_of(inst.tasks[i].cycles, inst.levels[l].speed);
-    jobs as u64 * ticks as u64
-}
-
-// What that costs, where a core takes it. A load that no core takes is never chosen, and its cost need not fit 64 bits.
-fn cost_at(inst: Instance, i: usize, l: usize) -> u64
-    requires { ⌜ Sound inst ⌝ }
-    requires { ⌜ i < taskCount (problemIn inst) ⌝ }
-    requires { ⌜ l < levelCount (problemIn inst) ⌝ }
-    ensures { λ r. ⌜ (itemOf (problemIn inst) (taskAt (problemIn inst) i) .load l ≤ span (problemIn inst) →
-        r ≡ itemOf (problemIn inst) (taskAt (problemIn inst) i) .cost l) ⌝ }
-{
-    let load = load_at(inst, i, l);
     let span = inst.span as u64;
     if span < load {
         return 0;
     }
-    inst.weights.energy as u64 * (load * inst.levels[l].power as u64)
+    inst.weights.energy as u64 * (load * power as u64)
 }
 
-// What refusing task i costs.
-fn refusal_of(inst: Instance, i: usize) -> u64
+// What refusing a task costs.
+fn refusal_of(inst: Instance, task: Task) -> u64
     requires { ⌜ Sound inst ⌝ }
-    requires { ⌜ i < taskCount (problemIn inst) ⌝ }
-    ensures { λ r. ⌜ r ≡ itemOf (problemIn inst) (taskAt (problemIn inst) i) .refusal ⌝ }
+    ensures { λ r. ⌜ r ≡ itemOf (problemIn inst) task .refusal ⌝ }
 {
-    let missed = jobs_in(inst.span, inst.tasks[i].period);
-    inst.weights.penalty as u64 * (missed as u64 * inst.tasks[i].penalty as u64)
-}
-
-// Whether task i may not be refused.
-fn is_must(inst: Instance, i: usize) -> bool
-    requires { ⌜ Sound inst ⌝ }
-    requires { ⌜ i < taskCount (problemIn inst) ⌝ }
-    ensures { λ r. ⌜ r ≡ itemOf (problemIn inst) (taskAt (problemIn inst) i) .must ⌝ }
-{
-    inst.tasks[i].penalty == MAY_NOT_BE_REFUSED
+    let missed = jobs_in(inst.span, task.period);
+    inst.weights.penalty as u64 * (missed as u64 * task.penalty as u64)
 }
 
 // Writes loads and costs of task i after those of the tasks before it.
-fn fill_levels(inst: Instance, i: usize, load: &mut [u64; 96], cost: &mut [u64; 96])
+fn fill_levels(inst: Instance, task: Task, i: usize, load: &mut [u64; 96], cost: &mut [u64; 96])
     requires { ⌜ Sound inst ⌝ }
     requires { ⌜ i < taskCount (problemIn inst) ⌝ }
+    requires { ⌜ task ≡ taskAt (problemIn inst) i ⌝ }
     requires { ⌜ LevelsOffered (problemIn inst) (i * 8) (now load) (now cost) ⌝ }
     ensures { λ _. ⌜ LevelsOffered (problemIn inst) (i * 8 + 8) (now (load .exit)) (now (cost .exit)) ⌝ }
 {
+    let jobs = jobs_in(inst.span, task.period);
     let mut l = 0;
     while l < inst.levelcount {
+        let level = inst.levels[l];
+        let ticks = ticks_of(task.cycles, level.speed);
+        let asked = jobs as u64 * ticks as u64;
         let at = i * 8 + l;
-        load[at] = load_at(inst, i, l);
-        cost[at] = cost_at(inst, i, l);
+        load[at] = asked;
+        cost[at] = cost_of(inst, asked, level.power);
         l += 1;
     }
 }
@@ -88,9 +71,10 @@ pub(crate) fn fill_options(
 {
     let mut i = 0;
     while i < inst.taskcount {
-        fill_levels(inst, i, load, cost);
-        refusal[i] = refusal_of(inst, i);
-        must[i] = is_must(inst, i);
+        let task = inst.tasks[i];
+        fill_levels(inst, task, i, load, cost);
+        refusal[i] = refusal_of(inst, task);
+        must[i] = task.penalty == MAY_NOT_BE_REFUSED;
         i += 1;
     }
 }

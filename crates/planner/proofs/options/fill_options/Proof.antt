@@ -1,71 +1,73 @@
 use Prim.Native.Nat.{_-_, _≤_, _<_}
-use mathlib.Core.Path.{_≡_}
+use mathlib.Core.Path.{_≡_, _∙_}
 use native.Mathlib.Omega.{arith}
-use Rattle.instance.specs.Held.{problemIn, held-taskcount}
+use Rattle.instance.specs.Held.{problemIn, held-taskcount, held-task}
 use Rattle.instance.specs.Node.{taskCount}
+use Rattle.planner.specs.HeldOptions.{task-refusal, held-must}
 use Rattle.planner.specs.OfferedOptions.{OptionsOffered, options-offered}
 use Rattle.planner.proofs.options.fill_options.Statement.{statement}
 use Rattle.planner.proofs.options.fill_options.Tie as tie
 
 abbrev Inv-loop : tie.InvT-loop
-Inv-loop inst load₀ cost₀ refusal₀ must₀ i₀ load cost refusal must i =
+Inv-loop load₀ cost₀ refusal₀ must₀ inst i₀ load cost refusal must i =
     (i ≤ inst .taskcount) × OptionsOffered (problemIn inst) i load cost refusal must
 
 abbrev μ-loop : tie.MeasureT-loop
-μ-loop inst load₀ cost₀ refusal₀ must₀ i₀ load cost refusal must i = inst .taskcount - i
+μ-loop load₀ cost₀ refusal₀ must₀ inst i₀ load cost refusal must i = inst .taskcount - i
 
-task-below : (c : tie.Then1 Inv-loop μ-loop) → c .before .before .loop .i < taskCount (problemIn (c .before .before .before .args .inst))
-task-below c = omega (arith, held-taskcount _ (c .before .before .before .pre .0))
+task-below : (c : tie.In-loop Inv-loop μ-loop) → c .before .loop .i < taskCount (problemIn (c .before .before .args .t1))
+task-below c = omega (arith, held-taskcount _ (c .before .before .pre .0))
 
-task-within : (c : tie.Then1 Inv-loop μ-loop) → c .before .before .loop .i < 12
-task-within c = omega (arith, task-below c, c .before .before .before .pre .0 .valid .task-count)
+task-within : (c : tie.In-loop Inv-loop μ-loop) → c .before .loop .i < 12
+task-within c = omega (arith, task-below c, c .before .before .pre .0 .valid .task-count)
 
 loop-holds : tie.Need-loop-holds Inv-loop μ-loop
 loop-holds c = (omega arith, c .pre .1)
 
+mul-task : tie.Need-mul-task Inv-loop μ-loop
+mul-task c = omega (arith, task-within c)
+
+element-copy-out-task : tie.Need-element-copy-out-task Inv-loop μ-loop
+element-copy-out-task c = task-within c
+
 fill-levels-requires : tie.Need-fill-levels-requires Inv-loop μ-loop
 fill-levels-requires c κs =
-    let turn = c .before .before in
-    (turn .before .before .before .pre .0, (task-below turn, turn .before .before .loop .inv .1 .levels))
+    let turn = c .before .before .before in
+    let sound = turn .before .before .pre .0 in
+    (sound, (task-below turn, (held-task _ sound _ (task-below turn), turn .before .loop .inv .1 .levels)))
 
 refusal-of-requires : tie.Need-refusal-of-requires Inv-loop μ-loop
-refusal-of-requires c κs =
-    let turn = c .before .before .before in
-    (turn .before .before .before .pre .0, task-below turn)
+refusal-of-requires c κs = c .before .before .before .before .before .before .pre .0
 
 mul-refusal : tie.Need-mul-refusal Inv-loop μ-loop
-mul-refusal c = omega (arith, task-within (c .before .before .before .before))
+mul-refusal c = omega (arith, task-within (c .before .before .before .before .before))
 
 element-write-refusal : tie.Need-element-write-refusal Inv-loop μ-loop
-element-write-refusal c = task-within (c .before .before .before .before)
-
-is-must-requires : tie.Need-is-must-requires Inv-loop μ-loop
-is-must-requires c κs =
-    let turn = c .before .before .before .before in
-    (turn .before .before .before .pre .0, task-below turn)
+element-write-refusal c = task-within (c .before .before .before .before .before)
 
 element-write-must : tie.Need-element-write-must Inv-loop μ-loop
-element-write-must c = task-within (c .before .before .before .before .before)
+element-write-must c = task-within (c .before .before .before .before .before .before)
 
 add-i : tie.Need-add-i Inv-loop μ-loop
-add-i c = omega (arith, task-within (c .before .before .before .before .before))
+add-i c = omega (arith, task-within (c .before .before .before .before .before .before))
 
 loop-less : tie.Need-loop-less Inv-loop μ-loop
 loop-less c = omega arith
 
 loop-again : tie.Need-loop-again Inv-loop μ-loop
 loop-again c =
-    let turn = c .before .before .before .before .before in (
+    let turn = c .before .before .before .before .before .before in
+    let sound = turn .before .before .pre .0 in (
       omega arith,
-      options-offered _ _ _ _ _ _ _ _ _ _ (task-within turn) (turn .before .before .loop .inv .1) (c .before .before .fill-levels .ensures)
-          (c .before .refusal-of .ensures) (c .is-must .ensures),
+      options-offered _ _ _ _ _ _ _ _ _ _ (task-within turn) (turn .before .loop .inv .1) (c .before .before .fill-levels .ensures)
+          (c .before .refusal-of .ensures ∙ task-refusal _ sound _ (task-below turn)) (held-must _ sound _ (task-below turn)),
     )
 
 returns : tie.Need-returns Inv-loop μ-loop
 returns c =
-    let start = c .before .before .before in
-    let end : c .before .before .loop .i ≡ taskCount (problemIn (start .args .inst)) = omega (arith, held-taskcount _ (start .pre .0)) in
-    rw end at (c .before .before .loop .inv .1)
+    let start = c .before .before in
+    let end : c .before .loop .i ≡ taskCount (problemIn (start .args .t1)) = omega (arith, held-taskcount _ (start .pre .0)) in
+    rw end at (c .before .loop .inv .1)
 
 pub fill-options-spec : {M : Type 1} → statement M
 fill-options-spec =
@@ -74,11 +76,12 @@ fill-options-spec =
     Inv-loop
     μ-loop
     loop-holds
+    mul-task
+    element-copy-out-task
     fill-levels-requires
     refusal-of-requires
     mul-refusal
     element-write-refusal
-    is-must-requires
     element-write-must
     add-i
     loop-less
