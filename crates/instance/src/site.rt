@@ -6,10 +6,8 @@ use crate::Refusal;
 use crate::Task;
 use crate::Verdict;
 use crate::Weights;
-use crate::levels::LevelsRead;
 use crate::levels::levels_at;
 use crate::limits;
-use crate::tasks::TasksRead;
 use crate::tasks::tasks_at;
 use crate::word::Pair;
 use crate::word::pair_at;
@@ -17,7 +15,7 @@ ghost use mathlib.Core.Path.{_≡_};
 ghost use lib.ListN.{drop};
 ghost use Rattle.instance.specs.Outcomes.{instanceOutcome};
 ghost use Rattle.instance.specs.SiteFile.{refused};
-ghost use Rattle.instance.specs.SiteRead.{afterSettings, instanceRead, wholeInstance};
+ghost use Rattle.instance.specs.SiteRead.{afterSettings, instanceRead};
 
 fn no_instance(why: Refusal) -> InstanceRead
     ensures { λ r. ⌜ r ≡ instanceRead (refused why) ⌝ }
@@ -43,31 +41,6 @@ fn no_instance(why: Refusal) -> InstanceRead
     }
 }
 
-// The instance that the three sections make.
-fn whole_instance(
-    weights: Weights,
-    cores: u32,
-    levelsection: LevelsRead,
-    tasksection: TasksRead,
-) -> InstanceRead
-    ensures { λ r. ⌜ r ≡ wholeInstance weights cores levelsection tasksection ⌝ }
-{
-    let levels = levelsection.levels;
-    let tasks = tasksection.tasks;
-    InstanceRead {
-        verdict: Verdict::Accepted,
-        instance: Instance {
-            weights,
-            cores,
-            levelcount: levelsection.count,
-            levels,
-            taskcount: tasksection.count,
-            tasks,
-            span: tasksection.span,
-        },
-    }
-}
-
 // What follows the settings: the levels, the tasks, and nothing more.
 fn after_settings(words: &[u32], at: usize, weights: Weights, cores: u32) -> InstanceRead
     ensures { λ r. ⌜ r ≡ instanceRead (afterSettings weights cores at (drop at (now (words .entry)))) ⌝ }
@@ -85,7 +58,20 @@ fn after_settings(words: &[u32], at: usize, weights: Weights, cores: u32) -> Ins
     if tasksection.next < words.len() {
         return no_instance(Refusal::WordCount(tasksection.next));
     }
-    whole_instance(weights, cores, levelsection, tasksection)
+    let levels = levelsection.levels;
+    let tasks = tasksection.tasks;
+    InstanceRead {
+        verdict: Verdict::Accepted,
+        instance: Instance {
+            weights,
+            cores,
+            levelcount: levelsection.count,
+            levels,
+            taskcount: tasksection.count,
+            tasks,
+            span: tasksection.span,
+        },
+    }
 }
 
 // The instance that the words are, or why they are none: the settings are two pairs of words.

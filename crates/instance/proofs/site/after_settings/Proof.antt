@@ -1,5 +1,5 @@
 -- `site::after_settings` meets its contract: each verdict says how far the words are those of an instance.
-use mathlib.Core.Path.{_∙_, ap₂}
+use mathlib.Core.Path.{ap₂}
 use borrow.Author.Needs.{needs}
 use Rattle.instance.specs.Node.{stored, span}
 use Rattle.instance.specs.SiteLaws.{levels-taken, levels-refused, tasks-taken, tasks-refused}
@@ -65,19 +65,17 @@ returns-3 c =
     )
     (c .no-instance3 .ensures)
 
-whole-instance-requires : tie.Need-whole-instance-requires
-whole-instance-requires c κs = search needs
-
 returns-4 : tie.Need-returns-4
 unfolding afterSettings stored span
 returns-4 c =
-    let ended = c .before .before .before in
+    let ended = c .before .before .before .before in
     let tasked = ended .before .before in
     let leveled = tasked .before .before .before in
+    let args = leveled .before .before .args in
     let levels = levels-taken _ _ _ (leveled .levels-at .ensures) (tasked .before .enum-told .given .1) in
     let tasks = tasks-taken _ _ _ (tasked .tasks-at .ensures) (ended .enum-told2 .given .1) in
-    rw (levels .is, tasks .is, end-of-all _ _ (c .before .if1 .left))
-    (c .whole-instance .ensures ∙ ap₂ (wholeInstance (leveled .before .before .args .weights) (leveled .before .before .args .cores)) (levels .answers) (tasks .answers))
+    rw (levels .is, tasks .is, end-of-all _ _ (c .before .before .if1 .left))
+    (ap₂ (wholeInstance (args .weights) (args .cores)) (levels .answers) (tasks .answers))
 
 pub after-settings-spec : {M : Type 1} → statement M
 after-settings-spec =
@@ -95,5 +93,4 @@ after-settings-spec =
     enum-told-2
     no-instance-requires-3
     returns-3
-    whole-instance-requires
     returns-4)
