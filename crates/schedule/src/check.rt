@@ -4,7 +4,7 @@ use crate::plan::smaller;
 use crate::quantities::core_of;
 use crate::quantities::is_kept_on;
 use crate::quantities::job_ticks;
-use crate::quantities::jobs_of;
+use crate::quantities::jobs_in;
 use crate::quantities::task_of;
 use crate::table::table_size;
 use instance::Instance;
@@ -12,17 +12,17 @@ use instance::Refusal;
 use instance::Verdict;
 use instance::read_instance;
 ghost use mathlib.Core.Path.{_≡_};
-ghost use Prim.Native.Nat.{_+_, _*_, _<_};
+ghost use Prim.Native.Nat.{_+_, _*_, _≤_, _<_};
 ghost use lib.Dec.{eqb};
 ghost use lib.ListN.{length, getD};
 ghost use Rattle.laws.specs.Search.{count};
 ghost use Rattle.instance.specs.Held.{Sound, problemIn};
-ghost use Rattle.instance.specs.Node.{taskCount, span};
+ghost use Rattle.instance.specs.Node.{taskCount};
 ghost use Rattle.schedule.specs.Drawings.{AllowedPlan};
-ghost use Rattle.schedule.specs.Checks.{strayValue, slotsPass, jobSlots, isServed, jobsPass, check};
+ghost use Rattle.schedule.specs.Checks.{strayValue, slotsPass, isServed, jobsPass, check};
 ghost use Rattle.schedule.specs.Outcomes.{checkOutcome};
-ghost use Rattle.schedule.specs.Quantities.{choiceAt, coreOf, jobs};
-ghost use Rattle.schedule.specs.Tables.{releaseOf, tableSize};
+ghost use Rattle.schedule.specs.HeldJobs.{jobsServed};
+ghost use Rattle.schedule.specs.Tables.{tableSize};
 
 // Whether a slot of core k, counted from 0, is not 0 and names no task that is kept there.
 fn is_stray(inst: Instance, plan: &[u32], k: usize, slot: u8) -> bool
@@ -89,48 +89,23 @@ fn slots_of(part: &[u8], number: u8) -> usize
     n
 }
 
-// The slot of a table at which job j of task i is released.
-fn release_slot(inst: Instance, plan: &[u32], i: usize, j: usize) -> usize
-    requires { ⌜ Sound inst ⌝ }
-    requires { ⌜ AllowedPlan (problemIn inst) (now plan) ⌝ }
-    requires { ⌜ i < taskCount (problemIn inst) ⌝ }
-    requires { ⌜ j < jobs (problemIn inst) i ⌝ }
-    ensures { λ r. ⌜ r ≡ coreOf (problemIn inst) (now (plan .entry)) i * span (problemIn inst) + releaseOf (problemIn inst) i j ⌝ }
+// Whether each of a task's jobs has as many slots as ticks: `from` is the slot at which the first is released.
+fn jobs_served(
+    table: &[u8],
+    from: usize,
+    number: u8,
+    period: usize,
+    jobs: usize,
+    ticks: usize,
+) -> bool
+    requires { ⌜ from + jobs * period ≤ length (now table) ⌝ }
+    ensures { λ r. ⌜ r ≡ jobsServed (now (table .entry)) from number period jobs ticks ⌝ }
 {
-    let task = task_of(inst, i);
-    let k = core_of(plan[i], inst.levelcount);
-    k * inst.span as usize + j * task.period as usize
-}
-
-// The slots that job j of task i has between its release and its due tick.
-fn job_slots(inst: Instance, plan: &[u32], table: &[u8], i: usize, j: usize) -> usize
-    requires { ⌜ Sound inst ⌝ }
-    requires { ⌜ AllowedPlan (problemIn inst) (now plan) ⌝ }
-    requires { ⌜ length (now table) ≡ tableSize (problemIn inst) ⌝ }
-    requires { ⌜ i < taskCount (problemIn inst) ⌝ }
-    requires { ⌜ j < jobs (problemIn inst) i ⌝ }
-    ensures { λ r. ⌜ r ≡ jobSlots (problemIn inst) (now (plan .entry)) (now (table .entry)) i j ⌝ }
-{
-    let release = release_slot(inst, plan, i, j);
-    let task = task_of(inst, i);
-    let due = release + task.period as usize;
-    slots_of(&table[release..due], i as u8 + 1)
-}
-
-// Whether every job of task i, which is kept, has as many slots as ticks.
-fn jobs_served(inst: Instance, plan: &[u32], table: &[u8], i: usize) -> bool
-    requires { ⌜ Sound inst ⌝ }
-    requires { ⌜ AllowedPlan (problemIn inst) (now plan) ⌝ }
-    requires { ⌜ length (now table) ≡ tableSize (problemIn inst) ⌝ }
-    requires { ⌜ i < taskCount (problemIn inst) ⌝ }
-    requires { ⌜ (choiceAt (now plan) i ≡ 0 → ⊥) ⌝ }
-    ensures { λ r. ⌜ r ≡ isServed (problemIn inst) (now (plan .entry)) (now (table .entry)) i ⌝ }
-{
-    let ticks = job_ticks(inst, plan, i) as usize;
-    let jobs = jobs_of(inst, i) as usize;
     let mut j = 0;
     while j < jobs {
-        if job_slots(inst, plan, table, i, j) != ticks {
+        let release = from + j * period;
+        let due = release + period;
+        if slots_of(&table[release..due], number) != ticks {
             return false;
         }
         j += 1;
@@ -146,10 +121,15 @@ fn is_served(inst: Instance, plan: &[u32], table: &[u8], i: usize) -> bool
     requires { ⌜ i < taskCount (problemIn inst) ⌝ }
     ensures { λ r. ⌜ r ≡ isServed (problemIn inst) (now (plan .entry)) (now (table .entry)) i ⌝ }
 {
-    if plan[i] == 0 {
+    let choice = plan[i];
+    if choice == 0 {
         return true;
     }
-    jobs_served(inst, plan, table, i)
+    let task = task_of(inst, i);
+    let from = core_of(choice, inst.levelcount) * inst.span as usize;
+    let jobs = jobs_in(inst.span, task.period) as usize;
+    let ticks = job_ticks(inst, plan, i) as usize;
+    jobs_served(table, from, i as u8 + 1, task.period as usize, jobs, ticks)
 }
 
 // The test of the jobs: none has more or fewer slots than ticks.

@@ -27,22 +27,6 @@ fn is_bad_choice(inst: Instance, plan: &[u32], i: usize) -> bool
     inst.cores * (inst.levelcount as u32) < choice
 }
 
-// The test of the choices, where there is one for each task.
-fn choices_allowed(inst: Instance, plan: &[u32]) -> Verdict
-    requires { ⌜ Sound inst ⌝ }
-    requires { ⌜ length (now plan) ≡ taskCount (problemIn inst) ⌝ }
-    ensures { λ r. ⌜ r ≡ choicesPass (problemIn inst) (now (plan .entry)) ⌝ }
-{
-    let mut i = 0;
-    while i < inst.taskcount {
-        if is_bad_choice(inst, plan, i) {
-            return Verdict::Refused(Refusal::GivenPlan(i));
-        }
-        i += 1;
-    }
-    Verdict::Accepted
-}
-
 // Of two lengths that differ a refusal names the smaller.
 pub(crate) fn smaller(a: usize, b: usize) -> usize
     ensures { λ r. ⌜ r ≡ min a b ⌝ }
@@ -57,10 +41,17 @@ pub(crate) fn choices_pass(inst: Instance, plan: &[u32]) -> Verdict
     requires { ⌜ Sound inst ⌝ }
     ensures { λ r. ⌜ r ≡ choicesPass (problemIn inst) (now (plan .entry)) ⌝ }
 {
-    if plan.len() == inst.taskcount {
-        return choices_allowed(inst, plan);
+    if plan.len() != inst.taskcount {
+        return Verdict::Refused(Refusal::GivenPlan(smaller(plan.len(), inst.taskcount)));
     }
-    Verdict::Refused(Refusal::GivenPlan(smaller(plan.len(), inst.taskcount)))
+    let mut i = 0;
+    while i < inst.taskcount {
+        if is_bad_choice(inst, plan, i) {
+            return Verdict::Refused(Refusal::GivenPlan(i));
+        }
+        i += 1;
+    }
+    Verdict::Accepted
 }
 
 fn cores_fit(inst: Instance, plan: &[u32]) -> Verdict

@@ -12,7 +12,7 @@ ghost use Rattle.instance.specs.Held.{Sound, problemIn};
 ghost use Rattle.instance.specs.Node.{taskCount};
 ghost use Rattle.instance.specs.declared.Verdict.the-variants.{Accepted};
 ghost use Rattle.schedule.specs.Plans.{planPasses};
-ghost use Rattle.schedule.specs.PriceBounds.{energyOn, penaltyOf};
+ghost use Rattle.schedule.specs.PriceBounds.{penaltyOf};
 ghost use Rattle.schedule.specs.Quantities.{coreEnergy, energy, penalty, priceOf};
 
 // What a plan comes to over one span.
@@ -27,17 +27,6 @@ pub enum Priced {
     Refused(Refusal),
 }
 
-// The energy of task i on core k: none where it is not kept there.
-fn energy_on(inst: Instance, plan: &[u32], k: usize, i: usize) -> u64
-    requires { ⌜ Sound inst ⌝ }
-    requires { ⌜ i < taskCount (problemIn inst) ⌝ }
-    requires { ⌜ i < length (now plan) ⌝ }
-    ensures { λ r. ⌜ r ≡ energyOn (problemIn inst) (now (plan .entry)) k i ⌝ }
-{
-    let level = chosen_level(inst, plan[i]);
-    load_on(inst, plan, k, i) * level.power as u64
-}
-
 fn core_energy(inst: Instance, plan: &[u32], k: usize) -> u64
     requires { ⌜ Sound inst ⌝ }
     requires { ⌜ length (now plan) ≡ taskCount (problemIn inst) ⌝ }
@@ -46,7 +35,8 @@ fn core_energy(inst: Instance, plan: &[u32], k: usize) -> u64
     let mut energy = 0;
     let mut i = 0;
     while i < inst.taskcount {
-        energy += energy_on(inst, plan, k, i);
+        let level = chosen_level(inst, plan[i]);
+        energy += load_on(inst, plan, k, i) * level.power as u64;
         i += 1;
     }
     energy

@@ -7,7 +7,7 @@ ghost use Prim.Native.Nat.{pred, _/_, _%_, _<_};
 ghost use lib.ListN.{length};
 ghost use Rattle.instance.specs.Held.{Sound, problemIn};
 ghost use Rattle.instance.specs.Node.{taskCount, levelCount, levelAt, taskAt};
-ghost use Rattle.schedule.specs.Quantities.{ticks, jobs, keeps, jobTicks, ticksOn, loadOn, coreLoad};
+ghost use Rattle.schedule.specs.Quantities.{ticks, keeps, jobTicks, ticksOn, loadOn, coreLoad};
 
 // The ticks of a job: cycles divided by speed, rounded up; 0 at no speed.
 pub fn ticks_of(cycles: u32, speed: u32) -> u32
@@ -62,16 +62,6 @@ pub(crate) fn chosen_level(inst: Instance, choice: u32) -> Level
     inst.levels[l]
 }
 
-// The jobs of task i in a span.
-pub(crate) fn jobs_of(inst: Instance, i: usize) -> u32
-    requires { ⌜ Sound inst ⌝ }
-    requires { ⌜ i < taskCount (problemIn inst) ⌝ }
-    ensures { λ r. ⌜ r ≡ jobs (problemIn inst) i ⌝ }
-{
-    let task = task_of(inst, i);
-    jobs_in(inst.span, task.period)
-}
-
 // The ticks of a job of task i at the level that its choice names.
 pub(crate) fn job_ticks(inst: Instance, plan: &[u32], i: usize) -> u32
     requires { ⌜ Sound inst ⌝ }
@@ -117,7 +107,8 @@ pub(crate) fn load_on(inst: Instance, plan: &[u32], k: usize, i: usize) -> u64
     requires { ⌜ i < length (now plan) ⌝ }
     ensures { λ r. ⌜ r ≡ loadOn (problemIn inst) (now (plan .entry)) k i ⌝ }
 {
-    jobs_of(inst, i) as u64 * ticks_on(inst, plan, k, i) as u64
+    let task = task_of(inst, i);
+    jobs_in(inst.span, task.period) as u64 * ticks_on(inst, plan, k, i) as u64
 }
 
 pub(crate) fn core_load(inst: Instance, plan: &[u32], k: usize) -> u64
