@@ -1,19 +1,15 @@
 // Has both planners plan an instance, compares what they answer and what they leave in the buffers, and looks at the answer.
-use crate::planners::Outcome;
 use crate::planners::Rooms;
-use crate::planners::count_outcomes;
+use crate::planners::compare_with_trying;
 use crate::planners::plan_by_search;
-use crate::planners::plan_by_trying;
-use crate::tally;
-use crate::tally::add;
-use crate::tally::add_if;
-use crate::tally::add_refusal;
-use drawn::Trials;
 use drawn::draw_room;
 use drawn::has_busy_slots;
-use drawn::is_table_of;
+use drawn::table_fails;
+use drawn::tally;
+use drawn::tally::add;
+use drawn::tally::add_if;
+use drawn::try_answered;
 use drawn::try_drawn_plans;
-use drawn::try_tables;
 use exhaustive::Site;
 use exhaustive::site_of;
 
@@ -23,69 +19,64 @@ fn count_kept(answer: &[u64; 5], counts: &mut [u64; 28]) {
     add_if(counts, tally::REFUSING_ALL, answer[2] == 0);
 }
 
-// Which cores are used, by the table.
-fn count_cores(site: Site, table: &[u8; 128], counts: &mut [u64; 28]) {
+// What kind of plan it is: which cores are used, by the table, and which tasks are kept.
+fn count_plan(site: Site, answer: &[u64; 5], table: &[u8; 128], counts: &mut [u64; 28]) {
     let span = site.span as usize;
     let others = has_busy_slots(table, span, span, site.slots, 1);
     let full = has_busy_slots(table, span, 0, site.slots, span);
+    add(counts, tally::PLANNED, 1);
     add_if(counts, tally::OTHER_CORES, others);
     add_if(counts, tally::FULL_ROWS, full);
-}
-
-// What kind of plan it is.
-fn count_plan(site: Site, answer: &[u64; 5], table: &[u8; 128], counts: &mut [u64; 28]) {
-    add(counts, tally::PLANNED, 1);
-    count_cores(site, table, counts);
     if 0 < site.tasks {
         count_kept(answer, counts);
     }
 }
 
-fn count_trials(trials: Trials, counts: &mut [u64; 28]) {
-    add(counts, tally::TABLES_TRIED, trials.tried);
-    add(counts, tally::DRAWINGS, trials.drawings);
-    add(counts, tally::OTHER_DRAWINGS, trials.others);
-    add(counts, tally::UNFIT_DRAWINGS, trials.unfit);
-    add(counts, tally::CHEAPER_DRAWINGS, trials.cheaper);
-}
-
-// A plan's table passes the check, and no drawing is cheaper.
+// A plan's table passes the check, and no drawing is cheaper than `least`.
 fn look_at_tables(
     words: &[u32],
     site: Site,
-    outcome: Outcome,
+    least: u64,
+    plan: &[u32; 12],
+    table: &[u8; 128],
     state: &mut u32,
     counts: &mut [u64; 28],
 ) {
-    let answer = outcome.answer;
-    let plan = outcome.plan;
-    let table = outcome.table;
-    let passes = is_table_of(words, site, &plan, &table);
-    let trials = try_tables(words, site, &plan, answer[4], state);
-    add_if(counts, tally::TABLES_FAIL, !passes);
-    count_trials(trials, counts);
+    let fails = table_fails(words, site.slots, plan, site.tasks, table);
+    add_if(counts, tally::TABLES_FAIL, fails);
+    try_answered(
+        words,
+        site.span,
+        site.slots,
+        plan,
+        site.tasks,
+        least,
+        state,
+        counts,
+    );
+    look_at_drawn_plans(words, site, least, state, counts);
 }
 
-fn look_at_plan(
+fn look_at_drawn_plans(
     words: &[u32],
     site: Site,
-    outcome: Outcome,
+    least: u64,
     state: &mut u32,
     counts: &mut [u64; 28],
 ) {
-    let answer = outcome.answer;
-    let table = outcome.table;
-    count_plan(site, &answer, &table, counts);
-    look_at_tables(words, site, outcome, state, counts);
+    try_drawn_plans(
+        words,
+        site.span,
+        site.slots,
+        site.tasks,
+        site.most,
+        least,
+        state,
+        counts,
+    );
 }
 
-// Where there is no plan, there is no drawing either: every one would be too cheap.
-fn look_at_no_plan(words: &[u32], site: Site, state: &mut u32, counts: &mut [u64; 28]) {
-    let trials = try_drawn_plans(words, site, 18446744073709551615, state);
-    count_trials(trials, counts);
-}
-
-// A refusal is counted under its number.
+// A refusal is counted under its number. Where there is no plan, there is no drawing either: every one would be too cheap.
 fn look_at_refusal(
     words: &[u32],
     site: Site,
@@ -93,32 +84,45 @@ fn look_at_refusal(
     state: &mut u32,
     counts: &mut [u64; 28],
 ) {
-    add_refusal(counts, number);
+    if 2 <= number && number <= 6 {
+        add(counts, number as usize, 1);
+    }
     if number == 5 {
-        look_at_no_plan(words, site, state, counts);
+        look_at_drawn_plans(words, site, 18446744073709551615, state, counts);
     }
 }
 
-fn look_at(words: &[u32], site: Site, outcome: Outcome, state: &mut u32, counts: &mut [u64; 28]) {
-    let answer = outcome.answer;
+fn look_at(
+    words: &[u32],
+    site: Site,
+    answer: &[u64; 5],
+    plan: &[u32; 12],
+    table: &[u8; 128],
+    state: &mut u32,
+    counts: &mut [u64; 28],
+) {
     if answer[0] == 0 {
-        look_at_plan(words, site, outcome, state, counts);
+        count_plan(site, answer, table, counts);
+        look_at_tables(words, site, answer[4], plan, table, state, counts);
     } else {
         look_at_refusal(words, site, answer[0], state, counts);
     }
 }
 
+fn draw_rooms(site: Site, state: &mut u32) -> Rooms {
+    Rooms {
+        plan: draw_room(site.tasks, 12, state),
+        table: draw_room(site.slots, 128, state),
+    }
+}
+
 pub(crate) fn compare(words: &[u32], state: &mut u32, counts: &mut [u64; 28]) {
     let site = site_of(words);
-    let plan_room = draw_room(site.tasks, 12, state);
-    let table_room = draw_room(site.slots, 128, state);
-    let rooms = Rooms {
-        plan: plan_room,
-        table: table_room,
-    };
+    let rooms = draw_rooms(site, state);
+    let mut plan = [7_777_777u32; 12];
+    let mut table = [77u8; 128];
+    let answer = plan_by_search(words, rooms, &mut plan, &mut table);
     add(counts, tally::INSTANCES, 1);
-    let tried = plan_by_trying(words, site, rooms, counts);
-    let searched = plan_by_search(words, rooms);
-    count_outcomes(tried, searched, counts);
-    look_at(words, site, searched, state, counts);
+    compare_with_trying(words, site, rooms, &answer, &plan, &table, counts);
+    look_at(words, site, &answer, &plan, &table, state, counts);
 }

@@ -2,10 +2,8 @@
 //
 // The numbers that it prints are the generator's, and nobody works them out by hand: they show that no comparison is empty.
 // Those under the last heading must be 0, whatever is drawn.
-mod answers;
 mod compare;
 mod planners;
-mod tally;
 
 const INSTANCES: u32 = 5_000;
 
@@ -34,5 +32,44 @@ fn compare_many(instances: u32, counts: &mut [u64; 28]) {
 fn main() {
     let mut counts = [0; 28];
     compare_many(INSTANCES, &mut counts);
-    tally::print_all(&counts);
+    print_all(&counts);
+}
+
+// Prints every count with its name.
+fn print_all(counts: &[u64; 28]) {
+    lines::print_filled(
+        b"-- drawn\n\
+          # instances\n\
+          # planned\n\
+          # refused with 2\n\
+          # refused with 3\n\
+          # refused with 4\n\
+          # refused with 5, no plan\n\
+          # refused with 6, a short buffer\n\
+          -- plans\n\
+          # tried\n\
+          # of them not refused\n\
+          # instances with several of least cost\n\
+          # answered that keep all tasks\n\
+          # answered that refuse all tasks\n\
+          # answered that use another core than 1\n\
+          # answered with a core that is never idle\n\
+          -- other tables\n\
+          # tried\n\
+          # of them pass the check\n\
+          # of these are not earliest deadline first\n\
+          -- must all be 0\n\
+          # instances with plans left untried\n\
+          # refusals differ\n\
+          # places differ\n\
+          # energies differ\n\
+          # penalties differ\n\
+          # costs differ\n\
+          # plan buffers differ\n\
+          # table buffers differ\n\
+          # answered tables fail the check\n\
+          # other tables pass the check for a plan that does not fit\n\
+          # other tables pass the check and are cheaper\n",
+        counts,
+    );
 }

@@ -1,10 +1,9 @@
-// Both planners, each with buffers of its own.
-use crate::answers::count_differences;
-use crate::answers::numbers_of;
-use crate::tally;
-use crate::tally::add;
-use crate::tally::add_if;
+// Both planners, each with buffers of its own. A planner's answer is five numbers: the refusal's number and place, energy,
+// penalty and cost. Those that an answer of its kind lacks are 0.
 use drawn::bytes_differ;
+use drawn::tally;
+use drawn::tally::add;
+use drawn::tally::add_if;
 use drawn::words_differ;
 use exhaustive::Site;
 use exhaustive::Tried;
@@ -17,35 +16,18 @@ pub(crate) struct Rooms {
     pub(crate) table: usize,
 }
 
-// What a planner answers, and what stands in the whole buffers afterwards.
-pub(crate) struct Outcome {
-    pub(crate) answer: [u64; 5],
-    pub(crate) plan: [u32; 12],
-    pub(crate) table: [u8; 128],
-}
-
-fn count_tried(tried: Tried, counts: &mut [u64; 28]) {
-    add(counts, tally::PLANS_TRIED, tried.tried);
-    add(counts, tally::PLANS_PRICED, tried.priced);
-    add_if(counts, tally::SEVERAL_LEAST, 1 < tried.cheapest);
-    add_if(counts, tally::PLANS_UNTRIED, !tried.complete);
-}
-
-pub(crate) fn plan_by_trying(
-    words: &[u32],
-    site: Site,
-    rooms: Rooms,
-    counts: &mut [u64; 28],
-) -> Outcome {
-    let mut plan = [7_777_777u32; 12];
-    let mut table = [77u8; 128];
-    let tried = exhaustive::plan(words, site, &mut plan, rooms.plan, &mut table, rooms.table);
-    count_tried(tried, counts);
-    let answer = tried.answer;
-    Outcome {
-        answer,
-        plan,
-        table,
+fn numbers_of(answer: Priced) -> [u64; 5] {
+    match answer {
+        Priced::Cost(price) => [0, 0, price.energy, price.penalty, price.cost],
+        Priced::Refused(why) => {
+            [
+                instance::refusal_number(why),
+                instance::refusal_place(why),
+                0,
+                0,
+                0,
+            ]
+        }
     }
 }
 
@@ -66,34 +48,63 @@ fn search_with_plan(words: &[u32], plan: &mut [u32], table: &mut [u8], rooms: Ro
     Priced::Refused(Refusal::ShortBuffer(room))
 }
 
-pub(crate) fn plan_by_search(words: &[u32], rooms: Rooms) -> Outcome {
-    let mut plan = [7_777_777u32; 12];
-    let mut table = [77u8; 128];
-    let answer = numbers_of(search_with_plan(words, &mut plan, &mut table, rooms));
-    Outcome {
-        answer,
-        plan,
-        table,
+// The answer of the planner that is compared.
+pub(crate) fn plan_by_search(
+    words: &[u32],
+    rooms: Rooms,
+    plan: &mut [u32; 12],
+    table: &mut [u8; 128],
+) -> [u64; 5] {
+    numbers_of(search_with_plan(words, plan, table, rooms))
+}
+
+fn count_tried(tried: Tried, counts: &mut [u64; 28]) {
+    add(counts, tally::PLANS_TRIED, tried.tried);
+    add(counts, tally::PLANS_PRICED, tried.priced);
+    add_if(counts, tally::SEVERAL_LEAST, 1 < tried.cheapest);
+    add_if(counts, tally::PLANS_UNTRIED, !tried.complete);
+}
+
+// Counts the numbers in which two answers differ, each at its place.
+fn count_differences(counts: &mut [u64; 28], a: &[u64; 5], b: &[u64; 5]) {
+    let mut i = 0;
+    while i < 5 {
+        add_if(counts, tally::ANSWERS_DIFFER + i, a[i] != b[i]);
+        i += 1;
     }
 }
 
-fn plans_differ(a: Outcome, b: Outcome) -> bool {
-    let plan = a.plan;
-    let other = b.plan;
-    words_differ(&plan, &other)
+// Has the planner that tries every plan do the same, and counts what differs.
+pub(crate) fn compare_with_trying(
+    words: &[u32],
+    site: Site,
+    rooms: Rooms,
+    answer: &[u64; 5],
+    plan: &[u32; 12],
+    table: &[u8; 128],
+    counts: &mut [u64; 28],
+) {
+    let mut own_plan = [7_777_777u32; 12];
+    let mut own_table = [77u8; 128];
+    let tried = exhaustive::plan(
+        words,
+        site,
+        &mut own_plan,
+        rooms.plan,
+        &mut own_table,
+        rooms.table,
+    );
+    add_if(counts, tally::PLANS_DIFFER, words_differ(plan, &own_plan));
+    add_if(
+        counts,
+        tally::TABLES_DIFFER,
+        bytes_differ(table, &own_table),
+    );
+    count_answer(tried, answer, counts);
 }
 
-fn tables_differ(a: Outcome, b: Outcome) -> bool {
-    let table = a.table;
-    let other = b.table;
-    bytes_differ(&table, &other)
-}
-
-// Counts what differs between two outcomes.
-pub(crate) fn count_outcomes(a: Outcome, b: Outcome, counts: &mut [u64; 28]) {
-    let answer = a.answer;
-    let other = b.answer;
-    count_differences(counts, tally::ANSWERS_DIFFER, &answer, &other);
-    add_if(counts, tally::PLANS_DIFFER, plans_differ(a, b));
-    add_if(counts, tally::TABLES_DIFFER, tables_differ(a, b));
+fn count_answer(tried: Tried, answer: &[u64; 5], counts: &mut [u64; 28]) {
+    let own = tried.answer;
+    count_differences(counts, answer, &own);
+    count_tried(tried, counts);
 }

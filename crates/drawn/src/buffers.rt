@@ -4,16 +4,24 @@ use crate::draw::below;
 // Room for a result of `size` elements: all there is, exactly enough, or now and then too little.
 pub fn draw_room(size: usize, most: usize, state: &mut u32) -> usize {
     let drawn = below(state, 64);
-    if most <= size || drawn < 32 {
+    if most <= size {
         return most;
     }
-    if drawn == 32 && 0 < size {
-        return size - 1;
+    if drawn < 32 {
+        return most;
     }
-    if drawn == 33 {
-        return below(state, 4) as usize;
+    match drawn {
+        32 => one_less(size),
+        33 => below(state, 4) as usize,
+        _ => size,
     }
-    size
+}
+
+fn one_less(size: usize) -> usize {
+    if size == 0 {
+        return 0;
+    }
+    size - 1
 }
 
 pub fn words_differ(a: &[u32; 12], b: &[u32; 12]) -> bool {
@@ -38,12 +46,19 @@ pub fn bytes_differ(a: &[u8; 128], b: &[u8; 128]) -> bool {
     false
 }
 
-// The busy slots without an idle one between, up to slot x and in its row, where `before` stand before it.
-fn busy_up_to(table: &[u8; 128], span: usize, x: usize, before: usize) -> usize {
-    if 128 <= x || table[x] == 0 {
+fn place_in_row(x: usize, span: usize) -> usize {
+    if span == 0 {
         return 0;
     }
-    if span == 0 || x % span == 0 {
+    x % span
+}
+
+// The busy slots without an idle one between, up to a slot and in its row, where `before` stand before it.
+fn busy_up_to(slot: u8, place_in_row: usize, before: usize) -> usize {
+    if slot == 0 {
+        return 0;
+    }
+    if place_in_row == 0 {
         return 1;
     }
     std::num::wrapping_add_usize(before, 1)
@@ -59,8 +74,10 @@ pub fn has_busy_slots(
 ) -> bool {
     let mut busy = 0;
     let mut x = from;
-    while x < slots {
-        busy = busy_up_to(table, span, x, busy);
+    while x < 128 {
+        if x < slots {
+            busy = busy_up_to(table[x], place_in_row(x, span), busy);
+        }
         if busy == many {
             return true;
         }

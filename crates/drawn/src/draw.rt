@@ -34,3 +34,8 @@ pub(crate) fn one_of(state: &mut u32, words: &[u32]) -> u32 {
     }
     0
 }
+
+// The product without what is above a word.
+pub(crate) fn times(a: u32, b: u32) -> u32 {
+    (a as u64 * b as u64 % 4294967296) as u32
+}

@@ -3,8 +3,8 @@
 use crate::draw::below;
 use crate::draw::once_in;
 use crate::draw::one_of;
+use crate::draw::times;
 use crate::draw::up_to;
-use exhaustive::product;
 use instance::MAY_NOT_BE_REFUSED;
 
 const PERIODS: [u32; 8] = [1, 2, 3, 4, 6, 8, 12, 24];
@@ -56,7 +56,7 @@ fn put_levels(words: &mut [u32; 32], count: u32, state: &mut u32) -> usize {
 // Cycles that fill the period exactly at some speed, or up to some times the period.
 fn cycles(state: &mut u32, period: u32) -> u32 {
     let drawn = below(state, 16);
-    let cycles = product(period, TIMES[drawn as usize]);
+    let cycles = times(period, TIMES[drawn as usize]);
     if drawn < 3 {
         return cycles;
     }
@@ -79,11 +79,9 @@ fn new_task(state: &mut u32) -> [u32; 3] {
 }
 
 fn put_task(words: &mut [u32; 32], at: usize, task: [u32; 3]) {
-    if at < 30 {
-        words[at] = task[0];
-        words[at + 1] = task[1];
-        words[at + 2] = task[2];
-    }
+    put(words, at, task[0]);
+    put(words, std::num::wrapping_add_usize(at, 1), task[1]);
+    put(words, std::num::wrapping_add_usize(at, 2), task[2]);
 }
 
 // One task in five equals the one before it. Answers where the list ends.
@@ -112,24 +110,29 @@ fn put_instance(words: &mut [u32; 32], state: &mut u32) -> usize {
     put_tasks(words, std::num::wrapping_add_usize(at, 1), tasks, state)
 }
 
+fn put_odd_word(words: &mut [u32; 32], state: &mut u32) {
+    let word = one_of(state, &ODD_WORDS);
+    put(words, below(state, 27) as usize, word);
+}
+
 // The list with a word too many, another length, 4,095 for the last period, or a word changed: mostly one that reading
 // refuses.
 fn spoil(words: &mut [u32; 32], end: usize, state: &mut u32) -> usize {
-    let kind = below(state, 8);
-    if kind == 0 {
-        put(words, end, below(state, 5));
-        return std::num::wrapping_add_usize(end, 1);
+    match below(state, 8) {
+        0 => {
+            put(words, end, below(state, 5));
+            std::num::wrapping_add_usize(end, 1)
+        }
+        1 => below(state, 32) as usize,
+        2 | 3 => {
+            put(words, std::num::wrapping_sub_usize(end, 3), 4095);
+            end
+        }
+        _ => {
+            put_odd_word(words, state);
+            end
+        }
     }
-    if kind == 1 {
-        return below(state, 32) as usize;
-    }
-    if kind < 4 {
-        put(words, std::num::wrapping_sub_usize(end, 3), 4095);
-        return end;
-    }
-    let word = one_of(state, &ODD_WORDS);
-    put(words, below(state, 27) as usize, word);
-    end
 }
 
 // Draws an instance, one in ten spoilt, and answers how many words it has.

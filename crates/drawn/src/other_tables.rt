@@ -1,8 +1,7 @@
 // Tables that are not made by earliest deadline first: task after task takes the free slots that its jobs' windows have left.
 use crate::draw::below;
 use crate::draw::once_in;
-use exhaustive::Site;
-use exhaustive::product;
+use crate::draw::times;
 
 // In place of the slot of its window that a job tries first: it tries them from the end.
 const FROM_THE_END: u32 = 24;
@@ -16,15 +15,20 @@ struct Kept {
     first: u32,
 }
 
+// The rest of a division, 0 where there is none.
+fn rest(a: u32, b: u32) -> u32 {
+    if b == 0 {
+        return 0;
+    }
+    a % b
+}
+
 // The slot of a window that is tried after x others.
 fn slot_of_window(first: u32, period: u32, x: u32) -> u32 {
     if first == FROM_THE_END {
         return std::num::wrapping_sub_u32(period, std::num::wrapping_add_u32(x, 1));
     }
-    if period == 0 {
-        return 0;
-    }
-    std::num::wrapping_add_u32(first, x) % period
+    rest(std::num::wrapping_add_u32(first, x), period)
 }
 
 // Takes a slot that is free, for a job with ticks left; answers the ticks left then.
@@ -40,10 +44,7 @@ fn take_slot(table: &mut [u8; 128], t: usize, number: u8, left: u32) -> u32 {
 
 // Turn y of a task, in which its job tries one slot; answers the ticks that the job has left then.
 fn take_turn(table: &mut [u8; 128], task: Kept, y: u32, left: u32) -> u32 {
-    if task.period == 0 {
-        return 0;
-    }
-    let x = y % task.period;
+    let x = rest(y, task.period);
     let slot = slot_of_window(task.first, task.period, x);
     let release = std::num::wrapping_add_u32(task.row, std::num::wrapping_sub_u32(y, x));
     let at = std::num::wrapping_add_u32(release, slot) as usize;
@@ -71,40 +72,36 @@ fn word(words: &[u32], at: usize) -> u32 {
     0
 }
 
-// The core of a kept task, counted from 0.
-fn core_of(choice: u32, levels: u32) -> u32 {
+// The first slot of the row of a kept task's core.
+fn row_of(choice: u32, levels: u32, span: u32) -> u32 {
     if levels == 0 {
         return 0;
     }
-    std::num::wrapping_sub_u32(choice, 1) / levels
+    times(std::num::wrapping_sub_u32(choice, 1) / levels, span)
 }
 
-// The level of a kept task, counted from 0.
-fn level_of(choice: u32, levels: u32) -> u32 {
-    if levels == 0 {
-        return 0;
-    }
-    std::num::wrapping_sub_u32(choice, 1) % levels
+// The speed of a kept task's level, one of so many that come after the settings.
+fn speed_of(words: &[u32], choice: u32, levels: u32) -> u32 {
+    let level = rest(std::num::wrapping_sub_u32(choice, 1), levels);
+    word(words, 5 + 2 * level as usize)
 }
 
 // Task i, which has this choice: its three words come after the levels and those of the tasks before.
-fn kept_task(words: &[u32], site: Site, choice: u32, i: u8, first: u32) -> Kept {
-    let levels = site.levels;
+fn kept_task(words: &[u32], span: u32, choice: u32, i: u8, first: u32) -> Kept {
+    let levels = word(words, 4);
     let at = 6 + 2 * levels as usize + 3 * i as usize;
-    let speed = word(words, 5 + 2 * level_of(choice, levels) as usize);
     Kept {
         number: std::num::wrapping_add_u8(i, 1),
-        row: product(core_of(choice, levels), site.span),
+        row: row_of(choice, levels, span),
         period: word(words, at),
-        ticks: schedule::ticks_of(word(words, at + 1), speed),
+        ticks: schedule::ticks_of(word(words, at + 1), speed_of(words, choice, levels)),
         first,
     }
 }
 
-fn fill_task(table: &mut [u8; 128], words: &[u32], site: Site, choice: u32, i: usize, first: u32) {
+fn fill_task(table: &mut [u8; 128], words: &[u32], span: u32, choice: u32, i: usize, first: u32) {
     if choice != 0 && i < 12 {
-        let task = kept_task(words, site, choice, i as u8, first);
-        fill_row(table, task, site.span);
+        fill_row(table, kept_task(words, span, choice, i as u8, first), span);
     }
 }
 
@@ -112,7 +109,7 @@ fn fill_task(table: &mut [u8; 128], words: &[u32], site: Site, choice: u32, i: u
 fn fill_tasks(
     table: &mut [u8; 128],
     words: &[u32],
-    site: Site,
+    span: u32,
     plan: &[u32],
     turn: u32,
     first: u32,
@@ -121,7 +118,7 @@ fn fill_tasks(
     while i < plan.len() {
         let next = std::num::wrapping_add_usize(turn as usize, i) % plan.len();
         if next < plan.len() {
-            fill_task(table, words, site, plan[next], next, first);
+            fill_task(table, words, span, plan[next], next, first);
         }
         i += 1;
     }
@@ -138,11 +135,10 @@ fn draw_first(state: &mut u32) -> u32 {
 pub(crate) fn fill_table(
     table: &mut [u8; 128],
     words: &[u32],
-    site: Site,
+    span: u32,
     plan: &[u32],
     state: &mut u32,
 ) {
     let first = draw_first(state);
-    let turn = below(state, 4);
-    fill_tasks(table, words, site, plan, turn, first);
+    fill_tasks(table, words, span, plan, below(state, 4), first);
 }

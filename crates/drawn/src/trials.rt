@@ -1,29 +1,13 @@
 // Tables for plans that are drawn, and other tables for the plan that was answered. One that passes the check is a drawing,
-// and no drawing is cheaper than the answered plan.
+// and no drawing is cheaper than the answered plan. Each function is told the ticks of the span and the slots of a table.
 use crate::buffers::bytes_differ;
 use crate::draw::up_to;
 use crate::other_tables::fill_table;
-use exhaustive::Site;
+use crate::tally;
+use crate::tally::add;
+use crate::tally::add_if;
 use instance::Verdict;
 use schedule::Priced;
-
-// How many tables were tried, and how many of them are drawings; of these, how many are not their plan's own table, have a
-// plan that is not priced, and cost less than the answered plan.
-pub struct Trials {
-    pub tried: u64,
-    pub drawings: u64,
-    pub others: u64,
-    pub unfit: u64,
-    pub cheaper: u64,
-}
-
-const NO_TRIALS: Trials = Trials {
-    tried: 0,
-    drawings: 0,
-    others: 0,
-    unfit: 0,
-    cheaper: 0,
-};
 
 fn passes_check(words: &[u32], plan: &[u32], table: &[u8; 128], slots: usize) -> bool {
     let all = &table[..];
@@ -36,37 +20,15 @@ fn passes_check(words: &[u32], plan: &[u32], table: &[u8; 128], slots: usize) ->
     }
 }
 
-// Whether a table passes the check for a plan that stands at the front.
-pub fn is_table_of(words: &[u32], site: Site, plan: &[u32; 12], table: &[u8; 128]) -> bool {
-    let all = &plan[..];
-    let n = site.tasks;
-    if n <= all.len() {
-        return passes_check(words, &all[0..n], table, site.slots);
-    }
-    false
-}
-
-// Draws a choice from 0 to `most` for each of n tasks.
-fn draw_plan(plan: &mut [u32; 12], n: usize, most: u32, state: &mut u32) {
+// Draws one of so many choices for each of n tasks.
+fn draw_plan(plan: &mut [u32; 12], n: usize, choices: u32, state: &mut u32) {
     let mut i = 0;
     while i < 12 {
         if i < n {
-            plan[i] = drawn_choice(most, state);
+            plan[i] = std::num::wrapping_sub_u32(up_to(state, choices), 1);
         }
         i += 1;
     }
-}
-
-fn drawn_choice(most: u32, state: &mut u32) -> u32 {
-    let choices = std::num::wrapping_add_u32(most, 1);
-    std::num::wrapping_sub_u32(up_to(state, choices), 1)
-}
-
-fn count_if(count: u64, holds: bool) -> u64 {
-    if holds {
-        return std::num::wrapping_add_u64(count, 1);
-    }
-    count
 }
 
 // Whether a table is not the plan's own.
@@ -76,106 +38,119 @@ fn is_other(words: &[u32], plan: &[u32], table: &[u8; 128]) -> bool {
     bytes_differ(table, &own)
 }
 
-// With what a drawing's plan costs, where the answered plan costs `least`.
-fn with_price(so_far: Trials, priced: Priced, least: u64) -> Trials {
-    let mut next = so_far;
+// What a drawing's plan costs, where the answered plan costs `least`.
+fn count_price(priced: Priced, least: u64, counts: &mut [u64; 28]) {
     match priced {
-        Priced::Cost(price) => {
-            next.cheaper = count_if(so_far.cheaper, price.cost < least);
-        }
-        Priced::Refused(_) => {
-            next.unfit = count_if(so_far.unfit, true);
-        }
+        Priced::Cost(price) => add_if(counts, tally::CHEAPER_DRAWINGS, price.cost < least),
+        Priced::Refused(_) => add(counts, tally::UNFIT_DRAWINGS, 1),
     }
-    next
 }
 
-fn with_drawing(
-    so_far: Trials,
+fn count_drawing(
     words: &[u32],
     plan: &[u32],
     table: &[u8; 128],
     least: u64,
-) -> Trials {
-    let mut next = so_far;
-    next.drawings = count_if(so_far.drawings, true);
-    next.others = count_if(so_far.others, is_other(words, plan, table));
-    with_price(next, schedule::price(words, plan), least)
+    counts: &mut [u64; 28],
+) {
+    add(counts, tally::DRAWINGS, 1);
+    add_if(counts, tally::OTHER_DRAWINGS, is_other(words, plan, table));
+    count_price(schedule::price(words, plan), least, counts);
 }
 
 // Fills a table for a plan in some way, and has it checked.
-fn with_table(
-    so_far: Trials,
+fn try_table(
     words: &[u32],
-    site: Site,
+    span: u32,
+    slots: usize,
     plan: &[u32],
     least: u64,
     state: &mut u32,
-) -> Trials {
+    counts: &mut [u64; 28],
+) {
     let mut table = [0u8; 128];
-    fill_table(&mut table, words, site, plan, state);
-    let mut next = so_far;
-    next.tried = count_if(so_far.tried, true);
-    if passes_check(words, plan, &table, site.slots) {
-        return with_drawing(next, words, plan, &table, least);
+    fill_table(&mut table, words, span, plan, state);
+    add(counts, tally::TABLES_TRIED, 1);
+    if passes_check(words, plan, &table, slots) {
+        count_drawing(words, plan, &table, least, counts);
     }
-    next
 }
 
-fn with_plan(
-    so_far: Trials,
+// A table for a plan that stands at the front.
+fn try_front(
     words: &[u32],
-    site: Site,
-    plan: &[u32; 12],
+    span: u32,
+    slots: usize,
+    front: &[u32; 12],
+    n: usize,
     least: u64,
     state: &mut u32,
-) -> Trials {
-    let all = &plan[..];
-    let n = site.tasks;
+    counts: &mut [u64; 28],
+) {
+    let all = &front[..];
     if n <= all.len() {
-        return with_table(so_far, words, site, &all[0..n], least, state);
+        try_table(words, span, slots, &all[0..n], least, state, counts);
     }
-    so_far
 }
 
-fn with_drawn_plan(
-    so_far: Trials,
+// A table for a plan of n tasks drawn at random, with choices from 0 to `most`.
+fn try_drawn_plan(
     words: &[u32],
-    site: Site,
+    span: u32,
+    slots: usize,
+    n: usize,
+    most: u32,
     least: u64,
     state: &mut u32,
-) -> Trials {
+    counts: &mut [u64; 28],
+) {
     let mut plan = [0u32; 12];
-    draw_plan(&mut plan, site.tasks, site.most, state);
-    with_plan(so_far, words, site, &plan, least, state)
+    draw_plan(&mut plan, n, std::num::wrapping_add_u32(most, 1), state);
+    try_front(words, span, slots, &plan, n, least, state, counts);
 }
 
-fn with_drawn_plans(
-    so_far: Trials,
+// Tables for three plans drawn at random.
+pub fn try_drawn_plans(
     words: &[u32],
-    site: Site,
+    span: u32,
+    slots: usize,
+    n: usize,
+    most: u32,
     least: u64,
     state: &mut u32,
-) -> Trials {
-    let one = with_drawn_plan(so_far, words, site, least, state);
-    let two = with_drawn_plan(one, words, site, least, state);
-    with_drawn_plan(two, words, site, least, state)
+    counts: &mut [u64; 28],
+) {
+    try_drawn_plan(words, span, slots, n, most, least, state, counts);
+    try_drawn_plan(words, span, slots, n, most, least, state, counts);
+    try_drawn_plan(words, span, slots, n, most, least, state, counts);
 }
 
-// Tables for plans drawn at random.
-pub fn try_drawn_plans(words: &[u32], site: Site, least: u64, state: &mut u32) -> Trials {
-    with_drawn_plans(NO_TRIALS, words, site, least, state)
-}
-
-// Other tables for the plan that was answered, and tables for plans drawn at random.
-pub fn try_tables(
+// Whether the answered table fails the check for its plan, of n tasks at the front.
+pub fn table_fails(
     words: &[u32],
-    site: Site,
-    plan: &[u32; 12],
+    slots: usize,
+    front: &[u32; 12],
+    n: usize,
+    table: &[u8; 128],
+) -> bool {
+    let all = &front[..];
+    if n <= all.len() {
+        return !passes_check(words, &all[0..n], table, slots);
+    }
+    true
+}
+
+// Two other tables for the plan that was answered, of n tasks at the front.
+pub fn try_answered(
+    words: &[u32],
+    span: u32,
+    slots: usize,
+    front: &[u32; 12],
+    n: usize,
     least: u64,
     state: &mut u32,
-) -> Trials {
-    let one = with_plan(NO_TRIALS, words, site, plan, least, state);
-    let two = with_plan(one, words, site, plan, least, state);
-    with_drawn_plans(two, words, site, least, state)
+    counts: &mut [u64; 28],
+) {
+    try_front(words, span, slots, front, n, least, state, counts);
+    try_front(words, span, slots, front, n, least, state, counts);
 }

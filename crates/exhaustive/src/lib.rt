@@ -5,6 +5,5 @@ mod tried;
 
 pub use every::plan;
 pub use site::Site;
-pub use site::product;
 pub use site::site_of;
 pub use tried::Tried;

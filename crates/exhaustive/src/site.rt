@@ -44,7 +44,7 @@ pub fn site_of(words: &[u32]) -> Site {
 }
 
 // The product of two numbers up to 4,096, else 0.
-pub fn product(a: u32, b: u32) -> u32 {
+fn product(a: u32, b: u32) -> u32 {
     if a <= 4096 {
         if b <= 4096 {
             return a * b;

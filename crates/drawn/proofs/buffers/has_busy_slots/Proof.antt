@@ -7,10 +7,16 @@ abbrev Inv-loop : tie.InvT-loop
 Inv-loop table span from slots many busy₀ x₀ busy x = Unit {0}
 
 abbrev μ-loop : tie.MeasureT-loop
-μ-loop table span from slots many busy₀ x₀ busy x = slots - x
+μ-loop table span from slots many busy₀ x₀ busy x = 128 - x
 
 loop-holds : tie.Need-loop-holds Inv-loop μ-loop
 loop-holds c = search needs
+
+element-copy-out-busy-up-to : tie.Need-element-copy-out-busy-up-to Inv-loop μ-loop
+element-copy-out-busy-up-to c = search needs
+
+place-in-row-requires : tie.Need-place-in-row-requires Inv-loop μ-loop
+place-in-row-requires c κs = search needs
 
 busy-up-to-requires : tie.Need-busy-up-to-requires Inv-loop μ-loop
 busy-up-to-requires c κs = search needs
@@ -37,6 +43,8 @@ has-busy-slots-spec =
     Inv-loop
     μ-loop
     loop-holds
+    element-copy-out-busy-up-to
+    place-in-row-requires
     busy-up-to-requires
     returns
     add-x

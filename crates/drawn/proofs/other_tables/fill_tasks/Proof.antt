@@ -5,10 +5,10 @@ use Rattle.drawn.proofs.other_tables.fill_tasks.Statement.{statement}
 use Rattle.drawn.proofs.other_tables.fill_tasks.Tie as tie
 
 abbrev Inv-loop : tie.InvT-loop
-Inv-loop table₀ words site plan turn first i₀ table i = i ≤ length plan
+Inv-loop table₀ words span plan turn first i₀ table i = i ≤ length plan
 
 abbrev μ-loop : tie.MeasureT-loop
-μ-loop table₀ words site plan turn first i₀ table i = length plan - i
+μ-loop table₀ words span plan turn first i₀ table i = length plan - i
 
 loop-holds : tie.Need-loop-holds Inv-loop μ-loop
 loop-holds c = search needs

@@ -4,16 +4,19 @@ use Rattle.drawn.proofs.trials.draw_plan.Statement.{statement}
 use Rattle.drawn.proofs.trials.draw_plan.Tie as tie
 
 abbrev Inv-loop : tie.InvT-loop
-Inv-loop plan₀ n most state₀ i₀ plan state i = Unit {0}
+Inv-loop plan₀ n choices state₀ i₀ plan state i = Unit {0}
 
 abbrev μ-loop : tie.MeasureT-loop
-μ-loop plan₀ n most state₀ i₀ plan state i = 12 - i
+μ-loop plan₀ n choices state₀ i₀ plan state i = 12 - i
 
 loop-holds : tie.Need-loop-holds Inv-loop μ-loop
 loop-holds c = search needs
 
-drawn-choice-requires : tie.Need-drawn-choice-requires Inv-loop μ-loop
-drawn-choice-requires c κs = search needs
+up-to-requires : tie.Need-up-to-requires Inv-loop μ-loop
+up-to-requires c κs = search needs
+
+wrapping-sub-u32-requires : tie.Need-wrapping-sub-u32-requires Inv-loop μ-loop
+wrapping-sub-u32-requires c κs = search needs
 
 mul-plan : tie.Need-mul-plan Inv-loop μ-loop
 mul-plan c = search needs
@@ -40,7 +43,8 @@ draw-plan-spec =
     Inv-loop
     μ-loop
     loop-holds
-    drawn-choice-requires
+    up-to-requires
+    wrapping-sub-u32-requires
     mul-plan
     element-write-plan
     add-i

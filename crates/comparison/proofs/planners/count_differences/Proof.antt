@@ -1,19 +1,19 @@
 use borrow.Author.Needs.{needs}
 use Prim.Native.Nat.{_-_}
-use Rattle.comparison.proofs.answers.count_differences.Statement.{statement}
-use Rattle.comparison.proofs.answers.count_differences.Tie as tie
+use Rattle.comparison.proofs.planners.count_differences.Statement.{statement}
+use Rattle.comparison.proofs.planners.count_differences.Tie as tie
 
 abbrev Inv-loop : tie.InvT-loop
-Inv-loop counts₀ first a b i₀ counts i = Unit {0}
+Inv-loop counts₀ a b i₀ counts i = Unit {0}
 
 abbrev μ-loop : tie.MeasureT-loop
-μ-loop counts₀ first a b i₀ counts i = 5 - i
+μ-loop counts₀ a b i₀ counts i = 5 - i
 
 loop-holds : tie.Need-loop-holds Inv-loop μ-loop
 loop-holds c = search needs
 
-wrapping-add-usize-requires : tie.Need-wrapping-add-usize-requires Inv-loop μ-loop
-wrapping-add-usize-requires c κs = search needs
+add-add-if : tie.Need-add-add-if Inv-loop μ-loop
+add-add-if c = search needs
 
 mul-add-if : tie.Need-mul-add-if Inv-loop μ-loop
 mul-add-if c = search needs
@@ -49,7 +49,7 @@ count-differences-spec =
     Inv-loop
     μ-loop
     loop-holds
-    wrapping-add-usize-requires
+    add-add-if
     mul-add-if
     element-copy-out-add-if
     mul-add-if-2
