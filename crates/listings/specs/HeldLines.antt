@@ -1,5 +1,5 @@
 -- The lines of tasks and cores, from the fields of the struct that holds the problem.
-use Prim.Native.Nat.{ℕ, _+_, _-_, _*_, _/_, _%_, _<_, _≤_}
+use Prim.Native.Nat.{ℕ, pred, _+_, _-_, _*_, _/_, _%_, _<_, _≤_}
 use mathlib.Core.List.{List, _∷_, _++_}
 use mathlib.Core.Path.{_≡_, refl, sym, ap, ap₂, _∙_}
 use native.Mathlib.Nat.{mul-le-mul-right, suc-mul}
@@ -10,11 +10,13 @@ use lib.ListN.{length, getD, take, drop, length-drop}
 use lib.Seq.{getD-drop}
 use Rattle.laws.specs.JoinedLaws.{listOf-same, take-is-listOf}
 use Rattle.laws.specs.Lists.{listOf, joined}
-use Rattle.instance.specs.Held.{problemIn, Sound, held-levelcount, held-span}
+use Rattle.instance.specs.Held.{problemIn, Sound, held-levelcount, held-span, held-task}
 use Rattle.instance.specs.Node.{taskCount, noLevel, noTask, span}
 use Rattle.instance.specs.declared.Instance.{Instance}
-use Rattle.schedule.specs.HeldQuantities.{held-job-ticks}
-use Rattle.schedule.specs.Quantities.{choiceAt, coreOf, levelOf, ticks, priceOf}
+use Rattle.instance.specs.declared.Level.{Level}
+use Rattle.instance.specs.declared.Task.{Task}
+use Rattle.schedule.specs.HeldQuantities.{held-level-of}
+use Rattle.schedule.specs.Quantities.{choiceAt, coreOf, levelOf, jobTicks, ticks, priceOf}
 use Rattle.schedule.specs.Tables.{tableSize, slotAt}
 use Rattle.schedule.specs.declared.prices.Price.{Price}
 use Rattle.listings.specs.Listing.{numbersLine, spanLine, costLine, keptLine, refusedLine, taskLine, coreLine, planLines}
@@ -23,6 +25,13 @@ module _ (inst : Instance) (s : Sound inst) (plan : List ℕ) (i : ℕ) where
   pub refused-task-line : choiceAt plan i ≡ 0 → taskLine (problemIn inst) plan i ≡ refusedLine (i + 1)
   unfolding taskLine
   refused-task-line none = rw (eq-eqb (choiceAt plan i) 0 none, add-one)
+
+  held-job-ticks : (l : ℕ) → i < taskCount (problemIn inst) → l ≡ pred (choiceAt plan i) % inst .levelcount →
+      ticks (getD (inst .tasks) i noTask .cycles) (getD (inst .levels) l noLevel .speed) ≡ jobTicks (problemIn inst) plan i
+  unfolding jobTicks
+  held-job-ticks l h e =
+      ap₂ ticks (ap (λ (t : Task). t .cycles) (held-task inst s i h))
+      (ap (λ (v : Level). v .speed) (held-level-of inst s (choiceAt plan i) l e))
 
   pub kept-task-line : (t : ℕ) → i < taskCount (problemIn inst) → (choiceAt plan i ≡ 0 → ⊥) →
       t ≡ ticks (getD (inst .tasks) i noTask .cycles)
@@ -35,7 +44,7 @@ module _ (inst : Instance) (s : Sound inst) (plan : List ℕ) (i : ℕ) where
       let held = held-levelcount inst s in
       let core : (choice - 1) / inst .levelcount ≡ coreOf (problemIn inst) plan i = ap₂ _/_ (sub-one choice) held in
       let level : (choice - 1) % inst .levelcount ≡ levelOf (problemIn inst) plan i = ap₂ _%_ (sub-one choice) held in
-      let same = e ∙ held-job-ticks inst s plan i _ h (ap (λ (n : ℕ). n % inst .levelcount) (sub-one choice)) in
+      let same = e ∙ held-job-ticks _ h (ap (λ (n : ℕ). n % inst .levelcount) (sub-one choice)) in
       rw (ne-eqb choice 0 kept, same, add-one i, add-one (_ / _), add-one (_ % _), core, level) refl
 
 module _ (inst : Instance) (s : Sound inst) (table : List ℕ) (whole : length table ≡ tableSize (problemIn inst))
