@@ -11,28 +11,12 @@ pub(crate) fn below(state: &mut u32, n: u32) -> u32
     next % n
 }
 
-// Whether the next number below n is 0: once in n times.
-pub(crate) fn once_in(state: &mut u32, n: u32) -> bool
-    requires { ⌜ 0 < n ⌝ }
-{
-    below(state, n) == 0
-}
-
 // A number from 1 to `most`, or 0 where there is none.
 pub(crate) fn up_to(state: &mut u32, most: u32) -> u32 {
     if most == 0 {
         return 0;
     }
     1 + below(state, most)
-}
-
-// One of the words of a short list.
-pub(crate) fn one_of(state: &mut u32, words: &[u32]) -> u32 {
-    let n = words.len();
-    if 0 < n && n < 100 {
-        return words[below(state, n as u32) as usize];
-    }
-    0
 }
 
 // The product without what is above a word.

@@ -1,8 +1,6 @@
 // Instances as words: 0 to 4 tasks, 1 to 3 cores, 1 to 4 levels. Numbers are small, so that costs are often equal and cores
 // are often exactly full; periods divide 24, so that a table has at most 72 slots.
 use crate::draw::below;
-use crate::draw::once_in;
-use crate::draw::one_of;
 use crate::draw::times;
 use crate::draw::up_to;
 use instance::MAY_NOT_BE_REFUSED;
@@ -64,7 +62,7 @@ fn cycles(state: &mut u32, period: u32) -> u32 {
 }
 
 fn penalty(state: &mut u32) -> u32 {
-    let most = one_of(state, &PENALTIES);
+    let most = PENALTIES[below(state, 8) as usize];
     if most == 0 {
         return MAY_NOT_BE_REFUSED;
     }
@@ -73,7 +71,7 @@ fn penalty(state: &mut u32) -> u32 {
 
 // Period, cycles and penalty.
 fn new_task(state: &mut u32) -> [u32; 3] {
-    let period = one_of(state, &PERIODS);
+    let period = PERIODS[below(state, 8) as usize];
     let cycles = cycles(state, period);
     [period, cycles, penalty(state)]
 }
@@ -90,7 +88,7 @@ fn put_tasks(words: &mut [u32; 32], from: usize, count: u32, state: &mut u32) ->
     let mut at = from;
     let mut i = 0;
     while i < count {
-        if i == 0 || !once_in(state, 5) {
+        if i == 0 || below(state, 5) != 0 {
             task = new_task(state);
         }
         put_task(words, at, task);
@@ -105,13 +103,13 @@ fn put_instance(words: &mut [u32; 32], state: &mut u32) -> usize {
     let levels = up_to(state, 4);
     words[4] = levels;
     let at = put_levels(words, levels, state);
-    let tasks = one_of(state, &TASKS);
+    let tasks = TASKS[below(state, 16) as usize];
     put(words, at, tasks);
     put_tasks(words, std::num::wrapping_add_usize(at, 1), tasks, state)
 }
 
 fn put_odd_word(words: &mut [u32; 32], state: &mut u32) {
-    let word = one_of(state, &ODD_WORDS);
+    let word = ODD_WORDS[below(state, 8) as usize];
     put(words, below(state, 27) as usize, word);
 }
 
@@ -138,7 +136,7 @@ fn spoil(words: &mut [u32; 32], end: usize, state: &mut u32) -> usize {
 // Draws an instance, one in ten spoilt, and answers how many words it has.
 pub fn draw_instance(words: &mut [u32; 32], state: &mut u32) -> usize {
     let end = put_instance(words, state);
-    if once_in(state, 10) {
+    if below(state, 10) == 0 {
         return spoil(words, end, state);
     }
     end

@@ -1,6 +1,5 @@
 // Tables that are not made by earliest deadline first: task after task takes the free slots that its jobs' windows have left.
 use crate::draw::below;
-use crate::draw::once_in;
 use crate::draw::times;
 
 // In place of the slot of its window that a job tries first: it tries them from the end.
@@ -125,7 +124,7 @@ fn fill_tasks(
 }
 
 fn draw_first(state: &mut u32) -> u32 {
-    if once_in(state, 2) {
+    if below(state, 2) == 0 {
         return FROM_THE_END;
     }
     below(state, 24)

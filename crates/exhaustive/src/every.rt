@@ -5,7 +5,8 @@ use crate::tried::after_plans;
 use crate::tried::is_cheaper;
 use crate::tried::none_tried;
 use crate::tried::refused;
-use crate::tried::with_price;
+use crate::tried::with_cheaper;
+use crate::tried::with_other;
 use instance::Refusal;
 use schedule::Price;
 use schedule::Priced;
@@ -34,8 +35,9 @@ fn with_plan(
 ) -> Tried {
     if is_cheaper(so_far, price) {
         copy(plan, choices, n);
+        return with_cheaper(so_far, price);
     }
-    with_price(so_far, price)
+    with_other(so_far, price)
 }
 
 fn price_front(words: &[u32], choices: &[u32; 12], n: usize) -> Priced {

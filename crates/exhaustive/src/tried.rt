@@ -39,7 +39,7 @@ pub(crate) fn is_cheaper(so_far: Tried, price: Price) -> bool {
 }
 
 // With a price that is below all before it.
-fn with_cheaper(so_far: Tried, price: Price) -> Tried {
+pub(crate) fn with_cheaper(so_far: Tried, price: Price) -> Tried {
     Tried {
         answer: [0, 0, price.energy, price.penalty, price.cost],
         tried: so_far.tried,
@@ -50,7 +50,7 @@ fn with_cheaper(so_far: Tried, price: Price) -> Tried {
 }
 
 // With a price that is not below all before it: the answer stands.
-fn with_other(so_far: Tried, price: Price) -> Tried {
+pub(crate) fn with_other(so_far: Tried, price: Price) -> Tried {
     let answer = so_far.answer;
     let mut next = so_far;
     next.priced = std::num::wrapping_add_u64(so_far.priced, 1);
@@ -58,13 +58,6 @@ fn with_other(so_far: Tried, price: Price) -> Tried {
         next.cheapest = std::num::wrapping_add_u64(so_far.cheapest, 1);
     }
     next
-}
-
-pub(crate) fn with_price(so_far: Tried, price: Price) -> Tried {
-    if is_cheaper(so_far, price) {
-        return with_cheaper(so_far, price);
-    }
-    with_other(so_far, price)
 }
 
 // After so many plans, which are all there are or not.

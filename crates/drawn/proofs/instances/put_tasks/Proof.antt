@@ -12,8 +12,8 @@ abbrev μ-loop : tie.MeasureT-loop
 loop-holds : tie.Need-loop-holds Inv-loop μ-loop
 loop-holds c = search needs
 
-once-in-requires : tie.Need-once-in-requires Inv-loop μ-loop
-once-in-requires c κs = search needs
+below-requires : tie.Need-below-requires Inv-loop μ-loop
+below-requires c κs = search needs
 
 new-task-requires : tie.Need-new-task-requires Inv-loop μ-loop
 new-task-requires c κs = search needs
@@ -43,7 +43,7 @@ put-tasks-spec =
     Inv-loop
     μ-loop
     loop-holds
-    once-in-requires
+    below-requires
     new-task-requires
     put-task-requires
     wrapping-add-usize-requires
