@@ -2,7 +2,7 @@
 use crate::show;
 
 pub(crate) fn paper() {
-    show::title(b"K1, K3 and K9");
+    lines::print_line(b"-- K1, K3 and K9");
     show::listing(
         b"3 1 1 1\n5 150 80 400 170 600 400 800 900 1000 1600\n2 10 2400 5000 20 6000 3000\n",
     );
@@ -15,7 +15,7 @@ pub(crate) fn paper() {
 }
 
 pub(crate) fn weights() {
-    show::title(b"K13, and K4 with weights 3 and 2");
+    lines::print_line(b"-- K13, and K4 with weights 3 and 2");
     show::listing(
         b"3 2 8 1\n5 150 80 400 170 600 400 800 900 1000 1600\n2 10 2400 5000 20 6000 3000\n",
     );
@@ -23,19 +23,19 @@ pub(crate) fn weights() {
 }
 
 pub(crate) fn no_task() {
-    show::title(b"K6, and a text with leading zeros and more blanks than needed");
+    lines::print_line(b"-- K6, and a text with leading zeros and more blanks than needed");
     show::listing(b"3 1 1 2\n5 150 80 400 170 600 400 800 900 1000 1600\n0\n");
     show::listing(b"\n 003 1  1 00001\n\n1 7 7 0  ");
 }
 
 pub(crate) fn rows() {
-    show::title(b"a job put off for another that is due earlier, and four full cores");
+    lines::print_line(b"-- a job put off for another that is due earlier, and four full cores");
     show::listing(b"3 1 1 1 1 1 1 2 2 1 4294967295 5 2 4294967295");
     show::listing(b"3 1 1 4 1 1 1 4 2 2 4294967295 2 2 4294967295 2 2 4294967295 2 2 4294967295");
 }
 
 pub(crate) fn twelve() {
-    show::title(b"twelve tasks");
+    lines::print_line(b"-- twelve tasks");
     show::listing(
         b"3 1 1 1 1 1 1 12 12 1 9 12 1 9 12 1 9 12 1 9 12 1 9 12 1 9 12 1 9 12 1 9 12 1 9 12 1 9 12 1 9 12 1 9",
     );

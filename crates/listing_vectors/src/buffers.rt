@@ -2,11 +2,15 @@
 use crate::show;
 
 pub(crate) fn lent() {
-    show::title(b"14, 12 and 11 bytes lent");
-    let mut longer = [46u8; 14];
-    show::listing_into(b"", &mut longer);
-    let mut just = [46u8; 12];
-    show::listing_into(b"", &mut just);
-    let mut short = [46u8; 11];
-    show::listing_into(b"", &mut short);
+    lines::print_line(b"-- 14, 12 and 11 bytes lent");
+    lend(14);
+    lend(12);
+    lend(11);
+}
+
+fn lend(room: usize) {
+    let mut out = [46u8; 14];
+    if room <= 14 {
+        show::listing_into(b"", &mut out[0..room]);
+    }
 }

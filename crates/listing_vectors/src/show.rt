@@ -1,37 +1,20 @@
 // Prints the listing of a text, and what became of a lent buffer.
 use instance::Refusal;
-use instance::refusal_number;
-use instance::refusal_place;
-use libc::STDOUT_FILENO;
+use lines::print;
+use lines::print_filled;
+use lines::print_line;
 use listings::Listed;
 use listings::list_site;
 
-fn print(bytes: &[u8]) {
-    io::write_all(STDOUT_FILENO, bytes);
-}
-
-fn print_number(n: u64) {
-    io::print_decimal(STDOUT_FILENO, n);
-}
-
 fn print_refusal(r: Refusal) {
-    print(b"lent buffer refused ");
-    print_number(refusal_number(r));
-    print(b" ");
-    print_number(refusal_place(r));
-    print(b"\n");
+    let numbers = [instance::refusal_number(r), instance::refusal_place(r)];
+    print_filled(b"lent buffer refused # #\n", &numbers);
 }
 
 fn print_front(bytes: &[u8], n: usize) {
     if n <= bytes.len() {
         print(&bytes[..n]);
     }
-}
-
-pub(crate) fn title(words: &[u8]) {
-    print(b"-- ");
-    print(words);
-    print(b"\n");
 }
 
 // The listing of a text, in a buffer with room for each of these examples.
@@ -43,16 +26,18 @@ pub(crate) fn listing(text: &[u8]) {
     }
 }
 
+fn print_count(n: usize) {
+    let numbers = [n as u64];
+    print_filled(b"# bytes\n", &numbers);
+}
+
 // The listing of a text in a lent buffer: the answer, and what the buffer holds then.
 pub(crate) fn listing_into(text: &[u8], out: &mut [u8]) {
     match list_site(text, out) {
-        Listed::Bytes(n) => {
-            print_number(n as u64);
-            print(b" bytes\n");
-        }
+        Listed::Bytes(n) => print_count(n),
         Listed::Refused(r) => print_refusal(r),
     }
     print(b"[");
     print(out);
-    print(b"]\n");
+    print_line(b"]");
 }
