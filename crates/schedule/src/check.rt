@@ -19,7 +19,7 @@ ghost use Rattle.laws.specs.Search.{count};
 ghost use Rattle.instance.specs.Held.{Sound, problemIn};
 ghost use Rattle.instance.specs.Node.{taskCount};
 ghost use Rattle.schedule.specs.Drawings.{AllowedPlan};
-ghost use Rattle.schedule.specs.Checks.{strayValue, slotsPass, isServed, jobsPass, check};
+ghost use Rattle.schedule.specs.Checks.{strayValue, slotsPass, isServed, jobsPass};
 ghost use Rattle.schedule.specs.Outcomes.{checkOutcome};
 ghost use Rattle.schedule.specs.HeldJobs.{jobsServed};
 ghost use Rattle.schedule.specs.Tables.{tableSize};
@@ -149,31 +149,23 @@ fn jobs_pass(inst: Instance, plan: &[u32], table: &[u8]) -> Verdict
     Verdict::Accepted
 }
 
-// The check of a table for an instance that was read.
-fn check_read(inst: Instance, plan: &[u32], table: &[u8]) -> Verdict
-    requires { ⌜ Sound inst ⌝ }
-    ensures { λ r. ⌜ r ≡ check (problemIn inst) (now (plan .entry)) (now (table .entry)) ⌝ }
-{
-    let choices = choices_pass(inst, plan);
-    let Verdict::Accepted = choices else {
-        return choices;
-    };
-    let slots = slots_pass(inst, plan, table);
-    if let Verdict::Accepted = slots {
-        return jobs_pass(inst, plan, table);
-    }
-    slots
-}
-
 // Whether a table is one of the plan's for the instance: every kept job has its ticks between release and due tick, and
 // no other slot is taken.
 pub fn check_table(instance: &[u32], plan: &[u32], table: &[u8]) -> Verdict
     ensures { λ r. ⌜ r ≡ checkOutcome (now (instance .entry)) (now (plan .entry)) (now (table .entry)) ⌝ }
 {
     let read = read_instance(instance);
-    let verdict = read.verdict;
-    if let Verdict::Accepted = verdict {
-        return check_read(read.instance, plan, table);
-    }
-    verdict
+    let words = read.verdict;
+    let Verdict::Accepted = words else {
+        return words;
+    };
+    let choices = choices_pass(read.instance, plan);
+    let Verdict::Accepted = choices else {
+        return choices;
+    };
+    let slots = slots_pass(read.instance, plan, table);
+    let Verdict::Accepted = slots else {
+        return slots;
+    };
+    jobs_pass(read.instance, plan, table)
 }

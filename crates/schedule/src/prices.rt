@@ -6,13 +6,11 @@ use crate::quantities::task_of;
 use instance::Instance;
 use instance::Refusal;
 ghost use mathlib.Core.Path.{_≡_};
-ghost use Prim.Native.Nat.{_<_};
 ghost use lib.ListN.{length};
 ghost use Rattle.instance.specs.Held.{Sound, problemIn};
 ghost use Rattle.instance.specs.Node.{taskCount};
 ghost use Rattle.instance.specs.declared.Verdict.the-variants.{Accepted};
 ghost use Rattle.schedule.specs.Plans.{planPasses};
-ghost use Rattle.schedule.specs.PriceBounds.{penaltyOf};
 ghost use Rattle.schedule.specs.Quantities.{coreEnergy, energy, penalty, priceOf};
 
 // What a plan comes to over one span.
@@ -57,20 +55,7 @@ fn all_energy(inst: Instance, plan: &[u32]) -> u64
     total
 }
 
-// The penalty of task i: none where the plan keeps it.
-fn penalty_of(inst: Instance, plan: &[u32], i: usize) -> u64
-    requires { ⌜ Sound inst ⌝ }
-    requires { ⌜ i < taskCount (problemIn inst) ⌝ }
-    requires { ⌜ i < length (now plan) ⌝ }
-    ensures { λ r. ⌜ r ≡ penaltyOf (problemIn inst) (now (plan .entry)) i ⌝ }
-{
-    if plan[i] == 0 {
-        let task = task_of(inst, i);
-        return jobs_in(inst.span, task.period) as u64 * task.penalty as u64;
-    }
-    0
-}
-
+// The penalties of all jobs of the tasks that the plan refuses.
 fn all_penalty(inst: Instance, plan: &[u32]) -> u64
     requires { ⌜ Sound inst ⌝ }
     requires { ⌜ length (now plan) ≡ taskCount (problemIn inst) ⌝ }
@@ -79,7 +64,10 @@ fn all_penalty(inst: Instance, plan: &[u32]) -> u64
     let mut penalty = 0;
     let mut i = 0;
     while i < inst.taskcount {
-        penalty += penalty_of(inst, plan, i);
+        if plan[i] == 0 {
+            let task = task_of(inst, i);
+            penalty += jobs_in(inst.span, task.period) as u64 * task.penalty as u64;
+        }
         i += 1;
     }
     penalty

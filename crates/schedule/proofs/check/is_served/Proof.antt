@@ -1,9 +1,7 @@
-use Prim.Native.Nat.{_+_, _*_, _≤_}
 use mathlib.Core.Path.{_≡_, sym, ap, _∙_}
 use native.Mathlib.Nat.{le-of-eq}
 use native.Mathlib.Numerals.{add-one}
 use native.Mathlib.Omega.{arith}
-use lib.ListN.{length}
 use Rattle.instance.specs.Held.{problemIn, held-span}
 use Rattle.instance.specs.declared.Task.{Task}
 use Rattle.schedule.specs.CheckLaws.{task-is-served}
@@ -16,16 +14,16 @@ use Rattle.schedule.proofs.check.is_served.Statement.{statement}
 use Rattle.schedule.proofs.check.is_served.Tie as tie
 
 mul-choice : tie.Need-mul-choice
-mul-choice c = search needs
+mul-choice c = let start = c .before .before in omega (arith, start .pre .0 .valid .task-count, start .pre .1 .1 .1)
 
 shared-slice-read-choice : tie.Need-shared-slice-read-choice
-shared-slice-read-choice c = search needs
+shared-slice-read-choice c = let start = c .before .before .before in omega (arith, start .pre .1 .0 .one-choice-per-task, start .pre .1 .1 .1)
 
 returns : tie.Need-returns
 returns c = sym (task-is-served _ _ _ _ .1 (λ kept. absurd (kept (c .if1 .taken))))
 
 task-of-requires : tie.Need-task-of-requires
-task-of-requires c κs = search needs
+task-of-requires c κs = let asked = c .before .before .before .before .pre in (asked .0, asked .1 .1 .1)
 
 core-of-requires : tie.Need-core-of-requires
 core-of-requires c κs = level-count-above-zero _ (c .before .before .before .before .before .pre .0)
@@ -52,16 +50,17 @@ cast-jobs : tie.Need-cast-jobs
 cast-jobs c = search needs
 
 job-ticks-requires : tie.Need-job-ticks-requires
-job-ticks-requires c κs = search needs
+job-ticks-requires c κs = let asked = c .before .before .before .before .before .before .before .before .pre in
+    (asked .0, (asked .1 .1 .1, omega (arith, asked .1 .0 .one-choice-per-task, asked .1 .1 .1)))
 
 cast-ticks : tie.Need-cast-ticks
 cast-ticks c = search needs
 
 cast-jobs-served : tie.Need-cast-jobs-served
-cast-jobs-served c = search needs
+cast-jobs-served c = let start = c .before .before .before .before .before .before .before .before .before in omega (arith, start .pre .0 .valid .task-count, start .pre .1 .1 .1)
 
 add-jobs-served : tie.Need-add-jobs-served
-add-jobs-served c = search needs
+add-jobs-served c = let start = c .before .before .before .before .before .before .before .before .before in omega (arith, start .pre .0 .valid .task-count, start .pre .1 .1 .1)
 
 cast-jobs-served-2 : tie.Need-cast-jobs-served-2
 cast-jobs-served-2 c = search needs
