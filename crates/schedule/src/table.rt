@@ -14,9 +14,8 @@ ghost use lib.ListN.{length};
 ghost use Rattle.laws.specs.Lists.{onto};
 ghost use Rattle.instance.specs.Held.{Sound, problemIn};
 ghost use Rattle.instance.specs.Node.{taskCount};
-ghost use Rattle.instance.specs.Refusals.{accepted};
 ghost use Rattle.schedule.specs.HeldTables.{HeldCore};
-ghost use Rattle.schedule.specs.Outcomes.{tableOutcomeOf, tableOutcome};
+ghost use Rattle.schedule.specs.Outcomes.{tableOutcome};
 ghost use Rattle.schedule.specs.Tables.{tableOf, tableSize};
 
 // What core k, counted from 0, knows of the tasks.
@@ -69,32 +68,23 @@ fn fill_table(inst: Instance, plan: &[u32], table: &mut [u8])
     }
 }
 
-// The table of a plan for an instance that was read.
-fn tabulate_read(inst: Instance, plan: &[u32], table: &mut [u8]) -> Verdict
-    requires { ⌜ Sound inst ⌝ }
-    ensures { λ r. ⌜ r ≡ tableOutcomeOf (accepted (problemIn inst)) (now (plan .entry)) (now (table .entry)) .answer ⌝ }
-    ensures { λ _. ⌜ now (table .exit) ≡ tableOutcomeOf (accepted (problemIn inst)) (now (plan .entry)) (now (table .entry)) .table ⌝ }
-{
-    let size = table_size(inst);
-    if table.len() < size {
-        return Verdict::Refused(Refusal::ShortBuffer(size));
-    }
-    let verdict = plan_passes(inst, plan);
-    if let Verdict::Accepted = verdict {
-        fill_table(inst, plan, table);
-    }
-    verdict
-}
-
 // Writes the table of a plan, one byte a slot.
 pub fn tabulate(instance: &[u32], plan: &[u32], table: &mut [u8]) -> Verdict
     ensures { λ r. ⌜ r ≡ tableOutcome (now (instance .entry)) (now (plan .entry)) (now (table .entry)) .answer ⌝ }
     ensures { λ _. ⌜ now (table .exit) ≡ tableOutcome (now (instance .entry)) (now (plan .entry)) (now (table .entry)) .table ⌝ }
 {
     let read = read_instance(instance);
-    let verdict = read.verdict;
+    let words = read.verdict;
+    let Verdict::Accepted = words else {
+        return words;
+    };
+    let size = table_size(read.instance);
+    if table.len() < size {
+        return Verdict::Refused(Refusal::ShortBuffer(size));
+    }
+    let verdict = plan_passes(read.instance, plan);
     if let Verdict::Accepted = verdict {
-        return tabulate_read(read.instance, plan, table);
+        fill_table(read.instance, plan, table);
     }
     verdict
 }
