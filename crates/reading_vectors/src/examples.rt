@@ -46,28 +46,22 @@ fn byte_of(letter: u8) -> u8 {
     }
 }
 
-fn spell(bytes: &mut [u8; 256], given: &[u8]) {
-    let mut i = 0;
-    while i < 256 {
-        if i < given.len() {
-            bytes[i] = byte_of(given[i]);
-        }
-        i += 1;
-    }
-}
-
+// A text of at most 256 letters.
 fn show_text(kind: u8, given: &[u8]) {
     let mut bytes = [0u8; 256];
-    spell(&mut bytes, given);
-    show_spelt(kind, &bytes, given.len());
-}
-
-fn show_spelt(kind: u8, bytes: &[u8; 256], n: usize) {
-    let all = &bytes[..];
-    if all.len() < n {
+    let n = given.len();
+    if 256 < n {
         return;
     }
-    let text = &all[0..n];
+    let mut i = 0;
+    while i < n {
+        bytes[i] = byte_of(given[i]);
+        i += 1;
+    }
+    show_spelt(kind, &bytes[0..n]);
+}
+
+fn show_spelt(kind: u8, text: &[u8]) {
     if kind == 116 {
         show::text(text);
     } else {

@@ -100,25 +100,17 @@ fn show_check(words: &[u32], choices: u32, given: &[u32]) {
     }
 }
 
+// Checks a table of at most 64 slots.
 fn check_slots(words: &[u32], plan: &[u32], table: &[u32]) {
     let mut slots = [0u8; 64];
-    copy_slots(&mut slots, table);
-    check_front(words, plan, &slots, table.len());
-}
-
-fn check_front(words: &[u32], plan: &[u32], slots: &[u8; 64], n: usize) {
-    let all = &slots[..];
-    if n <= all.len() {
-        show::check(words, plan, &all[0..n]);
+    let n = table.len();
+    if 64 < n {
+        return;
     }
-}
-
-fn copy_slots(slots: &mut [u8; 64], table: &[u32]) {
     let mut i = 0;
-    while i < 64 {
-        if i < table.len() {
-            slots[i] = (table[i] % 256) as u8;
-        }
+    while i < n {
+        slots[i] = (table[i] % 256) as u8;
         i += 1;
     }
+    show::check(words, plan, &slots[0..n]);
 }
