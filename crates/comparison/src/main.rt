@@ -37,7 +37,7 @@ fn main() {
 
 // Prints every count with its name.
 fn print_all(counts: &[u64; 28]) {
-    lines::print_filled(
+    printing::print_filled(
         b"-- drawn\n\
           # instances\n\
           # planned\n\

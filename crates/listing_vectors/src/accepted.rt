@@ -2,7 +2,7 @@
 use crate::show;
 
 pub(crate) fn paper() {
-    lines::print_line(b"-- K1, K3 and K9");
+    printing::print_line(b"-- K1, K3 and K9");
     show::listing(
         b"3 1 1 1\n5 150 80 400 170 600 400 800 900 1000 1600\n2 10 2400 5000 20 6000 3000\n",
     );
@@ -15,7 +15,7 @@ pub(crate) fn paper() {
 }
 
 pub(crate) fn weights() {
-    lines::print_line(b"-- K13, and K4 with weights 3 and 2");
+    printing::print_line(b"-- K13, and K4 with weights 3 and 2");
     show::listing(
         b"3 2 8 1\n5 150 80 400 170 600 400 800 900 1000 1600\n2 10 2400 5000 20 6000 3000\n",
     );
@@ -23,19 +23,19 @@ pub(crate) fn weights() {
 }
 
 pub(crate) fn no_task() {
-    lines::print_line(b"-- K6, and a text with leading zeros and more blanks than needed");
+    printing::print_line(b"-- K6, and a text with leading zeros and more blanks than needed");
     show::listing(b"3 1 1 2\n5 150 80 400 170 600 400 800 900 1000 1600\n0\n");
     show::listing(b"\n 003 1  1 00001\n\n1 7 7 0  ");
 }
 
 pub(crate) fn rows() {
-    lines::print_line(b"-- a job put off for another that is due earlier, and four full cores");
+    printing::print_line(b"-- a job put off for another that is due earlier, and four full cores");
     show::listing(b"3 1 1 1 1 1 1 2 2 1 4294967295 5 2 4294967295");
     show::listing(b"3 1 1 4 1 1 1 4 2 2 4294967295 2 2 4294967295 2 2 4294967295 2 2 4294967295");
 }
 
 pub(crate) fn twelve() {
-    lines::print_line(b"-- twelve tasks");
+    printing::print_line(b"-- twelve tasks");
     show::listing(
         b"3 1 1 1 1 1 1 12 12 1 9 12 1 9 12 1 9 12 1 9 12 1 9 12 1 9 12 1 9 12 1 9 12 1 9 12 1 9 12 1 9 12 1 9",
     );

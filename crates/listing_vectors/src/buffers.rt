@@ -2,7 +2,7 @@
 use crate::show;
 
 pub(crate) fn lent() {
-    lines::print_line(b"-- 14, 12 and 11 bytes lent");
+    printing::print_line(b"-- 14, 12 and 11 bytes lent");
     lend(14);
     lend(12);
     lend(11);

@@ -1,10 +1,10 @@
 // Prints the listing of a text, and what became of a lent buffer.
 use instance::Refusal;
-use lines::print;
-use lines::print_filled;
-use lines::print_line;
 use listings::Listed;
 use listings::list_site;
+use printing::print;
+use printing::print_filled;
+use printing::print_line;
 
 fn print_refusal(r: Refusal) {
     let numbers = [instance::refusal_number(r), instance::refusal_place(r)];

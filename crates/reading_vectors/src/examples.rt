@@ -22,7 +22,7 @@ fn run_line(line: &[u8]) {
         return;
     }
     if line[0] == 45 {
-        lines::print_line(line);
+        printing::print_line(line);
         return;
     }
     run_example(line[0], &line[1..]);

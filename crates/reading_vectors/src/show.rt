@@ -2,9 +2,9 @@
 use instance::Instance;
 use instance::Refusal;
 use instance::Verdict;
-use lines::print;
-use lines::print_field;
-use lines::print_filled;
+use printing::print;
+use printing::print_field;
+use printing::print_filled;
 use text::TextRead;
 
 fn print_refusal(r: Refusal) {

@@ -1,6 +1,6 @@
 // A small list with a word changed, and its first words.
 use crate::show;
-use lines::print_filled;
+use printing::print_filled;
 
 // One core, two levels, one task: word by word
 // 0 count, 1 energy weight, 2 penalty weight, 3 cores, 4 levels, 5 speed, 6 power, 7 speed, 8 power, 9 tasks, 10 period,

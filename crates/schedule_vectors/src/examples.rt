@@ -22,7 +22,7 @@ fn run_line(text: &[u8], line: &[u8], start: usize, sites: &mut [usize; 256]) {
         return;
     }
     if line[0] == 45 {
-        lines::print_line(line);
+        printing::print_line(line);
         return;
     }
     run_named(text, line[0], line[1], &line[2..], start, sites);

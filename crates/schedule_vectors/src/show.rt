@@ -1,9 +1,9 @@
 // Prints a line for each example.
 use instance::Refusal;
 use instance::Verdict;
-use lines::print;
-use lines::print_field;
-use lines::print_filled;
+use printing::print;
+use printing::print_field;
+use printing::print_filled;
 use schedule::Price;
 use schedule::Priced;
 

@@ -1,8 +1,8 @@
 use borrow.Author.Needs.{needs}
 use Prim.Native.Nat.{_≤_, _-_}
 use lib.ListN.{length}
-use Rattle.lines.proofs.print_filled.Statement.{statement}
-use Rattle.lines.proofs.print_filled.Tie as tie
+use Rattle.printing.proofs.print_filled.Statement.{statement}
+use Rattle.printing.proofs.print_filled.Tie as tie
 
 abbrev Inv-loop : tie.InvT-loop
 Inv-loop text numbers place₀ i₀ place i = i ≤ length text
