@@ -13,11 +13,12 @@ ghost use Rattle.laws.specs.Tests.{Tells};
 ghost use Rattle.dispatch.specs.Dispatching.{CoreOk, RowTold, StateOk, Stepped, TaskOk, readyOf, tasksOf};
 ghost use Rattle.dispatch.specs.Rows as rows;
 
-// What one core knows of the tasks: a task that is not kept there has no ticks.
+// What one core knows of the tasks: a task that is not kept there has no ticks. The number of tasks stands between the
+// arrays: copied in one piece, these would take a call for each tick.
 pub struct Core {
-    pub size: usize,
     pub period: [u32; 12],
     pub window: [u32; 12],
+    pub size: usize,
     pub ticks: [u32; 12],
 }
 
