@@ -18,5 +18,4 @@ pub mod SumOrderLaws
 pub mod ListLaws
 pub mod MultipleSearch
 pub mod PartLaws
-pub mod PartSearchLaws
 pub mod Tests

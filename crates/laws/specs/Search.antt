@@ -1,6 +1,6 @@
 -- Tests tried at 0, 1, 2 and so on.
 use Prim.Native.Nat.{ℕ, zero, suc, _+_}
-use mathlib.Core.Bool.{Bool, true, false, cond, _&&_}
+use mathlib.Core.Bool.{Bool, true, cond, _&&_}
 use lib.Dec.{ltb}
 
 -- the least k below n that passes, or n where none does

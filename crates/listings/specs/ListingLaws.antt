@@ -23,7 +23,7 @@ use Rattle.schedule.specs.declared.prices.Price.{Price}
 use Rattle.schedule.specs.declared.prices.Priced.{Priced}
 use Rattle.schedule.specs.declared.prices.Priced.the-variants as Priced
 use Rattle.planner.specs.EndingLaws.{best-plan-length}
-use Rattle.planner.specs.Outcomes.{PlanOutcome, planAnswered, planOutcome}
+use Rattle.planner.specs.Outcomes.{planAnswered, planOutcome}
 use Rattle.planner.specs.PlannedLaws.{where-room}
 use Rattle.planner.specs.Planning.{bestPlan}
 use Rattle.planner.specs.RoomLaws.{enough-room, front-of-onto}

@@ -1,7 +1,7 @@
 -- A listing that was made in a buffer of its own comes to the outcome of listing.
 use Prim.Native.Nat.{ℕ, _≤_, _<_}
-use mathlib.Core.List.{List, [], _∷_}
-use mathlib.Core.Path.{_≡_, refl, sym, ap, _∙_}
+use mathlib.Core.List.{List}
+use mathlib.Core.Path.{_≡_, ap, _∙_}
 use native.Mathlib.Nat.{zero-add}
 use native.Mathlib.Omega.{arith}
 use lib.ListN.{length, take}
@@ -14,7 +14,7 @@ use Rattle.instance.specs.declared.Refusal.{Refusal}
 use Rattle.instance.specs.declared.Refusal.the-variants.{ShortBuffer}
 use Rattle.listings.specs.Listing.{listingOf}
 use Rattle.listings.specs.ListingLength.{mostListing, listing-at-most}
-use Rattle.listings.specs.Outcomes.{ListOutcome, listOutcome}
+use Rattle.listings.specs.Outcomes.{listOutcome}
 use Rattle.listings.specs.Placing.{placed, Room, Put}
 use Rattle.listings.specs.declared.site.Listed.{Listed}
 use Rattle.listings.specs.declared.site.Listed.the-variants.{Bytes, Refused}

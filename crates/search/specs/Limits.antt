@@ -1,9 +1,7 @@
 -- The limits of the search: within them all sums fit 64 bits, and all tables their arrays.
 use Prim.Native.Nat.{ℕ, _*_, _≤_, _<_}
-use mathlib.Core.Path.{_≡_, refl}
-use mathlib.Core.Bool.{Bool, true, false, not}
+use mathlib.Core.Bool.{Bool}
 use mathlib.Core.List.{List}
-use Rattle.laws.specs.Truth.{false-not-true}
 use lib.ListN.{length, getD}
 use Rattle.assignment.specs.Offered.{mostItems, mostLevels, mostCapacity, mostCost, CheapAt}
 use Rattle.search.specs.declared.Shape.{Shape}

@@ -10,7 +10,7 @@ use Rattle.laws.specs.JoinedLaws.{length-listOf}
 use Rattle.assignment.specs.Bounds.{CostsAtMost, nothing, more}
 use Rattle.assignment.specs.Rows.{keyBase}
 use Rattle.search.specs.BestTables.{Searchable}
-use Rattle.assignment.specs.Offered.{mostItems, mostCost, entryOf, itemAt, itemsOf, offered, Affordable, CheapAt}
+use Rattle.assignment.specs.Offered.{mostItems, mostCost, itemAt, itemsOf, offered, Affordable, CheapAt}
 
 -- f i, f (i + 1), .., f (i + n - 1)
 unfoldable pub listFrom : {A : Type 0} → (ℕ → A) → ℕ → ℕ → List A
