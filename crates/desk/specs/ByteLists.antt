@@ -10,7 +10,7 @@ use lib.ListN.{length, getD, take, drop, length-append, length-drop, List·getD-
 use lib.Seq.{getD-append-add, getD-take, getD-drop, length-take-le}
 use Rattle.laws.specs.Below.{lt-or-le}
 use Rattle.laws.specs.Lists.{onto}
-use Rattle.instance.specs.Limits.{mostCores, mostLevels}
+use Rattle.ranges.specs.Limits.{mostCores, mostLevels}
 use Rattle.instance.specs.Node.{Problem, levelCount, taskCount}
 use Rattle.instance.specs.Refusals.{Reading, refused, accepted, room, _andThen_}
 use Rattle.instance.specs.SiteFile.{problemOf}

@@ -10,7 +10,7 @@ use lib.Dec.{leb}
 use lib.ListN.{length, take, drop, length-append, length-drop, take-append-drop}
 use lib.Seq.{take-all, take-at, length-take-le, drop-append-le}
 use Rattle.laws.specs.Lists.{onto}
-use Rattle.instance.specs.Limits.{mostTasks}
+use Rattle.ranges.specs.Limits.{mostTasks}
 use Rattle.instance.specs.Node.{Problem, taskCount}
 use Rattle.instance.specs.Refusals.{Reading, refused, accepted, room, _andThen_}
 use Rattle.instance.specs.SiteFile.{problemOf}

@@ -4,7 +4,7 @@ use mathlib.Core.Path.{_≡_}
 use mathlib.Core.Bool.{Bool, true, false}
 use mathlib.Core.List.{List}
 use lib.ListN.{length, getD, take}
-use Rattle.instance.specs.Limits.{mostWord, mostTasks, mostPeriod, mostSpan}
+use Rattle.ranges.specs.Limits.{mostWord, mostTasks, mostPeriod, mostSpan}
 use Rattle.dispatch.specs.Rows.{CoreTasks, Dispatch, afterRelease, row, step}
 use Rattle.dispatch.specs.declared.Core.{Core}
 use Rattle.dispatch.specs.declared.State.{State}

@@ -7,7 +7,7 @@ use native.Mathlib.Nat.{le-of-suc-le-suc}
 use native.Mathlib.Numerals.{add-one}
 use native.Mathlib.Omega.{arith}
 use lib.ListN.{length, getD, take, replicate}
-use Rattle.instance.specs.Limits.{mostTasks}
+use Rattle.ranges.specs.Limits.{mostTasks}
 use Rattle.laws.specs.JoinedLaws.{listOf-same}
 use Rattle.laws.specs.Lists.{listOf}
 use Rattle.laws.specs.Tests.{Tells}

@@ -10,7 +10,7 @@ use lib.Dec.{eqb, ltb}
 use lib.ListN.{length, getD, take, set, length-set}
 use lib.Seq.{getD-take, getD-set-same, getD-set-other}
 use borrow.Author.Tests.{eqb-true, eqb-false, eq-eqb, ne-eqb, lt-ltb, le-ltb}
-use Rattle.instance.specs.Limits.{mostTasks}
+use Rattle.ranges.specs.Limits.{mostTasks}
 use Rattle.laws.specs.JoinedLaws.{length-listOf, listOf-same, take-is-listOf}
 use Rattle.laws.specs.Lists.{listOf, onto}
 use Rattle.laws.specs.OntoLaws.{length-onto, getD-onto-listOf, getD-onto-listOf-next, set-onto-listOf}

@@ -1,13 +1,13 @@
 // Earliest deadline first on one core, one tick at a time, and the row of slots that it gives.
-use instance::MOST_PERIOD;
-use instance::MOST_SPAN;
-use instance::MOST_TASKS;
+use ranges::MOST_PERIOD;
+use ranges::MOST_SPAN;
+use ranges::MOST_TASKS;
 ghost use mathlib.Core.Bool.{cond};
 ghost use mathlib.Core.Path.{_≡_};
 ghost use Prim.Native.Nat.{ℕ, _+_, _*_, _/_, _%_, _≤_, _<_};
 ghost use lib.Dec.{eqb};
 ghost use lib.ListN.{length, getD};
-ghost use Rattle.instance.specs.Limits.{mostPeriod, mostSpan, mostTasks, mostWord};
+ghost use Rattle.ranges.specs.Limits.{mostPeriod, mostSpan, mostTasks, mostWord};
 ghost use Rattle.laws.specs.Lists.{listOf, onto};
 ghost use Rattle.laws.specs.Tests.{Tells};
 ghost use Rattle.dispatch.specs.Dispatching.{CoreOk, RowTold, StateOk, Stepped, TaskOk, readyOf, tasksOf};

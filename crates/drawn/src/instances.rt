@@ -3,7 +3,7 @@
 use crate::draw::below;
 use crate::draw::times;
 use crate::draw::up_to;
-use instance::MAY_NOT_BE_REFUSED;
+use ranges::MAY_NOT_BE_REFUSED;
 
 const PERIODS: [u32; 8] = [1, 2, 3, 4, 6, 8, 12, 24];
 

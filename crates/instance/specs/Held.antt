@@ -5,7 +5,7 @@ use lib.ListN.{take, getD}
 use lib.Seq.{getD-take}
 use native.Mathlib.Omega.{arith}
 use Rattle.laws.specs.PaddedLaws.{take-padded}
-use Rattle.instance.specs.Limits.{mostLevels, mostTasks}
+use Rattle.ranges.specs.Limits.{mostLevels, mostTasks}
 use Rattle.instance.specs.Node.{Problem, levelCount, taskCount, levelAt, taskAt, noLevel, noTask, span, stored}
 use Rattle.instance.specs.Valid.{Valid}
 use Rattle.instance.specs.declared.Instance.{Instance}

@@ -4,7 +4,7 @@ use mathlib.Core.List.{List}
 use lib.ListN.{length, replicate}
 use lib.Seq.{sets}
 use Rattle.laws.specs.Lists.{padded}
-use Rattle.instance.specs.Limits
+use Rattle.ranges.specs.Limits
 use Rattle.instance.specs.Node.{noLevel}
 use Rattle.instance.specs.Sections.{answered}
 use Rattle.instance.specs.SiteFile.{Taken, Take, _>>=_, done, word, between, levels}

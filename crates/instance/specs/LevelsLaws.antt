@@ -8,7 +8,7 @@ use native.Mathlib.Omega.{arith}
 use lib.ListN.{length, drop, set, replicate}
 use Rattle.laws.specs.PaddedLaws.{sets-of-blank-is-padded}
 use Rattle.instance.specs.Levels.{oneLevel, WithinLimits, levelsAfter, levelsSection, noLevels, levelsRead, levelsWith}
-use Rattle.instance.specs.Limits
+use Rattle.ranges.specs.Limits
 use Rattle.instance.specs.Node.{noLevel}
 use Rattle.instance.specs.RepeatedLaws.{Repeats, Counts, repeated-count, repeated-keeps-place}
 use Rattle.instance.specs.SectionLaws.{pair-taken, pair-refused}

@@ -1,4 +1,3 @@
-pub mod Limits
 pub mod Refusals
 pub mod Node
 pub mod SiteFile

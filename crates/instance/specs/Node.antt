@@ -5,7 +5,7 @@ use mathlib.Core.List.{List, [], _∷_}
 use lib.ListN.{length, getD, replicate}
 use Rattle.laws.specs.Lists.{padded}
 use Rattle.laws.specs.Multiples.{lcm}
-use Rattle.instance.specs.Limits.{mostLevels, mostTasks}
+use Rattle.ranges.specs.Limits.{mostLevels, mostTasks}
 use Rattle.instance.specs.declared.Instance.{Instance}
 use Rattle.instance.specs.declared.Level.{Level}
 use Rattle.instance.specs.declared.Task.{Task}

@@ -6,7 +6,7 @@ use mathlib.Core.Path.{_≡_, refl, sym}
 use native.Mathlib.Omega.{arith}
 use borrow.Author.Tests.{leb-true, leb-false, eq-eqb, ne-eqb}
 use lib.Dec.{eqb, leb}
-use Rattle.instance.specs.Limits
+use Rattle.ranges.specs.Limits
 use Rattle.instance.specs.SiteFile.{refused, taken, word, between, isPenalty}
 use Rattle.instance.specs.declared.Refusal.{Refusal}
 use Rattle.instance.specs.declared.Refusal.the-variants.{WordRange}

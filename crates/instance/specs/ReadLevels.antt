@@ -5,7 +5,7 @@ use mathlib.Core.List.{List, [], _∷_, _++_}
 use native.Mathlib.Nat.{le-of-suc-le-suc}
 use native.Mathlib.Omega.{arith}
 use lib.ListN.{length, getD}
-use Rattle.instance.specs.Limits
+use Rattle.ranges.specs.Limits
 use Rattle.instance.specs.Node.{Problem, noLevel}
 use Rattle.instance.specs.SiteFile.{taken, word, levels}
 use Rattle.instance.specs.Valid.{InRange, Valid, wordsOfLevels}

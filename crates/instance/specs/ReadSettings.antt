@@ -3,7 +3,7 @@ use Prim.Native.Nat.{ℕ}
 use mathlib.Core.Path.{_≡_}
 use mathlib.Core.List.{List, _∷_}
 use native.Mathlib.Omega.{arith}
-use Rattle.instance.specs.Limits
+use Rattle.ranges.specs.Limits
 use Rattle.instance.specs.SiteFile.{taken, Settings, settings}
 use Rattle.instance.specs.Valid.{InRange}
 use Rattle.instance.specs.ReadWords.{first-word, between-true, taken-same}

@@ -11,7 +11,7 @@ use lib.ListN.{length, getD}
 use borrow.Author.Tests.{leb-true, le-leb, eqb-true, eq-eqb}
 use Rattle.laws.specs.Multiples.{lcm}
 use Rattle.laws.specs.MultiplesLaws.{lcm-above-zero}
-use Rattle.instance.specs.Limits
+use Rattle.ranges.specs.Limits
 use Rattle.instance.specs.Node.{noTask, spanFrom}
 use Rattle.instance.specs.SiteFile.{taken, word, between, period, isPenalty, tasks}
 use Rattle.instance.specs.SpanLaws.{so-far-at-most-spanFrom}

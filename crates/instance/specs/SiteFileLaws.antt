@@ -4,7 +4,7 @@ use mathlib.Core.Path.{_≡_, refl, ap}
 use mathlib.Core.List.{List, [], _∷_, append-nil}
 use native.Mathlib.Omega.{arith}
 use Rattle.instance.specs.ReadLevels.{levels-read, levels-taken, rising-in-range, rising-rises, valid-speeds, valid-powers}
-use Rattle.instance.specs.Limits
+use Rattle.ranges.specs.Limits
 use Rattle.instance.specs.Node.{Problem, taskCount, span}
 use Rattle.instance.specs.Refusals.{accepted}
 use Rattle.instance.specs.ReadSettings.{settings-read}

@@ -7,7 +7,7 @@ use native.Mathlib.Omega.{arith}
 use lib.Dec.{leb}
 use lib.ListN.{length}
 use Rattle.laws.specs.Multiples.{lcm}
-use Rattle.instance.specs.Limits
+use Rattle.ranges.specs.Limits
 use Rattle.instance.specs.Node.{Problem}
 use Rattle.instance.specs.Refusals.{Reading, numberOf, placeOf}
 use Rattle.instance.specs.SiteFile.{Taken, taken, refused, Take, continue, word, end, settings, levels, period, tasks, siteFile, readingOf, problemOf}

@@ -6,7 +6,7 @@ use lib.ListN.{drop}
 use Rattle.instance.specs.Levels.{levelsSection, noLevels, theseLevels, levelsRead}
 use Rattle.instance.specs.LevelsLaws.{levels-section-keeps-place}
 use Rattle.instance.specs.SectionLaws.{TakenAt, accepted-is-taken, refused-is-refused}
-use Rattle.instance.specs.Limits
+use Rattle.ranges.specs.Limits
 use Rattle.instance.specs.Sections.{pair}
 use Rattle.instance.specs.SiteFile.{continue, refused, done, word, between, settings, levels, siteFile}
 use Rattle.instance.specs.SiteRead.{afterSettings}

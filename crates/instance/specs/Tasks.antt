@@ -5,7 +5,7 @@ use lib.ListN.{length, replicate}
 use lib.Seq.{sets}
 use Rattle.laws.specs.Lists.{padded}
 use Rattle.laws.specs.Multiples.{lcm}
-use Rattle.instance.specs.Limits
+use Rattle.ranges.specs.Limits
 use Rattle.instance.specs.Node.{noTask, spanFrom}
 use Rattle.instance.specs.Sections.{answered}
 use Rattle.instance.specs.SiteFile.{Taken, Take, _>>=_, done, word, between, isPenalty, period, tasks}

@@ -11,7 +11,7 @@ use lib.ListN.{length, drop, set, replicate}
 use Rattle.laws.specs.PaddedLaws.{sets-of-blank-is-padded}
 use Rattle.laws.specs.MultipleSearch.{lcm-positive}
 use Rattle.laws.specs.Multiples.{lcm}
-use Rattle.instance.specs.Limits
+use Rattle.ranges.specs.Limits
 use Rattle.instance.specs.Node.{noTask, spanFrom}
 use Rattle.instance.specs.RepeatedLaws.{Repeats, Counts, repeated-count, repeated-keeps-place}
 use Rattle.instance.specs.SectionLaws.{answered-taken, answered-refused}

@@ -4,7 +4,7 @@ use Prim.Native.Nat.{ℕ, suc, _≤_, _<_}
 use mathlib.Core.Path.{_≡_}
 use mathlib.Core.Logic.{_⊎_}
 use mathlib.Core.List.{List, [], _∷_, _++_}
-use Rattle.instance.specs.Limits
+use Rattle.ranges.specs.Limits
 use Rattle.instance.specs.Node.{Problem, levelCount, taskCount, levelAt, taskAt, span}
 use Rattle.instance.specs.declared.Level.{Level}
 use Rattle.instance.specs.declared.Task.{Task}

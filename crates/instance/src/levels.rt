@@ -2,7 +2,6 @@
 use crate::Level;
 use crate::Refusal;
 use crate::Verdict;
-use crate::limits;
 use crate::word::Pair;
 use crate::word::Word;
 use crate::word::pair_at;
@@ -11,7 +10,7 @@ ghost use mathlib.Core.Path.{_≡_};
 ghost use Prim.Native.Nat.{_≤_};
 ghost use lib.ListN.{drop};
 ghost use Rattle.instance.specs.Levels.{levelsAfter, levelsSection, levelsRead};
-ghost use Rattle.instance.specs.Limits.{mostLevels};
+ghost use Rattle.ranges.specs.Limits.{mostLevels};
 ghost use Rattle.instance.specs.Node.{noLevel};
 ghost use Rattle.instance.specs.SiteFile.{refused};
 
@@ -47,9 +46,9 @@ fn levels_from(words: &[u32], at: usize, count: usize) -> LevelsRead
             words,
             next,
             before.speed + 1,
-            limits::MOST_SPEED,
+            ranges::MOST_SPEED,
             before.power + 1,
-            limits::MOST_POWER,
+            ranges::MOST_POWER,
         ) {
             Pair::Refused(why) => return no_levels(why),
             Pair::Taken(speed, power, after) => {
@@ -71,7 +70,7 @@ fn levels_from(words: &[u32], at: usize, count: usize) -> LevelsRead
 pub(crate) fn levels_at(words: &[u32], at: usize) -> LevelsRead
     ensures { λ r. ⌜ r ≡ levelsRead (levelsSection at (drop at (now (words .entry)))) ⌝ }
 {
-    match word_at(words, at, 1, limits::MOST_LEVELS) {
+    match word_at(words, at, 1, ranges::MOST_LEVELS) {
         Word::Refused(why) => no_levels(why),
         Word::Taken(count, next) => levels_from(words, next, count as usize),
     }

@@ -1,16 +1,11 @@
 // What the words of a site's file say: an instance, or a refusal; and the refusals 1 to 10 of document 01.
 mod levels;
-mod limits;
 mod multiples;
 mod refusals;
 mod site;
 mod tasks;
 mod word;
 
-pub use limits::MAY_NOT_BE_REFUSED;
-pub use limits::MOST_PERIOD;
-pub use limits::MOST_SPAN;
-pub use limits::MOST_TASKS;
 pub use refusals::refusal_number;
 pub use refusals::refusal_place;
 pub use site::read_instance;

@@ -3,7 +3,7 @@
 ghost use mathlib.Core.Path.{_≡_};
 ghost use Prim.Native.Nat.{_<_, _≤_};
 ghost use Rattle.laws.specs.Multiples.{lcm};
-ghost use Rattle.instance.specs.Limits.{mostSpan, mostPeriod};
+ghost use Rattle.ranges.specs.Limits.{mostSpan, mostPeriod};
 
 // The first multiple of `b` that `a` divides.
 pub(crate) fn least_common_multiple(a: u32, b: u32) -> u32

@@ -7,7 +7,6 @@ use crate::Task;
 use crate::Verdict;
 use crate::Weights;
 use crate::levels::levels_at;
-use crate::limits;
 use crate::tasks::tasks_at;
 use crate::word::Pair;
 use crate::word::pair_at;
@@ -81,14 +80,14 @@ pub fn read_instance(words: &[u32]) -> InstanceRead
     match pair_at(
         words,
         0,
-        limits::SETTINGS_COUNT,
-        limits::SETTINGS_COUNT,
+        ranges::SETTINGS_COUNT,
+        ranges::SETTINGS_COUNT,
         1,
-        limits::MOST_WEIGHT,
+        ranges::MOST_WEIGHT,
     ) {
         Pair::Refused(why) => return no_instance(why),
         Pair::Taken(_, energy, middle) => {
-            match pair_at(words, middle, 1, limits::MOST_WEIGHT, 1, limits::MOST_CORES) {
+            match pair_at(words, middle, 1, ranges::MOST_WEIGHT, 1, ranges::MOST_CORES) {
                 Pair::Refused(why) => return no_instance(why),
                 Pair::Taken(penalty, cores, next) => return after_settings(
                     words,

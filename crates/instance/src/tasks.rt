@@ -2,14 +2,13 @@
 use crate::Refusal;
 use crate::Task;
 use crate::Verdict;
-use crate::limits;
 use crate::multiples::least_common_multiple;
 use crate::word::Word;
 use crate::word::word_at;
 ghost use mathlib.Core.Path.{_≡_};
 ghost use Prim.Native.Nat.{_≤_};
 ghost use lib.ListN.{drop};
-ghost use Rattle.instance.specs.Limits.{mostTasks};
+ghost use Rattle.ranges.specs.Limits.{mostTasks};
 ghost use Rattle.instance.specs.Sections.{wordRead};
 ghost use Rattle.instance.specs.SiteFile.{refused, word, isPenalty, tasks};
 ghost use Rattle.instance.specs.Tasks.{oneTask, SpanWithinLimits, tasksSection, taskRead, tasksRead};
@@ -36,11 +35,11 @@ fn penalty_at(words: &[u32], at: usize) -> Word
     match word_at(
         words,
         at,
-        limits::MAY_NOT_BE_REFUSED,
-        limits::MAY_NOT_BE_REFUSED,
+        ranges::MAY_NOT_BE_REFUSED,
+        ranges::MAY_NOT_BE_REFUSED,
     ) {
         Word::Taken(penalty, next) => Word::Taken(penalty, next),
-        Word::Refused(_) => word_at(words, at, 1, limits::MOST_PENALTY),
+        Word::Refused(_) => word_at(words, at, 1, ranges::MOST_PENALTY),
     }
 }
 
@@ -49,14 +48,14 @@ fn task_at(words: &[u32], at: usize, span: u32) -> TaskRead
     requires { ⌜ SpanWithinLimits span ⌝ }
     ensures { λ r. ⌜ r ≡ taskRead span (oneTask span at (drop at (now (words .entry)))) ⌝ }
 {
-    match word_at(words, at, 1, limits::MOST_PERIOD) {
+    match word_at(words, at, 1, ranges::MOST_PERIOD) {
         Word::Refused(why) => TaskRead::Refused(why),
         Word::Taken(period, second) => {
             let longer = least_common_multiple(span, period);
-            if limits::MOST_SPAN < longer {
+            if ranges::MOST_SPAN < longer {
                 return TaskRead::Refused(Refusal::SpanTooLong(at));
             }
-            match word_at(words, second, 1, limits::MOST_CYCLES) {
+            match word_at(words, second, 1, ranges::MOST_CYCLES) {
                 Word::Refused(why) => TaskRead::Refused(why),
                 Word::Taken(cycles, third) => match penalty_at(words, third) {
                     Word::Refused(why) => TaskRead::Refused(why),
@@ -132,7 +131,7 @@ fn tasks_from(words: &[u32], at: usize, count: usize) -> TasksRead
 pub(crate) fn tasks_at(words: &[u32], at: usize) -> TasksRead
     ensures { λ r. ⌜ r ≡ tasksRead (tasksSection at (drop at (now (words .entry)))) ⌝ }
 {
-    match word_at(words, at, 0, limits::MOST_TASKS) {
+    match word_at(words, at, 0, ranges::MOST_TASKS) {
         Word::Refused(why) => no_tasks(why),
         Word::Taken(count, next) => tasks_from(words, next, count as usize),
     }

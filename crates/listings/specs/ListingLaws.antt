@@ -6,7 +6,7 @@ use mathlib.Core.Path.{_≡_, refl, ap, _∙_}
 use native.Mathlib.Omega.{arith}
 use lib.ListN.{length, take, length-take}
 use Rattle.instance.specs.Held.{problemIn, held-taskcount}
-use Rattle.instance.specs.Limits.{mostCores, mostSpan, mostTasks}
+use Rattle.ranges.specs.Limits.{mostCores, mostSpan, mostTasks}
 use Rattle.instance.specs.Node.{taskCount}
 use Rattle.instance.specs.Refusals.{refused, accepted}
 use Rattle.instance.specs.SiteFile.{problemOf}

@@ -9,7 +9,7 @@ use native.Mathlib.Omega.{arith}
 use lib.ListN.{length, getD, length-append}
 use Rattle.laws.specs.JoinedLaws.{length-listOf, getD-listOf}
 use Rattle.laws.specs.Lists.{listOf}
-use Rattle.instance.specs.Limits.{mostCores, mostLevels, mostSpan, mostTasks}
+use Rattle.ranges.specs.Limits.{mostCores, mostLevels, mostSpan, mostTasks}
 use Rattle.instance.specs.Node.{Problem, levelCount, taskCount, span}
 use Rattle.text.specs.NumberCountLaws.{mostTextWords, read-words-at-most}
 use Rattle.instance.specs.Refusals.{Reading, refused, accepted, numberOf, placeOf}

@@ -9,7 +9,7 @@ use lib.ListN.{length, take, length-take}
 use lib.Seq.{take-all, take-take, length-take-le}
 use borrow.Author.Tests.{lt-ltb}
 use Rattle.laws.specs.Below.{lt-or-le}
-use Rattle.instance.specs.Limits.{mostTextBytes}
+use Rattle.ranges.specs.Limits.{mostTextBytes}
 use Rattle.text.specs.NumberCountLaws.{first-fault-at-most}
 use Rattle.text.specs.Text.{firstFault, wordsOf}
 use Rattle.listings.specs.Listing.{listingOfWords, listingOf}

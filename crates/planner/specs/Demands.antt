@@ -10,7 +10,7 @@ use lib.ListN.{length, take}
 use Rattle.laws.specs.Lists.{onto}
 use Rattle.laws.specs.Sums.{sum}
 use Rattle.text.specs.Decimal.{spelled}
-use Rattle.instance.specs.Limits.{mostTextBytes}
+use Rattle.ranges.specs.Limits.{mostTextBytes}
 use Rattle.instance.specs.Node.{Problem, levelCount, taskCount, levelAt, taskAt, span}
 use Rattle.instance.specs.Outcomes.{instanceOutcome}
 use Rattle.text.specs.Outcomes.{wordsOutcome}

@@ -5,7 +5,7 @@ use native.Mathlib.Nat.{le-trans, le-of-eq, mul-le-mul, div-le-self}
 use lib.Dec.{eqb}
 use lib.ListN.{getD}
 use Rattle.instance.specs.Held.{problemIn, Sound, held-task, held-level, held-span}
-use Rattle.instance.specs.Limits.{mostWeight, mostPower, mostSpan, mayNotBeRefused}
+use Rattle.ranges.specs.Limits.{mostWeight, mostPower, mostSpan, mayNotBeRefused}
 use Rattle.instance.specs.Node.{levelCount, taskCount, taskAt, noLevel, noTask}
 use Rattle.instance.specs.declared.Instance.{Instance}
 use Rattle.instance.specs.declared.Level.{Level}

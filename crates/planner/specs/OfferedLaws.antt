@@ -10,7 +10,7 @@ use Rattle.laws.specs.Below.{lt-or-le}
 use Rattle.laws.specs.JoinedLaws.{length-listOf, getD-listOf}
 use Rattle.laws.specs.Lists.{listOf}
 use Rattle.instance.specs.Held.{problemIn, Sound, held-taskcount, held-levelcount, held-span}
-use Rattle.instance.specs.Limits.{mostLevels}
+use Rattle.ranges.specs.Limits.{mostLevels}
 use Rattle.instance.specs.Node.{Problem, levelCount, noTask, taskAt, taskCount, span}
 use Rattle.instance.specs.Valid.{Valid}
 use Rattle.instance.specs.declared.Instance.{Instance}

@@ -10,7 +10,7 @@ use lib.ListN.{length, getD, set, length-set}
 use lib.Seq.{getD-set-same, getD-set-other}
 use borrow.Author.Count.{below-more}
 use Rattle.laws.specs.Below.{lt-or-le}
-use Rattle.instance.specs.Limits.{mostLevels, mostTasks}
+use Rattle.ranges.specs.Limits.{mostLevels, mostTasks}
 use Rattle.instance.specs.Node.{Problem, levelCount, taskAt, span}
 use Rattle.planner.specs.OptionsOf.{itemOf}
 

@@ -11,7 +11,7 @@ use borrow.Author.Tests.{eq-eqb, eqb-true}
 use Rattle.laws.specs.SumBounds.{sum-at-most}
 use Rattle.laws.specs.SumLaws.{term-le-sum}
 use Rattle.laws.specs.Truth.{false-not-true, not-true-is-false}
-use Rattle.instance.specs.Limits.{mostWeight, mostPower, mostCycles, mostPenalty, mostSpan, mayNotBeRefused}
+use Rattle.ranges.specs.Limits.{mostWeight, mostPower, mostCycles, mostPenalty, mostSpan, mayNotBeRefused}
 use Rattle.instance.specs.Node.{Problem, levelCount, taskCount, levelAt, taskAt, span}
 use Rattle.instance.specs.Valid.{InRange, Valid}
 use Rattle.instance.specs.declared.Task.{Task}

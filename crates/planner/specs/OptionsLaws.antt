@@ -10,7 +10,7 @@ use borrow.Author.Tests.{leb-true, le-leb, eqb-true, eq-eqb, not-false}
 use Rattle.laws.specs.SumLaws.{sum-cong}
 use Rattle.laws.specs.SumOrderLaws.{total-is-sum}
 use Rattle.laws.specs.Sums.{sum}
-use Rattle.instance.specs.Limits.{mayNotBeRefused}
+use Rattle.ranges.specs.Limits.{mayNotBeRefused}
 use Rattle.instance.specs.Node.{Problem, levelCount, taskCount, taskAt, noTask, span}
 use Rattle.instance.specs.declared.Task.{Task}
 use Rattle.instance.specs.declared.Verdict.the-variants.{Accepted}

@@ -2,7 +2,7 @@
 use Prim.Native.Nat.{ℕ, _*_, _/_}
 use mathlib.Core.List.{map}
 use lib.Dec.{eqb}
-use Rattle.instance.specs.Limits.{mayNotBeRefused}
+use Rattle.ranges.specs.Limits.{mayNotBeRefused}
 use Rattle.instance.specs.Node.{Problem, levelCount, levelAt, span}
 use Rattle.instance.specs.declared.Task.{Task}
 use Rattle.schedule.specs.Quantities.{ticks}

@@ -1,13 +1,13 @@
 // A problem as the search takes it: what each task asks of a core and costs, at each level and where it is refused.
 use instance::Instance;
-use instance::MAY_NOT_BE_REFUSED;
 use instance::Task;
+use ranges::MAY_NOT_BE_REFUSED;
 use schedule::jobs_in;
 use schedule::ticks_of;
 ghost use Prim.Native.Nat.{_+_, _*_, _≤_, _<_};
 ghost use mathlib.Core.Path.{_≡_};
 ghost use Rattle.instance.specs.Held.{Sound, problemIn};
-ghost use Rattle.instance.specs.Limits.{mostPower};
+ghost use Rattle.ranges.specs.Limits.{mostPower};
 ghost use Rattle.instance.specs.Node.{span, taskAt, taskCount};
 ghost use Rattle.planner.specs.OfferedOptions.{LevelsOffered, OptionsOffered};
 ghost use Rattle.planner.specs.OptionsOf.{itemOf};

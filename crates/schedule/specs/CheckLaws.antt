@@ -10,7 +10,7 @@ use lib.ListN.{length, getD}
 use borrow.Author.Tests.{ltb-false, le-ltb, eqb-true, eqb-false, eq-eqb, ne-eqb, not-true, not-false}
 use Rattle.laws.specs.SearchFacts.{every-iff}
 use Rattle.laws.specs.Truth.{false-not-true, not-true-is-false, and-is-true, or-is-true, or-is-false}
-use Rattle.instance.specs.Limits.{mayNotBeRefused}
+use Rattle.ranges.specs.Limits.{mayNotBeRefused}
 use Rattle.instance.specs.Node.{Problem, levelCount, taskCount, taskAt, span}
 use Rattle.instance.specs.declared.Verdict.the-variants.{Accepted}
 use Rattle.schedule.specs.Checks.{check, strayValue, straySlot, slotsPass, jobSlots, isServed, jobsPass}

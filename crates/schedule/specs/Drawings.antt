@@ -5,7 +5,7 @@ use mathlib.Core.Path.{_≡_}
 use mathlib.Core.Logic.{_↔_, _⊎_}
 use mathlib.Core.List.{List, [], _∷_, List·Memᴰ}
 use lib.ListN.{length}
-use Rattle.instance.specs.Limits.{mayNotBeRefused}
+use Rattle.ranges.specs.Limits.{mayNotBeRefused}
 use Rattle.instance.specs.Node.{Problem, levelCount, taskCount, taskAt, span}
 use Rattle.schedule.specs.Quantities.{choiceAt, coreOf, jobs, jobTicks}
 use Rattle.schedule.specs.Tables.{releaseOf, dueOf, slotAt}

@@ -7,7 +7,7 @@ use native.Mathlib.Omega.{arith}
 use lib.Dec.{leb, ltb, eqb}
 use borrow.Author.Tests.{lt-ltb, le-ltb, leb-true, leb-false, eq-eqb, ne-eqb}
 use Rattle.instance.specs.Held.{problemIn, Sound, held-levelcount, held-span}
-use Rattle.instance.specs.Limits.{mostCores, mayNotBeRefused}
+use Rattle.ranges.specs.Limits.{mostCores, mayNotBeRefused}
 use Rattle.instance.specs.Node.{taskAt, span}
 use Rattle.instance.specs.declared.Instance.{Instance}
 use Rattle.instance.specs.declared.Task.{Task}

@@ -5,7 +5,7 @@ use mathlib.Core.Path.{_≡_, refl, ap, ap₂, _∙_}
 use borrow.Author.Tests.{eq-eqb}
 use native.Mathlib.Nat.{mul-le-mul}
 use Rattle.instance.specs.Held.{problemIn, Sound}
-use Rattle.instance.specs.Limits.{mostCores, mostPower, mostSpan, mostTasks, mostWeight}
+use Rattle.ranges.specs.Limits.{mostCores, mostPower, mostSpan, mostTasks, mostWeight}
 use Rattle.instance.specs.Node.{taskAt}
 use Rattle.instance.specs.declared.Instance.{Instance}
 use Rattle.instance.specs.declared.Task.{Task}

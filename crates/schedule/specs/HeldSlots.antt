@@ -10,7 +10,7 @@ use lib.Arith.{digits-div}
 use lib.ListN.{length, getD, List·getD-eq-default}
 use borrow.Author.Tests.{eq-eqb, ne-eqb}
 use Rattle.instance.specs.Held.{problemIn, Sound, held-span}
-use Rattle.instance.specs.Limits.{mostCores, mostSpan}
+use Rattle.ranges.specs.Limits.{mostCores, mostSpan}
 use Rattle.instance.specs.Node.{Problem, span}
 use Rattle.instance.specs.Valid.{Valid}
 use Rattle.instance.specs.declared.Instance.{Instance}

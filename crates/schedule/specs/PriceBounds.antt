@@ -6,7 +6,7 @@ use mathlib.Core.Logic.{⊎-elim}
 use native.Mathlib.Nat.{mod-lt, mul-le-mul}
 use native.Mathlib.Omega.{arith}
 use Rattle.laws.specs.SumBounds.{sum-at-most, sum-of-products-at-most}
-use Rattle.instance.specs.Limits.{mostCores, mostCycles, mostPower, mostSpan, mostTasks, mayNotBeRefused}
+use Rattle.ranges.specs.Limits.{mostCores, mostCycles, mostPower, mostSpan, mostTasks, mayNotBeRefused}
 use Rattle.instance.specs.Node.{Problem, levelAt, taskAt, taskCount}
 use Rattle.instance.specs.Valid.{Valid}
 use Rattle.schedule.specs.PlanLaws.{PassingPlan}

@@ -4,7 +4,7 @@ use mathlib.Core.Bool.{Bool, true, false, cond}
 use mathlib.Core.List.{List}
 use native.Mathlib.Nat.{div-eq-of-lt, div-le-of-le-mul, div-le-self, div-zero, le-mul-of-pos-right, le-of-eq, mul-comm, mul-le-mul, mul-suc}
 use native.Mathlib.Omega.{arith}
-use Rattle.instance.specs.Limits.{mostCycles, mostSpan}
+use Rattle.ranges.specs.Limits.{mostCycles, mostSpan}
 use Rattle.instance.specs.Node.{Problem, levelAt, taskAt, taskCount, span}
 use Rattle.instance.specs.Valid.{Valid}
 use Rattle.schedule.specs.Quantities.{levelOf, keeps, ticks, jobTicks, ticksOn, jobs, loadOn}

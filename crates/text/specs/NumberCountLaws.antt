@@ -11,7 +11,7 @@ use lib.ListN.{length, take, length-take}
 use lib.Seq.{take-at}
 use Rattle.laws.specs.Lists.{onto}
 use Rattle.laws.specs.OntoLaws.{length-onto}
-use Rattle.instance.specs.Limits.{mostTextBytes}
+use Rattle.ranges.specs.Limits.{mostTextBytes}
 use Rattle.text.specs.Outcomes.{wordsOutcome}
 use Rattle.instance.specs.Refusals.{Reading, refused, accepted, room}
 use Rattle.text.specs.Text.{isDigit, value, begins, numbers, faulty, firstFault, wordsOf}

@@ -5,7 +5,7 @@ use mathlib.Core.Bool.{Bool, false, cond, not, _&&_, _||_}
 use mathlib.Core.List.{List, [], _∷_}
 use lib.Dec.{leb, ltb, eqb}
 use lib.ListN.{length, take}
-use Rattle.instance.specs.Limits.{mostTextBytes, mostWord}
+use Rattle.ranges.specs.Limits.{mostTextBytes, mostWord}
 use Rattle.instance.specs.Refusals.{Reading, refused, accepted}
 use Rattle.instance.specs.declared.Refusal.the-variants.{Text}
 

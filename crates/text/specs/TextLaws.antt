@@ -8,7 +8,7 @@ use borrow.Author.Tests.{eqb-true, leb-true, leb-false, lt-ltb, le-ltb}
 use lib.Dec.{leb, eqb}
 use lib.ListN.{length, drop}
 use Rattle.laws.specs.ListLaws.{rest-after, below-length}
-use Rattle.instance.specs.Limits.{mostWord}
+use Rattle.ranges.specs.Limits.{mostWord}
 use Rattle.text.specs.Text.{isDigit, isBlank, value, valueAfter, begins, numbers, faulty, firstFault}
 use Rattle.text.specs.Tokens.{afterDigits, numberFrom, tokenFrom, tokenAt}
 use Rattle.text.specs.declared.words.Token.{Token}

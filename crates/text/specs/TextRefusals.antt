@@ -6,7 +6,7 @@ use mathlib.Core.Path.{_≡_}
 use native.Mathlib.Omega.{arith}
 use lib.Dec.{ltb}
 use lib.ListN.{length, take, length-take}
-use Rattle.instance.specs.Limits.{mostTextBytes}
+use Rattle.ranges.specs.Limits.{mostTextBytes}
 use Rattle.text.specs.NumberCountLaws.{first-fault-at-most}
 use Rattle.instance.specs.Refusals.{refused, accepted, placeOf}
 use Rattle.text.specs.Text.{numbers, firstFault, wordsOf}

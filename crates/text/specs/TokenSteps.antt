@@ -11,7 +11,7 @@ use lib.Dec.{leb}
 use lib.ListN.{length, drop, getD, drop-of-length-le}
 use lib.Seq.{drop-cons}
 use Rattle.laws.specs.Truth.{and-is-true}
-use Rattle.instance.specs.Limits.{mostWord}
+use Rattle.ranges.specs.Limits.{mostWord}
 use Rattle.text.specs.Text.{isDigit, isBlank, valueAfter}
 use Rattle.text.specs.TextLaws.{value-grows}
 use Rattle.text.specs.Tokens.{afterDigits, numberFrom, tokenFrom, tokenAt}

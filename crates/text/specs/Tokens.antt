@@ -4,7 +4,7 @@ use mathlib.Core.Bool.{cond}
 use mathlib.Core.List.{List, [], _∷_}
 use lib.Dec.{leb}
 use lib.ListN.{drop}
-use Rattle.instance.specs.Limits.{mostWord}
+use Rattle.ranges.specs.Limits.{mostWord}
 use Rattle.text.specs.Text.{isDigit, isBlank, value}
 use Rattle.text.specs.declared.words.Token.{Token}
 use Rattle.text.specs.declared.words.Token.the-variants.{Number, End, Fault}

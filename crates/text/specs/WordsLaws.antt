@@ -10,7 +10,7 @@ use lib.ListN.{length, take}
 use lib.Seq.{take-all, length-take-le}
 use Rattle.laws.specs.ListLaws.{take-min}
 use Rattle.laws.specs.Lists.{onto}
-use Rattle.instance.specs.Limits.{mostTextBytes}
+use Rattle.ranges.specs.Limits.{mostTextBytes}
 use Rattle.text.specs.Outcomes.{wordsOutcome}
 use Rattle.instance.specs.Refusals.{Reading, refused, accepted, room}
 use Rattle.text.specs.Text.{numbers, firstFault, wordsOf}

@@ -7,7 +7,7 @@ ghost use mathlib.Core.Path.{_≡_};
 ghost use Prim.Native.Nat.{min};
 ghost use lib.ListN.{length, drop};
 ghost use Rattle.laws.specs.Lists.{onto};
-ghost use Rattle.instance.specs.Limits.{mostTextBytes};
+ghost use Rattle.ranges.specs.Limits.{mostTextBytes};
 ghost use Rattle.text.specs.Outcomes.{wordsOutcome};
 ghost use Rattle.text.specs.Text.{isDigit, isBlank, numbers};
 ghost use Rattle.text.specs.TextSteps.{Counted, Writable};

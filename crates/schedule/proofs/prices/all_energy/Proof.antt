@@ -5,7 +5,7 @@ use native.Mathlib.Omega.{arith}
 use Rattle.laws.specs.SumBounds.{sum-and-next-at-most}
 use Rattle.laws.specs.Sums.{sum}
 use Rattle.instance.specs.Held.{problemIn}
-use Rattle.instance.specs.Limits.{mostTasks}
+use Rattle.ranges.specs.Limits.{mostTasks}
 use Rattle.schedule.specs.HeldPlans.{held-cores, cores-at-most}
 use Rattle.schedule.specs.PriceBounds.{mostEnergyOn, coreEnergy-at-most}
 use Rattle.schedule.specs.Quantities.{coreEnergy, energy}

@@ -1,6 +1,6 @@
 use Prim.Native.Nat.{_+_, _*_, _-_, _≤_}
 use Rattle.laws.specs.SumBounds.{sum-and-next-at-most}
-use Rattle.instance.specs.Limits.{mostCycles, mostSpan}
+use Rattle.ranges.specs.Limits.{mostCycles, mostSpan}
 use Rattle.instance.specs.Node.{taskCount}
 use Rattle.schedule.specs.QuantityBounds.{loadOn-at-most}
 use mathlib.Core.Path.{_≡_, refl, ap, ap₂, _∙_}

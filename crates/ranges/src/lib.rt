@@ -1,0 +1,26 @@
+// The numbers of document 01 that inputs are tested against, each once: the ranges of its section 'Site file', and the largest
+// span.
+
+pub const SETTINGS_COUNT: u32 = 3;
+
+pub const MOST_WEIGHT: u32 = 1_000;
+
+pub const MOST_CORES: u32 = 4;
+
+pub const MOST_LEVELS: u32 = 8;
+
+pub const MOST_SPEED: u32 = 65_535;
+
+pub const MOST_POWER: u32 = 65_535;
+
+pub const MOST_TASKS: u32 = 12;
+
+pub const MOST_PERIOD: u32 = 4_096;
+
+pub const MOST_CYCLES: u32 = 100_000_000;
+
+pub const MOST_PENALTY: u32 = 1_000_000;
+
+pub const MAY_NOT_BE_REFUSED: u32 = 4_294_967_295;
+
+pub const MOST_SPAN: u32 = 4_096;
