@@ -9,7 +9,7 @@ use native.Mathlib.Omega.{arith}
 use lib.ListN.{length}
 use Rattle.assignment.specs.Assignment.{Item, Options, coreLoad}
 use Rattle.assignment.specs.Values.{Value, Attained, Within, absent, present}
-use Rattle.assignment.specs.Rows.{keyBase}
+use Rattle.assignment.specs.Knapsacks.{keyBase}
 use Rattle.assignment.specs.KeepingLaws.{level-load, some-level}
 use Rattle.assignment.specs.Partition.{best}
 use Rattle.assignment.specs.PartitionLaws.{best-least}

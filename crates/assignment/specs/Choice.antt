@@ -4,7 +4,7 @@ use mathlib.Core.Bool.{Bool, true, false, cond}
 use mathlib.Core.List.{List, [], _∷_}
 use Rattle.assignment.specs.Assignment.{Item, Options}
 use Rattle.assignment.specs.Values.{Value, none, pair, add, lesser}
-use Rattle.assignment.specs.Rows.{keyBase}
+use Rattle.assignment.specs.Knapsacks.{keyBase}
 use Rattle.assignment.specs.Partition.{bestOf}
 
 -- the least f kept over all sets that hold every item that must be kept

@@ -10,9 +10,9 @@ use Rattle.assignment.specs.Assignment.{Item, Options}
 use Rattle.assignment.specs.Values.{Value, none, pair, add, lesser}
 use Rattle.assignment.specs.ValueLaws.{lesser-assoc}
 use Rattle.assignment.specs.LeastLaws.{lesser-swap, add-lesser, lesser-add}
-use Rattle.assignment.specs.Rows.{row}
-use Rattle.assignment.specs.Partition.{leastSplit, weight, movedRow, best}
-use Rattle.assignment.specs.Peeling.{Parts, nothing, neither, first, second}
+use Rattle.assignment.specs.Knapsacks.{knapsack}
+use Rattle.assignment.specs.Partition.{leastSplit, weight, movedKnapsack, best}
+use Rattle.assignment.specs.CoreSplits.{Parts, nothing, neither, first, second}
 
 -- a value of each set, with each choice larger by c × levels
 unfoldable pub moved : Options → ℕ → (List Bool → Value) → List Bool → Value
@@ -116,17 +116,17 @@ keys-move c d e t u (pair a x) (pair b y) is =
 module _ (o : Options) (below above : ℕ) where
   -- the top core's choices on all cores are those on the upper half, moved up
   upper-half : (W : List Bool) →
-      leastSplit W (λ T U. add (movedRow o (suc (suc (below + above))) T) (moved o (suc below) (best o above) U))
+      leastSplit W (λ T U. add (movedKnapsack o (suc (suc (below + above))) T) (moved o (suc below) (best o above) U))
       ≡ moved o (suc below) (best o (suc above)) W
-  unfolding best moved movedRow
+  unfolding best moved movedKnapsack
   upper-half W =
       let levels = o .levels in
       let all : suc (suc (below + above)) * levels ≡ suc below * levels + suc above * levels = omega arith in
       leastSplit-parts W
       (λ T U p.
       rw (parts-weight (o .items) p)
-      (keys-move (suc below * levels) (suc above * levels) _ (weight (o .items) T) (weight (o .items) U) (row levels (o .items) T (o .capacity)) (best o above U) all))
-      ∙ sym (add-leastSplit (pair 0 (suc below * levels * weight (o .items) W)) W (λ T U. add (movedRow o (suc above) T) (best o above U)))
+      (keys-move (suc below * levels) (suc above * levels) _ (weight (o .items) T) (weight (o .items) U) (knapsack levels (o .items) T (o .capacity)) (best o above U) all))
+      ∙ sym (add-leastSplit (pair 0 (suc below * levels * weight (o .items) W)) W (λ T U. add (movedKnapsack o (suc above) T) (best o above U)))
 
   halves-step : (S : List Bool) →
       ((R : List Bool) → best o (suc (below + above)) R ≡ leastSplit R (λ U X. add (moved o (suc below) (best o above) U) (best o below X))) →
@@ -134,7 +134,7 @@ module _ (o : Options) (below above : ℕ) where
       ≡ leastSplit S (λ W X. add (moved o (suc below) (best o (suc above)) W) (best o below X))
   unfolding best
   halves-step S before =
-      let top = movedRow o (suc (suc (below + above))) in
+      let top = movedKnapsack o (suc (suc (below + above))) in
       let upper = moved o (suc below) (best o above) in
       leastSplit-parts S
       (λ T R p.
@@ -148,6 +148,6 @@ module _ (o : Options) (below above : ℕ) where
 -- the cores 0 to `below` take the rest, the cores above them, one more than `above`, the part
 pub best-in-halves : (o : Options) (below above : ℕ) (S : List Bool) →
     best o (suc (below + above)) S ≡ leastSplit S (λ U R. add (moved o (suc below) (best o above) U) (best o below R))
-unfolding best moved movedRow
+unfolding best moved movedKnapsack
 best-in-halves o below zero S = rw (add-zero below)
 best-in-halves o below (suc above) S = rw (add-suc below above) (halves-step o below above S (best-in-halves o below above))

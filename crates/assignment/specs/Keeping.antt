@@ -5,7 +5,7 @@ use mathlib.Core.List.{List, [], _∷_}
 use lib.ListN.{length}
 use Rattle.assignment.specs.Assignment.{Item, Options, coreLoad, totalCost}
 use Rattle.assignment.specs.Values.{Value, pair}
-use Rattle.assignment.specs.Rows.{keyBase}
+use Rattle.assignment.specs.Knapsacks.{keyBase}
 
 -- the plan keeps exactly the items of the set, with no choice above `most`
 pub data Keeps (most : ℕ) : List Item → List Bool → List ℕ → Type 0 where

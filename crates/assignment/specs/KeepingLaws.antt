@@ -12,7 +12,7 @@ use lib.Dec.{eqb, eqb·suc-zero}
 use lib.ListN.{length}
 use Rattle.assignment.specs.Assignment.{Item, choiceLoad, coreLoad}
 use Rattle.assignment.specs.Values.{pair, add}
-use Rattle.assignment.specs.Rows.{keyBase}
+use Rattle.assignment.specs.Knapsacks.{keyBase}
 use Rattle.assignment.specs.Keeping.{Keeps, Runs, keptChoiceCost, keptCost, planKey, keptWorth}
 
 pub refused-load : (levels k : ℕ) (item : Item) → choiceLoad levels k item 0 ≡ 0

@@ -10,7 +10,7 @@ use native.Mathlib.Omega.{arith}
 use lib.Arith.{digits-lt, digits-div, digits-mod}
 use lib.ListN.{length}
 use Rattle.assignment.specs.Assignment.{Item, Before, differs, agrees}
-use Rattle.assignment.specs.Rows.{keyBase}
+use Rattle.assignment.specs.Knapsacks.{keyBase}
 use Rattle.assignment.specs.Choice.{digits}
 use Rattle.assignment.specs.Keeping.{Keeps, done, refused, kept, planKey}
 

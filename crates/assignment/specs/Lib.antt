@@ -5,13 +5,13 @@ pub mod LeastLaws
 pub mod Words
 pub mod Sets
 pub mod SetLaws
-pub mod Rows
+pub mod Knapsacks
 pub mod Partition
 pub mod Choice
 pub mod Keeping
 pub mod KeepingLaws
-pub mod RowLaws
-pub mod Peeling
+pub mod KnapsackLaws
+pub mod CoreSplits
 pub mod PartitionLaws
 pub mod Halves
 pub mod Refusing

@@ -33,9 +33,9 @@ itemAt load cost refusal must i =
       must = getD must i false;
     }
 
--- an item as rows see it: they ask nothing of refusals
-abbrev pub rowItem : List ℕ → List ℕ → ℕ → Item
-rowItem load cost = itemAt load cost [] []
+-- an item as knapsacks see it: they ask nothing of refusals
+abbrev pub knapsackItem : List ℕ → List ℕ → ℕ → Item
+knapsackItem load cost = itemAt load cost [] []
 
 unfoldable pub itemsOf : (load cost refusal : List ℕ) (must : List Bool) → ℕ → List Item
 itemsOf load cost refusal must = listOf (itemAt load cost refusal must)

@@ -6,7 +6,7 @@ use mathlib.Core.List.{List, [], _∷_}
 use lib.ListN.{length}
 use Rattle.assignment.specs.Assignment.{Item, Options}
 use Rattle.assignment.specs.Values.{Value, pair, add, lesser}
-use Rattle.assignment.specs.Rows.{keyBase, row}
+use Rattle.assignment.specs.Knapsacks.{keyBase, knapsack}
 
 -- the least f part rest over all ways to part a set
 unfoldable pub leastSplit : List Bool → (List Bool → List Bool → Value) → Value
@@ -21,15 +21,15 @@ weight [] T = 0
 weight (item ∷ items) [] = 0
 weight (item ∷ items) (b ∷ T) = cond b (keyBase ^ length items) 0 + weight items T
 
--- the row of a set on core c: each of its choices is larger by c × levels
-unfoldable pub movedRow : Options → ℕ → List Bool → Value
-movedRow o c T =
-    add (pair 0 (c * o .levels * weight (o .items) T)) (row (o .levels) (o .items) T (o .capacity))
+-- the knapsack of a set on core c: each of its choices is larger by c × levels
+unfoldable pub movedKnapsack : Options → ℕ → List Bool → Value
+movedKnapsack o c T =
+    add (pair 0 (c * o .levels * weight (o .items) T)) (knapsack (o .levels) (o .items) T (o .capacity))
 
 -- on cores 0 to c
 unfoldable pub best : Options → ℕ → List Bool → Value
-best o zero S = row (o .levels) (o .items) S (o .capacity)
-best o (suc c) S = leastSplit S (λ T R. add (movedRow o (suc c) T) (best o c R))
+best o zero S = knapsack (o .levels) (o .items) S (o .capacity)
+best o (suc c) S = leastSplit S (λ T R. add (movedKnapsack o (suc c) T) (best o c R))
 
 -- on all cores, of which there is one at least
 unfoldable pub bestOf : Options → List Bool → Value

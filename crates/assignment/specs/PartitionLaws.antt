@@ -9,12 +9,12 @@ use native.Mathlib.Omega.{arith}
 use Rattle.assignment.specs.Assignment.{Item, Options, coreLoad}
 use Rattle.assignment.specs.Values.{Value, pair, add, AtMost, Attained, Least}
 use Rattle.assignment.specs.ValueLaws.{atMost-refl, atMost-trans, add-mono, lesser-first, lesser-second, lesser-either}
-use Rattle.assignment.specs.Rows.{row}
-use Rattle.assignment.specs.RowLaws.{row-least}
-use Rattle.assignment.specs.Partition.{leastSplit, weight, movedRow, best, bestOf}
+use Rattle.assignment.specs.Knapsacks.{knapsack}
+use Rattle.assignment.specs.KnapsackLaws.{knapsack-least}
+use Rattle.assignment.specs.Partition.{leastSplit, weight, movedKnapsack, best, bestOf}
 use Rattle.assignment.specs.Keeping.{Runs, RunsSet, keptWorth}
 use Rattle.assignment.specs.KeepingLaws.{one-core, one-core-keeps}
-use Rattle.assignment.specs.Peeling.{Parts, nothing, neither, first, second, Peels, peels-parts, peels-top, peels-rest, peels-plan, peeled, merged, peels-cost, peels-key, peels-top-load, peels-rest-load}
+use Rattle.assignment.specs.CoreSplits.{Parts, nothing, neither, first, second, CoreSplit, core-split-parts, core-split-top, core-split-rest, core-split-plan, some-core-split, merged, core-split-cost, core-split-key, core-split-top-load, core-split-rest-load}
 
 leastSplit-below : {S T R : List Bool} (f : List Bool → List Bool → Value) → Parts S T R → AtMost (leastSplit S f) (f T R)
 unfolding leastSplit
@@ -51,38 +51,38 @@ leastSplit-attained (true ∷ S) f =
         record { part = false ∷ t .part; others = true ∷ t .others; parts = second (t .parts); value = e ∙ t .value }
 
 -- the worth of a plan is that of its parts
-peels-worth : {levels c : ℕ} {items : List Item} {S T R : List Bool} {plan top rest : List ℕ} →
-    Peels levels c items S T R plan top rest →
+core-split-worth : {levels c : ℕ} {items : List Item} {S T R : List Bool} {plan top rest : List ℕ} →
+    CoreSplit levels c items S T R plan top rest →
     keptWorth levels items plan
     ≡ add (add (pair 0 (c * levels * weight items T)) (keptWorth levels items top)) (keptWorth levels items rest)
 unfolding keptWorth add
-peels-worth p = ap₂ pair (omega (arith, peels-cost p)) (peels-key p)
+core-split-worth p = ap₂ pair (omega (arith, core-split-cost p)) (core-split-key p)
 
 -- a plan fits its cores when its parts fit theirs
 
-peels-runs-top : {levels capacity c : ℕ} {items : List Item} {S T R : List Bool} {plan top rest : List ℕ} →
-    Peels levels c items S T R plan top rest → Runs levels capacity (suc c) items S plan →
+core-split-runs-top : {levels capacity c : ℕ} {items : List Item} {S T R : List Bool} {plan top rest : List ℕ} →
+    CoreSplit levels c items S T R plan top rest → Runs levels capacity (suc c) items S plan →
     Runs levels capacity 1 items T top
-peels-runs-top {c = c} p runs =
-    one-core (peels-top p) (omega (arith, peels-top-load p, runs .cores-fit c (omega arith)))
+core-split-runs-top {c = c} p runs =
+    one-core (core-split-top p) (omega (arith, core-split-top-load p, runs .cores-fit c (omega arith)))
 
-peels-runs-rest : {levels capacity c : ℕ} {items : List Item} {S T R : List Bool} {plan top rest : List ℕ} →
-    Peels levels c items S T R plan top rest → Runs levels capacity (suc c) items S plan →
+core-split-runs-rest : {levels capacity c : ℕ} {items : List Item} {S T R : List Bool} {plan top rest : List ℕ} →
+    CoreSplit levels c items S T R plan top rest → Runs levels capacity (suc c) items S plan →
     Runs levels capacity c items R rest
-peels-runs-rest p runs =
-    record { keeps = peels-rest p; cores-fit = λ k h. omega (arith, peels-rest-load h p, runs .cores-fit k (omega arith)) }
+core-split-runs-rest p runs =
+    record { keeps = core-split-rest p; cores-fit = λ k h. omega (arith, core-split-rest-load h p, runs .cores-fit k (omega arith)) }
 
-peels-runs : {levels capacity c : ℕ} {items : List Item} {S T R : List Bool} {plan top rest : List ℕ} →
-    Peels levels c items S T R plan top rest → Runs levels capacity 1 items T top → Runs levels capacity c items R rest →
+core-split-runs : {levels capacity c : ℕ} {items : List Item} {S T R : List Bool} {plan top rest : List ℕ} →
+    CoreSplit levels c items S T R plan top rest → Runs levels capacity 1 items T top → Runs levels capacity c items R rest →
     Runs levels capacity (suc c) items S plan
-peels-runs {levels} {capacity} {c} {items} {plan = plan} p on-top on-rest =
-    record { keeps = peels-plan p; cores-fit = λ k h. fits k (eq-or-lt-of-le h) }
+core-split-runs {levels} {capacity} {c} {items} {plan = plan} p on-top on-rest =
+    record { keeps = core-split-plan p; cores-fit = λ k h. fits k (eq-or-lt-of-le h) }
   where
     fits : (k : ℕ) → (suc k ≡ suc c) ⊎ (suc k < suc c) → coreLoad levels k items plan ≤ capacity
     fits k (inl e) =
-        let d : k ≡ c = omega arith in rw d (omega (arith, peels-top-load p, on-top .cores-fit 0 (omega arith)))
+        let d : k ≡ c = omega arith in rw d (omega (arith, core-split-top-load p, on-top .cores-fit 0 (omega arith)))
     fits k (inr h) =
-        let under : k < c = omega arith in omega (arith, peels-rest-load under p, on-rest .cores-fit k under)
+        let under : k < c = omega arith in omega (arith, core-split-rest-load under p, on-rest .cores-fit k under)
 
 -- the plans that keep exactly S on cores 0 to c, and what their kept items are worth
 abbrev On : Options → ℕ → List Bool → List ℕ → Type 0
@@ -91,22 +91,22 @@ On o c = Runs (o .levels) (o .capacity) (suc c) (o .items)
 abbrev worthFor : Options → List ℕ → Value
 worthFor o = keptWorth (o .levels) (o .items)
 
-top-least : (o : Options) (T : List Bool) → Least (On o 0 T) (worthFor o) (row (o .levels) (o .items) T (o .capacity))
-top-least o T = row-least (o .levels) (o .items) T (o .capacity)
+top-least : (o : Options) (T : List Bool) → Least (On o 0 T) (worthFor o) (knapsack (o .levels) (o .items) T (o .capacity))
+top-least o T = knapsack-least (o .levels) (o .items) T (o .capacity)
 
 split-below : (o : Options) (c : ℕ) → ((R : List Bool) → Least (On o c R) (worthFor o) (best o c R)) →
     (S : List Bool) (plan : List ℕ) → On o (suc c) S plan → AtMost (best o (suc c) S) (worthFor o plan)
-unfolding best movedRow
+unfolding best movedKnapsack
 split-below o c rest-least S plan runs =
-    let q = peeled (runs .keeps) in
-    let top = top-least o (q .part) .below (q .top) (peels-runs-top (q .peels) runs) in
-    let rest = rest-least (q .others) .below (q .rest) (peels-runs-rest (q .peels) runs) in
-    atMost-trans (leastSplit-below (λ T R. add (movedRow o (suc c) T) (best o c R)) (peels-parts (q .peels)))
-    (rw (peels-worth (q .peels)) (add-mono (add-mono (atMost-refl _) top) rest))
+    let q = some-core-split (runs .keeps) in
+    let top = top-least o (q .part) .below (q .top) (core-split-runs-top (q .split) runs) in
+    let rest = rest-least (q .others) .below (q .rest) (core-split-runs-rest (q .split) runs) in
+    atMost-trans (leastSplit-below (λ T R. add (movedKnapsack o (suc c) T) (best o c R)) (core-split-parts (q .split)))
+    (rw (core-split-worth (q .split)) (add-mono (add-mono (atMost-refl _) top) rest))
 
 parts-attained : (o : Options) (c : ℕ) {S T R : List Bool} → Attained (On o c R) (worthFor o) (best o c R) → Parts S T R →
-    Attained (On o (suc c) S) (worthFor o) (add (movedRow o (suc c) T) (best o c R))
-unfolding movedRow add keptWorth
+    Attained (On o (suc c) S) (worthFor o) (add (movedKnapsack o (suc c) T) (best o c R))
+unfolding movedKnapsack add keptWorth
 parts-attained o c {S} {T} {R} rest-attained parts = go (top-least o T .attained) rest-attained
   where
     sum : Value → Value → Value
@@ -118,7 +118,7 @@ parts-attained o c {S} {T} {R} rest-attained parts = go (top-least o T .attained
     go (inr (top, on-top, d)) (inl e) = inl (ap₂ sum d e)
     go (inr (top, on-top, d)) (inr (rest, on-rest, e)) =
         let (plan, p) = merged {c = suc c} parts (one-core-keeps on-top) (on-rest .keeps) in
-        inr (plan, peels-runs p on-top on-rest, ap₂ sum d e ∙ sym (peels-worth p))
+        inr (plan, core-split-runs p on-top on-rest, ap₂ sum d e ∙ sym (core-split-worth p))
 
 pub best-least : (o : Options) (c : ℕ) (S : List Bool) →
     Least (Runs (o .levels) (o .capacity) (suc c) (o .items) S) (keptWorth (o .levels) (o .items)) (best o c S)
@@ -127,7 +127,7 @@ best-least o zero S = top-least o S
 best-least o (suc c) S =
     record { below = split-below o c (best-least o c) S; attained = go (leastSplit-attained S _) (best-least o c) }
   where
-    go : {v : Value} → SplitAt S (λ T R. add (movedRow o (suc c) T) (best o c R)) v →
+    go : {v : Value} → SplitAt S (λ T R. add (movedKnapsack o (suc c) T) (best o c R)) v →
         ((R : List Bool) → Least (On o c R) (worthFor o) (best o c R)) → Attained (On o (suc c) S) (worthFor o) v
     go s rest-least = rw (s .value) (parts-attained o c (rest-least (s .others) .attained) (s .parts))
 

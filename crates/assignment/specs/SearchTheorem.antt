@@ -8,7 +8,7 @@ use native.Mathlib.Omega.{arith}
 use lib.ListN.{length}
 use Rattle.assignment.specs.Assignment.{Options, totalCost, Allowed, Before, differs, agrees, NoWorse, Best}
 use Rattle.assignment.specs.Values.{Value, none, pair}
-use Rattle.assignment.specs.Rows.{keyBase}
+use Rattle.assignment.specs.Knapsacks.{keyBase}
 use Rattle.assignment.specs.Partition.{bestOf}
 use Rattle.assignment.specs.PartitionLaws.{bestOf-least}
 use Rattle.assignment.specs.Choice.{chosen, digits}

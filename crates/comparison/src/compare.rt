@@ -2,16 +2,16 @@
 use crate::planners::Rooms;
 use crate::planners::compare_with_trying;
 use crate::planners::plan_by_search;
-use drawn::draw_room;
-use drawn::has_busy_slots;
-use drawn::table_fails;
-use drawn::tally;
-use drawn::tally::add;
-use drawn::tally::add_if;
-use drawn::try_answered;
-use drawn::try_drawn_plans;
 use exhaustive::Site;
 use exhaustive::site_of;
+use generator::draw_room;
+use generator::has_busy_slots;
+use generator::table_fails;
+use generator::tally;
+use generator::tally::add;
+use generator::tally::add_if;
+use generator::try_answered;
+use generator::try_drawn_plans;
 
 // Whether all tasks are kept or refused, by the answer.
 fn count_kept(answer: &[u64; 5], counts: &mut [u64; 28]) {

@@ -9,7 +9,7 @@ const INSTANCES: u32 = 5_000;
 
 fn compare_one(state: &mut u32, counts: &mut [u64; 28]) {
     let mut words = [0; 32];
-    let end = drawn::draw_instance(&mut words, state);
+    let end = generator::draw_instance(&mut words, state);
     compare_front(&words, end, state, counts);
 }
 

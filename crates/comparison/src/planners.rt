@@ -1,12 +1,12 @@
 // Both planners, each with buffers of its own. A planner's answer is five numbers: the refusal's number and place, energy,
 // penalty and cost. Those that an answer of its kind lacks are 0.
-use drawn::bytes_differ;
-use drawn::tally;
-use drawn::tally::add;
-use drawn::tally::add_if;
-use drawn::words_differ;
 use exhaustive::Site;
 use exhaustive::Tried;
+use generator::bytes_differ;
+use generator::tally;
+use generator::tally::add;
+use generator::tally::add_if;
+use generator::words_differ;
 use instance::Refusal;
 use schedule::Priced;
 

@@ -51,6 +51,6 @@ pub record RowOk (core : Core) (room : ℕ) : Type 0 where
   pub within-span : room ≤ mostSpan
 
 -- the row is written where that holds, and else the slots stay as they are
-abbrev pub RowTold : (core : Core) (slots slots' : List ℕ) → Bool → Type 0
-RowTold core slots slots' true = RowOk core (length slots) × (slots' ≡ row (tasksOf core) (length slots))
-RowTold core slots slots' false = (¬ RowOk core (length slots)) × (slots' ≡ slots)
+abbrev pub RowOutcome : (core : Core) (slots slots' : List ℕ) → Bool → Type 0
+RowOutcome core slots slots' true = RowOk core (length slots) × (slots' ≡ row (tasksOf core) (length slots))
+RowOutcome core slots slots' false = (¬ RowOk core (length slots)) × (slots' ≡ slots)

@@ -10,8 +10,8 @@ use lib.ListN.{length, getD, take, replicate}
 use Rattle.ranges.specs.Limits.{mostTasks}
 use Rattle.laws.specs.JoinedLaws.{listOf-same}
 use Rattle.laws.specs.Lists.{listOf}
-use Rattle.laws.specs.Tests.{Tells}
-use Rattle.dispatch.specs.Dispatching.{CoreOk, RowOk, RowTold, Stepped, TaskOk, dispatchOf, tasksOf}
+use Rattle.laws.specs.Tests.{Decides}
+use Rattle.dispatch.specs.Dispatching.{CoreOk, RowOk, RowOutcome, Stepped, TaskOk, dispatchOf, tasksOf}
 use Rattle.dispatch.specs.Earliest.{earliest-cong}
 use Rattle.dispatch.specs.Rows.{CoreTasks, Dispatch, dueAt, afterRelease, afterRun, chosen, earliest, step, dispatched, slotOf, row}
 use Rattle.dispatch.specs.declared.Core.{Core}
@@ -97,11 +97,11 @@ module _ (a b : CoreTasks) (same : SameTasks a b) where
 
 -- a row that may be written is written
 pub row-written : (core : Core) (slots slots' : List ℕ) (answer : Bool) → RowOk core (length slots) →
-    RowTold core slots slots' answer → slots' ≡ row (tasksOf core) (length slots)
+    RowOutcome core slots slots' answer → slots' ≡ row (tasksOf core) (length slots)
 row-written core slots slots' true ok told = told .1
 row-written core slots slots' false ok told = absurd (told .0 ok)
 
-pub core-told : (core : Core) (answer : Bool) → core .size ≤ mostTasks →
-    Tells answer ((i : ℕ) → i < core .size → TaskOk core i) → Tells answer (CoreOk core)
-core-told core true few sound = record { few-tasks = few; tasks-ok = sound }
-core-told core false few unsound = λ ok. unsound (ok .tasks-ok)
+pub core-decided : (core : Core) (answer : Bool) → core .size ≤ mostTasks →
+    Decides answer ((i : ℕ) → i < core .size → TaskOk core i) → Decides answer (CoreOk core)
+core-decided core true few sound = record { few-tasks = few; tasks-ok = sound }
+core-decided core false few unsound = λ ok. unsound (ok .tasks-ok)

@@ -9,8 +9,8 @@ ghost use lib.Dec.{eqb};
 ghost use lib.ListN.{length, getD};
 ghost use Rattle.ranges.specs.Limits.{mostPeriod, mostSpan, mostTasks, mostWord};
 ghost use Rattle.laws.specs.Lists.{listOf, onto};
-ghost use Rattle.laws.specs.Tests.{Tells};
-ghost use Rattle.dispatch.specs.Dispatching.{CoreOk, RowTold, StateOk, Stepped, TaskOk, readyOf, tasksOf};
+ghost use Rattle.laws.specs.Tests.{Decides};
+ghost use Rattle.dispatch.specs.Dispatching.{CoreOk, RowOutcome, StateOk, Stepped, TaskOk, readyOf, tasksOf};
 ghost use Rattle.dispatch.specs.Rows as rows;
 
 // What one core knows of the tasks: a task that is not kept there has no ticks. The number of tasks stands between the
@@ -132,7 +132,7 @@ fn write_row(core: Core, slots: &mut [u8])
 // Each of the core's tasks has a period, and a window that is not too long.
 fn tasks_sound(core: Core) -> bool
     requires { ⌜ core .size ≤ mostTasks ⌝ }
-    ensures { λ r. ⌜ Tells r ((i : ℕ) → i < core .size → TaskOk core i) ⌝ }
+    ensures { λ r. ⌜ Decides r ((i : ℕ) → i < core .size → TaskOk core i) ⌝ }
 {
     let mut i = 0;
     while i < core.size {
@@ -148,7 +148,7 @@ fn tasks_sound(core: Core) -> bool
 }
 
 fn is_sound(core: Core) -> bool
-    ensures { λ r. ⌜ Tells r (CoreOk core) ⌝ }
+    ensures { λ r. ⌜ Decides r (CoreOk core) ⌝ }
 {
     if (MOST_TASKS as usize) < core.size {
         return false;
@@ -159,7 +159,7 @@ fn is_sound(core: Core) -> bool
 // The core's first slots, as many as there is room for. Answers whether these are at most a span's, and the core's tasks are
 // sound; where they are not, the slots stay as they are.
 pub fn fill_row(core: Core, slots: &mut [u8]) -> bool
-    ensures { λ r. ⌜ RowTold core (now (slots .entry)) (now (slots .exit)) r ⌝ }
+    ensures { λ r. ⌜ RowOutcome core (now (slots .entry)) (now (slots .exit)) r ⌝ }
 {
     if (MOST_SPAN as usize) < slots.len() {
         return false;

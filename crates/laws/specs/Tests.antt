@@ -1,16 +1,16 @@
--- What the answer of a test tells.
+-- What the answer of a test decides.
 use mathlib.Core.Path.{_≡_, refl}
 use mathlib.Core.Bool.{Bool, true, false, not}
 use Rattle.laws.specs.Truth.{false-not-true}
 
-abbrev pub Tells : Bool → Type 0 → Type 0
-Tells true P = P
-Tells false P = ¬ P
+abbrev pub Decides : Bool → Type 0 → Type 0
+Decides true P = P
+Decides false P = ¬ P
 
-pub tells-no : {P : Type 0} (answer : Bool) → not answer ≡ true → Tells answer P → ¬ P
-tells-no true e holds = absurd (false-not-true refl e)
-tells-no false e refuted = refuted
+pub decides-no : {P : Type 0} (answer : Bool) → not answer ≡ true → Decides answer P → ¬ P
+decides-no true e holds = absurd (false-not-true refl e)
+decides-no false e refuted = refuted
 
-pub tells-yes : {P : Type 0} (answer : Bool) → not answer ≡ false → Tells answer P → P
-tells-yes true e holds = holds
-tells-yes false e refuted = absurd (false-not-true e refl)
+pub decides-yes : {P : Type 0} (answer : Bool) → not answer ≡ false → Decides answer P → P
+decides-yes true e holds = holds
+decides-yes false e refuted = absurd (false-not-true e refl)

@@ -47,7 +47,7 @@ module _ (p : Problem) (periodic : Periodic p) where
         record {
           is-drawing = d;
           passes-check = passing-table-passes p periodic plan passes;
-          nobody-beats = λ other slots rival. ⊎-elim (λ cheaper. omega arith) (λ equal. omega arith) (ahead-of-drawings rival);
+          no-drawing-cheaper = λ other slots rival. ⊎-elim (λ cheaper. omega arith) (λ equal. omega arith) (ahead-of-drawings rival);
           first-of-equals = λ other slots rival same.
               ⊎-elim (λ cheaper. absurd (omega arith)) (λ equal. equal .1) (ahead-of-drawings rival);
           its-table = refl;

@@ -38,7 +38,7 @@ use Rattle.planner.specs.BestDrawingLaws.{no-plan-iff-no-drawing, answer
 use Rattle.planner.specs.EndingLaws.{text-ends, reading-ends, pricing-ends, tabling-ends, checking-ends, planning-ends}
 use Rattle.planner.specs.Endings.{lent, Ends, readThen, planFound, neededFor, textVerdict, priceVerdict}
 use Rattle.planner.specs.Outcomes.{planOutcome}
-use Rattle.planner.specs.Planned.{NoDrawing, BestDrawing, NobodyBeats}
+use Rattle.planner.specs.Planned.{NoDrawing, BestDrawing, Optimal}
 use Rattle.planner.specs.PlannedLaws.{planOutcome-is-planned}
 use Rattle.planner.specs.Planning.{bestPlan}
 
@@ -47,7 +47,7 @@ use Rattle.planner.specs.Planning.{bestPlan}
 --
 -- Each call, whatever it is given, has the verdict of document 01's tests in their order: it is served, or refused with one
 -- of the numbers that document 01 lists for it.
-pub record EveryInputHasAnEnd : Type 0 where
+pub record RefusalsExact : Type 0 where
   -- "Turning text into words: 1, then 6."
   pub text : (text words : List ℕ) →
       let o = wordsOutcome text words in
@@ -97,7 +97,7 @@ pub record EveryInputHasAnEnd : Type 0 where
   pub valid-instances-are-read : (p : Problem) → Valid p → problemOf (wordsOfProblem p) ≡ accepted p
   pub no-others-are-read : (words : List ℕ) (p : Problem) → problemOf words ≡ accepted p → Valid p × (words ≡ wordsOfProblem p)
 
-pub demand-1 : EveryInputHasAnEnd
+pub demand-1 : RefusalsExact
 demand-1 =
     record {
       text = text-ends;
@@ -114,7 +114,7 @@ demand-1 =
 -- Demand 2. "The arithmetic is the papers'. Ticks, span, price and slot table are document 01's; the check passes exactly the
 -- tables in which each job of a kept task has its ticks between release and deadline on its core and every other slot is
 -- idle."
-pub record ArithmeticIsThePapers (words : List ℕ) (p : Problem) : Type 0 where
+pub record QuantitiesExact (words : List ℕ) (p : Problem) : Type 0 where
   -- "c divided by s, rounded up"
   pub ticks-rounded-up : (i l n : ℕ) → i < taskCount p → l < levelCount p →
       (ticks (taskAt p i .cycles) (levelAt p l .speed) ≤ n) ↔ (taskAt p i .cycles ≤ n * levelAt p l .speed)
@@ -145,7 +145,7 @@ pub record ArithmeticIsThePapers (words : List ℕ) (p : Problem) : Type 0 where
   pub check-passes : (plan table : List ℕ) → choicesPass p plan ≡ Accepted →
       (checkOutcome words plan table ≡ Accepted) ↔ DrawnTable p plan table
 
-pub demand-2 : (words : List ℕ) (p : Problem) → problemOf words ≡ accepted p → ArithmeticIsThePapers words p
+pub demand-2 : (words : List ℕ) (p : Problem) → problemOf words ≡ accepted p → QuantitiesExact words p
 demand-2 words p read =
     let valid = accepted-is-valid words read in
     record {
@@ -167,23 +167,23 @@ demand-2 words p read =
 -- Demand 3. "Nobody beats the plan. For every instance read without refusal: "no plan" exactly when no drawing exists;
 -- otherwise the plan with its table is a drawing, its cost is the one returned, and every drawing by anyone costs at least as
 -- much; and the table repeated for ever serves every job."
-pub record NobodyBeatsThePlan (words : List ℕ) (p : Problem) : Type 0 where
+pub record PlanningOptimal (words : List ℕ) (p : Problem) : Type 0 where
   pub no-plan : (bestPlan p ≡ none) ↔ NoDrawing p
   pub otherwise : (plan : List ℕ) → bestPlan p ≡ some plan → BestDrawing p plan (tableOf p plan)
   -- the same of what planning answers and writes to the fronts of buffers that are long enough
   pub planning : (plan table : List ℕ) → taskCount p ≤ length plan → tableSize p ≤ length table →
       let o = planOutcome words plan table in
-      NobodyBeats p (o .answer) (take (taskCount p) (o .plan)) (take (tableSize p) (o .table))
+      Optimal p (o .answer) (take (taskCount p) (o .plan)) (take (tableSize p) (o .table))
   -- "These are the choices and tables that pass the check."
   pub drawings-pass-the-check : (plan table : List ℕ) → (checkOutcome words plan table ≡ Accepted) ↔ Drawing p plan table
 
-pub demand-3 : (words : List ℕ) (p : Problem) → problemOf words ≡ accepted p → NobodyBeatsThePlan words p
+pub demand-3 : (words : List ℕ) (p : Problem) → problemOf words ≡ accepted p → PlanningOptimal words p
 demand-3 words p read =
     let periodic = valid-is-periodic (accepted-is-valid words read) in
     record {
       no-plan = no-plan-iff-no-drawing p periodic;
       otherwise = answered-is-best-drawing p periodic;
-      planning = λ plan table. planOutcome-is-planned words plan table .nobody-beats p read;
+      planning = λ plan table. planOutcome-is-planned words plan table .optimal p read;
       drawings-pass-the-check = λ plan table.
           rw (checked-as-defined words p read plan table) (check-accepts-exactly-drawings p periodic plan table);
     }

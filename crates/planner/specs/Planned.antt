@@ -30,7 +30,7 @@ pub record BestDrawing (p : Problem) (plan table : List ℕ) : Type 0 where
   -- "These are the choices and tables that pass the check."
   pub passes-check : check p plan table ≡ Accepted
   -- "every drawing by anyone costs at least as much"
-  pub nobody-beats : (other slots : List ℕ) → Drawing p other slots → cost p plan ≤ cost p other
+  pub no-drawing-cheaper : (other slots : List ℕ) → Drawing p other slots → cost p plan ≤ cost p other
   -- "among equal costs the one whose first differing choice, in task order, is smaller"
   pub first-of-equals : (other slots : List ℕ) → Drawing p other slots → cost p plan ≡ cost p other →
       (plan ≡ other) ⊎ Before plan other
@@ -40,7 +40,7 @@ pub record BestDrawing (p : Problem) (plan table : List ℕ) : Type 0 where
   pub for-ever : ServesForEver p plan table
 
 -- Demand 3 of an answer, and of the plan and the table that were written with it
-pub record NobodyBeats (p : Problem) (answer : Priced) (plan table : List ℕ) : Type 0 where
+pub record Optimal (p : Problem) (answer : Priced) (plan table : List ℕ) : Type 0 where
   -- "no plan" exactly when no drawing exists
   pub no-plan : (answer ≡ Priced.Refused NoPlan) ↔ NoDrawing p
   -- "otherwise .. its cost is the one returned", with energy and penalty
@@ -57,8 +57,8 @@ pub record Planned (words plan table : List ℕ) (answer : Priced) (planAfter ta
   pub table-too-short : (p : Problem) → problemOf words ≡ accepted p → taskCount p ≤ length plan →
       length table < tableSize p → answer ≡ Priced.Refused (ShortBuffer (tableSize p))
   -- "5 comes last": demand 3 of the fronts of the buffers
-  pub nobody-beats : (p : Problem) → problemOf words ≡ accepted p → taskCount p ≤ length plan → tableSize p ≤ length table →
-      NobodyBeats p answer (take (taskCount p) planAfter) (take (tableSize p) tableAfter)
+  pub optimal : (p : Problem) → problemOf words ≡ accepted p → taskCount p ≤ length plan → tableSize p ≤ length table →
+      Optimal p answer (take (taskCount p) planAfter) (take (tableSize p) tableAfter)
   -- "Every refusal leaves all lent buffers unchanged."
   pub refused-unchanged : (r : Refusal) → answer ≡ Priced.Refused r → (planAfter ≡ plan) × (tableAfter ≡ table)
   -- "An accepted call writes only the words or bytes its result needs, from the front of each buffer."

@@ -24,7 +24,7 @@ use Rattle.planner.specs.BestDrawingLaws.{no-plan-iff-no-drawing, answer
 use Rattle.planner.specs.EndingLaws.{best-plan-length, planning-ends}
 use Rattle.planner.specs.Endings.{Lent, Unchanged, FrontWritten, Every, ServedOrRefused, priceVerdict}
 use Rattle.planner.specs.Outcomes.{PlanOutcome, planAnswered, planWhere, planOutcomeOf, planOutcome}
-use Rattle.planner.specs.Planned.{BestDrawing, NobodyBeats, Planned}
+use Rattle.planner.specs.Planned.{BestDrawing, Optimal, Planned}
 use Rattle.planner.specs.Planning.{bestPlan}
 use Rattle.planner.specs.RoomLaws.{enough-room, no-room, front-of-onto}
 
@@ -58,10 +58,10 @@ answers-no-plan p (some best) plan table = (
 )
 
 module _ (p : Problem) (periodic : Periodic p) (plan table : List ℕ) where
-  answered-nobody-beats :
+  answered-is-optimal :
       let o = planAnswered p (bestPlan p) plan table in
-      NobodyBeats p (o .answer) (take (taskCount p) (o .plan)) (take (tableSize p) (o .table))
-  answered-nobody-beats =
+      Optimal p (o .answer) (take (taskCount p) (o .plan)) (take (tableSize p) (o .table))
+  answered-is-optimal =
       record {
         no-plan = Iff·trans (answers-no-plan p (bestPlan p) plan table) (no-plan-iff-no-drawing p periodic);
         otherwise = go (bestPlan p) refl;
@@ -101,9 +101,9 @@ module _ (words plan table : List ℕ) where
         table-too-short = λ p read enough short.
             ap (λ (o : PlanOutcome). o .answer)
             (where-room p read (Refused (ShortBuffer (tableSize p))) (rw (enough-room (taskCount p) plan enough, no-room (tableSize p) table short)));
-        nobody-beats = λ p read enough enough-too.
+        optimal = λ p read enough enough-too.
             rw (where-room p read Accepted (rw (enough-room (taskCount p) plan enough, enough-room (tableSize p) table enough-too)))
-            (answered-nobody-beats p (valid-is-periodic (accepted-is-valid words read)) plan table);
+            (answered-is-optimal p (valid-is-periodic (accepted-is-valid words read)) plan table);
         refused-unchanged = λ r e.
             let same = refused-leaves ends (ap priceVerdict e) in (same .0 .as-before, same .1 .0 .as-before);
         rest-unchanged = λ p read. (rw read at (fronts .0 .rest-as-before), rw read at (fronts .1 .0 .rest-as-before));

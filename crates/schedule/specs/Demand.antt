@@ -49,8 +49,8 @@ pub record Serves (slots : ℕ → ℕ) (span : ℕ) (core : CoreTasks) : Type 0
   pub each-job : (i j : ℕ) → i < core .size → j < span / core .period i → slotsOfJob slots core i j ≡ core .ticks i
 
 -- no slot of task i between the due tick of its job j and the next release
-abbrev pub QuietAfterDue : (ℕ → ℕ) → CoreTasks → ℕ → ℕ → Type 0
-QuietAfterDue slots core i j =
+abbrev pub NoSlotAfterDue : (ℕ → ℕ) → CoreTasks → ℕ → ℕ → Type 0
+NoSlotAfterDue slots core i j =
     (x : ℕ) → core .window i ≤ x → x < core .period i → slots (j * core .period i + x) ≡ suc i → ⊥
 
 -- "Repeated, a row shows at tick t, however large, its slot t modulo L"

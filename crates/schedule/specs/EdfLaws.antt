@@ -10,7 +10,7 @@ use lib.Dec.{eqb}
 use borrow.Author.Tests.{eqb-true, eqb-false}
 use Rattle.laws.specs.CountLaws.{count-mono}
 use Rattle.laws.specs.Search.{count}
-use Rattle.schedule.specs.Demand.{WellFormed, Demand, NamesTask, QuietAfterDue, slotsOfJob}
+use Rattle.schedule.specs.Demand.{WellFormed, Demand, NamesTask, NoSlotAfterDue, slotsOfJob}
 use Rattle.dispatch.specs.DispatchLaws.{leftAt, readyAt, slot-is-choice, left-after-run, ready-le-ticks}
 use Rattle.dispatch.specs.DispatchLaws.{afterRelease-at-release, afterRelease-between, afterRun-self, afterRun-other}
 use Rattle.dispatch.specs.Earliest.{Choice, chosen-has-left}
@@ -104,8 +104,8 @@ module _ (core : CoreTasks) (wf : WellFormed core) (demand : Demand core) where
             let none-left = done-when-due core last (suc last) i (leftAt core (suc last)) (left-on-time last (ready-on-time last)) l due in
             omega (arith, run-keeps-account core i j l x (accounted core i j l x inside), none-left)
 
-    pub quiet-after-due : QuietAfterDue (slotOf core) core i j
-    quiet-after-due x due h runs =
+    pub no-slot-after-due : NoSlotAfterDue (slotOf core) core i j
+    no-slot-after-due x due h runs =
         omega (
           arith,
           job-served,

@@ -4,9 +4,9 @@ use Prim.Native.Nat.{ℕ, _/_, _≤_, _<_}
 use mathlib.Core.Path.{_≡_, sym, _∙_}
 use mathlib.Core.Logic.{_⊎_}
 use Rattle.laws.specs.Sums.{sum}
-use Rattle.schedule.specs.Demand.{WellFormed, WholePeriods, Demand, Serves, QuietAfterDue, NamesTask, KeptAlsoBy}
+use Rattle.schedule.specs.Demand.{WellFormed, WholePeriods, Demand, Serves, NoSlotAfterDue, NamesTask, KeptAlsoBy}
 use Rattle.schedule.specs.Demand.{slotsOfJob, loadOf, repeated}
-use Rattle.schedule.specs.EdfLaws.{slot-names-task, job-served, quiet-after-due}
+use Rattle.schedule.specs.EdfLaws.{slot-names-task, job-served, no-slot-after-due}
 use Rattle.schedule.specs.KeptTaskLaws.{same-slots}
 use Rattle.schedule.specs.LoadLaws.{load-within-span-is-demand}
 use Rattle.schedule.specs.RepeatedRowLaws.{job-of-span, repeated-slot, repeated-slots-of-job}
@@ -20,9 +20,9 @@ pub edf-serves-every-job : (core : CoreTasks) → WellFormed core → Demand cor
 edf-serves-every-job core wf demand i j l = job-served core wf demand i j l
 
 -- .. and no slot between its due tick and the next release.
-pub edf-is-quiet-after-due : (core : CoreTasks) → WellFormed core → Demand core → (i j : ℕ) → i < core .size →
-    QuietAfterDue (slotOf core) core i j
-edf-is-quiet-after-due core wf demand i j l = quiet-after-due core wf demand i j l
+pub edf-no-slot-after-due : (core : CoreTasks) → WellFormed core → Demand core → (i j : ℕ) → i < core .size →
+    NoSlotAfterDue (slotOf core) core i j
+edf-no-slot-after-due core wf demand i j l = no-slot-after-due core wf demand i j l
 
 -- Every slot is idle or names a task that has ticks on this core.
 pub edf-slots-name-tasks-with-ticks : (core : CoreTasks) (t : ℕ) → (slotOf core t ≡ 0) ⊎ NamesTask core (slotOf core t)
@@ -55,9 +55,9 @@ pub repeated-row-serves-for-ever : (core : CoreTasks) (span : ℕ) (slots : ℕ 
 repeated-row-serves-for-ever core span slots wf whole serves i j l =
     repeated-slots-of-job core wf span whole i j l slots ∙ serves .each-job i _ l (job-of-span core wf span whole i j l)
 
--- .. and one that is quiet after the due ticks of a span stays so for ever.
-pub repeated-row-is-quiet-for-ever : (core : CoreTasks) (span : ℕ) (slots : ℕ → ℕ) → WellFormed core → WholePeriods core span →
-    ((i j : ℕ) → i < core .size → j < span / core .period i → QuietAfterDue slots core i j) →
-    (i j : ℕ) → i < core .size → QuietAfterDue (repeated span slots) core i j
-repeated-row-is-quiet-for-ever core span slots wf whole quiet i j l x due before named =
-    quiet i _ l (job-of-span core wf span whole i j l) x due before (sym (repeated-slot core wf span whole i j l slots x before) ∙ named)
+-- .. and one with no slot after the due ticks of a span has none for ever.
+pub repeated-row-no-slot-after-due : (core : CoreTasks) (span : ℕ) (slots : ℕ → ℕ) → WellFormed core → WholePeriods core span →
+    ((i j : ℕ) → i < core .size → j < span / core .period i → NoSlotAfterDue slots core i j) →
+    (i j : ℕ) → i < core .size → NoSlotAfterDue (repeated span slots) core i j
+repeated-row-no-slot-after-due core span slots wf whole none-after i j l x due before named =
+    none-after i _ l (job-of-span core wf span whole i j l) x due before (sym (repeated-slot core wf span whole i j l slots x before) ∙ named)

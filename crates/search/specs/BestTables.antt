@@ -13,10 +13,10 @@ use Rattle.assignment.specs.Assignment.{Options}
 use Rattle.assignment.specs.Values.{Value, add, Within}
 use Rattle.assignment.specs.Words.{noCost, valueOf, words-pair, words-add, words-within}
 use Rattle.assignment.specs.Bounds.{CostsAtMost, best-within}
-use Rattle.assignment.specs.Rows.{keyBase, row}
+use Rattle.assignment.specs.Knapsacks.{keyBase, knapsack}
 use Rattle.assignment.specs.Sets.{setNumber, Tabled}
 use Rattle.assignment.specs.SetLaws.{setNumber-below, numbered}
-use Rattle.assignment.specs.Partition.{leastSplit, weight, movedRow, best}
+use Rattle.assignment.specs.Partition.{leastSplit, weight, movedKnapsack, best}
 use Rattle.assignment.specs.Offered.{mostCost}
 use Rattle.search.specs.Moves.{digitSum}
 use Rattle.search.specs.MoveLaws.{weight-is-digits}
@@ -24,7 +24,7 @@ use Rattle.search.specs.Cores.{SetTable, splitSum, CoreAdded}
 use Rattle.search.specs.CoreLaws.{leastSplit-same}
 use Rattle.assignment.specs.Entries.{entryAt}
 
--- the table of a value for each set of n items, as the rows and the partition fill it
+-- the table of a value for each set of n items, as the knapsacks and the partition fill it
 abbrev pub TableOf : ℕ → (List Bool → Value) → List ℕ → List ℕ → Type 0
 TableOf n = Tabled n (keyBase ^ n)
 
@@ -36,8 +36,8 @@ pub record Searchable (o : Options) (n : ℕ) : Type 0 where
   pub few-choices : o .cores * o .levels < keyBase
   pub cheap : CostsAtMost (o .levels) (o .capacity) mostCost (o .items)
 
-abbrev pub rowsOf : Options → List Bool → Value
-rowsOf o S = row (o .levels) (o .items) S (o .capacity)
+abbrev pub knapsacksOf : Options → List Bool → Value
+knapsacksOf o S = knapsack (o .levels) (o .items) S (o .capacity)
 
 pub table-of-sets : {n : ℕ} {f : List Bool → Value} {costs keys : List ℕ} → n ≤ 12 → TableOf n f costs keys → SetTable n costs keys
 table-of-sets few table =
@@ -81,31 +81,31 @@ module _ {o : Options} {n : ℕ} (given : Searchable o n) where
   pub best-is-small : (k : ℕ) → suc k ≤ o .cores → (S : List Bool) → Within (n * mostCost) (keyBase ^ n) (best o k S)
   best-is-small k h S = rw (given .items-counted) at (best-within o k S (fewer-choices (suc k) h) (given .cheap))
 
-  row-is-small : (S : List Bool) → Within (n * mostCost) (keyBase ^ n) (rowsOf o S)
+  knapsack-is-small : (S : List Bool) → Within (n * mostCost) (keyBase ^ n) (knapsacksOf o S)
   unfolding best
-  row-is-small S = best-is-small 0 (given .some-core) S
+  knapsack-is-small S = best-is-small 0 (given .some-core) S
 
-module _ {o : Options} {n : ℕ} (given : Searchable o n) {rows rowKeys : List ℕ} (rows-held : TableOf n (rowsOf o) rows rowKeys) where
-  pub best-of-one-core : TableOf n (best o 0) rows rowKeys
+module _ {o : Options} {n : ℕ} (given : Searchable o n) {knapsacks knapsackKeys : List ℕ} (knapsacks-held : TableOf n (knapsacksOf o) knapsacks knapsackKeys) where
+  pub best-of-one-core : TableOf n (best o 0) knapsacks knapsackKeys
   unfolding best
-  best-of-one-core = rows-held
+  best-of-one-core = knapsacks-held
 
   module _ (c : ℕ) (more : suc c < o .cores) {costs keys : List ℕ} (held : TableOf n (best o c) costs keys) where
     -- no real sum comes near noCost
     sums-stay-real : (T R : List Bool) → length T ≡ n → length R ≡ n →
-        getD rows (setNumber n T) 0 < noCost → getD costs (setNumber n R) 0 < noCost →
-        getD rows (setNumber n T) 0 + getD costs (setNumber n R) 0 < noCost
+        getD knapsacks (setNumber n T) 0 < noCost → getD costs (setNumber n R) 0 < noCost →
+        getD knapsacks (setNumber n T) 0 + getD costs (setNumber n R) 0 < noCost
     sums-stay-real T R t r p q =
         let few = given .few-items in
-        omega (arith, real-entry rows-held T t (row-is-small given T) p, real-entry held R r (best-is-small given c (omega arith) R) q)
+        omega (arith, real-entry knapsacks-held T t (knapsack-is-small given T) p, real-entry held R r (best-is-small given c (omega arith) R) q)
 
     split-value : (T R : List Bool) → length T ≡ n → length R ≡ n →
-        splitSum n (suc c * o .levels) rows rowKeys costs keys T R ≡ add (movedRow o (suc c) T) (best o c R)
-    unfolding splitSum movedRow
+        splitSum n (suc c * o .levels) knapsacks knapsackKeys costs keys T R ≡ add (movedKnapsack o (suc c) T) (best o c R)
+    unfolding splitSum movedKnapsack
     split-value T R t r =
         let w = suc c * o .levels * weight (o .items) T in
-        let a = getD rows (setNumber n T) 0 in
-        let x = getD rowKeys (setNumber n T) 0 in
+        let a = getD knapsacks (setNumber n T) 0 in
+        let x = getD knapsackKeys (setNumber n T) 0 in
         let b = getD costs (setNumber n R) 0 in
         let y = getD keys (setNumber n R) 0 in
         let digits : digitSum keyBase n T ≡ weight (o .items) T =
@@ -115,10 +115,10 @@ module _ {o : Options} {n : ℕ} (given : Searchable o n) {rows rowKeys : List �
         let real : 0 + a < noCost → b < noCost → 0 + a + b < noCost =
         λ p q. omega (arith, sums-stay-real T R t r (omega arith) q) in
         ap₂ valueOf cost key ∙ sym
-        (ap₂ add (ap₂ add (sym (words-pair 0 w (omega arith))) (sym (rows-held .holds T t)) ∙ words-add 0 w a x (λ p q. omega arith))
+        (ap₂ add (ap₂ add (sym (words-pair 0 w (omega arith))) (sym (knapsacks-held .holds T t)) ∙ words-add 0 w a x (λ p q. omega arith))
         (sym (held .holds R r)) ∙ words-add (0 + a) (w + x) b y real)
 
-    pub best-of-one-core-more : {costs' keys' : List ℕ} → CoreAdded n (suc c * o .levels) rows rowKeys costs keys costs' keys' →
+    pub best-of-one-core-more : {costs' keys' : List ℕ} → CoreAdded n (suc c * o .levels) knapsacks knapsackKeys costs keys costs' keys' →
         length costs' ≡ length costs → length keys' ≡ length keys → TableOf n (best o (suc c)) costs' keys'
     unfolding best entryAt
     best-of-one-core-more {costs'} {keys'} added same-costs same-keys =
@@ -132,7 +132,7 @@ module _ {o : Options} {n : ℕ} (given : Searchable o n) {rows rowKeys : List �
       where
         holds : (S : List Bool) → length S ≡ n →
             valueOf (getD costs' (setNumber n S) 0) (getD keys' (setNumber n S) 0)
-            ≡ leastSplit S (λ T R. add (movedRow o (suc c) T) (best o c R))
+            ≡ leastSplit S (λ T R. add (movedKnapsack o (suc c) T) (best o c R))
         holds S of-items =
             added .holds S of-items ∙ leastSplit-same S (λ T R t r. split-value T R (t ∙ of-items) (r ∙ of-items))
 

@@ -9,8 +9,8 @@ use lib.ListN.{length, getD}
 use Rattle.laws.specs.JoinedLaws.{length-listOf}
 use Rattle.assignment.specs.Assignment.{Item}
 use Rattle.assignment.specs.Values.{pair, add}
-use Rattle.assignment.specs.Rows.{keyBase}
-use Rattle.rows.specs.RowWords.{Small}
+use Rattle.assignment.specs.Knapsacks.{keyBase}
+use Rattle.knapsack.specs.KnapsackWords.{Small}
 use Rattle.assignment.specs.SetLaws.{numbered}
 use Rattle.assignment.specs.Sets.{setNumber}
 use Rattle.assignment.specs.Partition.{weight, best}
@@ -25,42 +25,42 @@ use Rattle.search.specs.HalvesTables.{SmallTable, OneReady, HalvesReady,
 use Rattle.search.specs.HalvesLaws.{every-length}
 use Rattle.assignment.specs.Offered.{itemAt, itemsOf, offered}
 use Rattle.search.specs.OfferedLaws.{listFrom, listOf-from}
-use Rattle.search.specs.BestTables.{TableOf, Searchable, rowsOf, real-entry, best-is-small, best-of-one-core}
-use Rattle.search.specs.BestFilled.{RowsTabled, BestReady}
+use Rattle.search.specs.BestTables.{TableOf, Searchable, knapsacksOf, real-entry, best-is-small, best-of-one-core}
+use Rattle.search.specs.BestFilled.{KnapsacksTabled, BestReady}
 use Rattle.search.specs.Found.{optionsOf}
 use Rattle.search.specs.FoundLaws.{searchable}
 use Rattle.search.specs.Limits.{OfferLimited}
 use Rattle.search.specs.declared.Shape.{Shape}
 use Rattle.assignment.specs.Entries.{entryAt}
 
--- the rows of what is offered
-pub record RowsOffered (shape : Shape) (load cost refusal : List ℕ) (must : List Bool) (rows rowKeys : List ℕ) : Type 0 where
+-- the knapsacks of what is offered
+pub record KnapsacksOffered (shape : Shape) (load cost refusal : List ℕ) (must : List Bool) (knapsacks knapsackKeys : List ℕ) : Type 0 where
   pub offer : OfferLimited shape load cost refusal must
-  pub held : TableOf (shape .items) (rowsOf (optionsOf shape load cost refusal must)) rows rowKeys
+  pub held : TableOf (shape .items) (knapsacksOf (optionsOf shape load cost refusal must)) knapsacks knapsackKeys
 
-pub record RowsReady (shape : Shape) (refusal : List ℕ) (must : List Bool) (rows rowKeys : List ℕ) : Type 0 where
+pub record KnapsacksReady (shape : Shape) (refusal : List ℕ) (must : List Bool) (knapsacks knapsackKeys : List ℕ) : Type 0 where
   pub load : List ℕ
   pub cost : List ℕ
-  pub rows-offered : RowsOffered shape load cost refusal must rows rowKeys
+  pub knapsacks-offered : KnapsacksOffered shape load cost refusal must knapsacks knapsackKeys
 
-module _ {shape : Shape} {load cost refusal : List ℕ} {must : List Bool} {rows rowKeys : List ℕ}
-    (rows-are : RowsOffered shape load cost refusal must rows rowKeys) where
+module _ {shape : Shape} {load cost refusal : List ℕ} {must : List Bool} {knapsacks knapsackKeys : List ℕ}
+    (knapsacks-are : KnapsacksOffered shape load cost refusal must knapsacks knapsackKeys) where
   given : Searchable (optionsOf shape load cost refusal must) (shape .items)
-  given = searchable (rows-are .offer .limits)
+  given = searchable (knapsacks-are .offer .limits)
 
-  pub rows-tabled : {cores : ℕ} → cores ≤ shape .cores →
-      RowsTabled (optionsOf shape load cost refusal must) (shape .items) (shape .levels) cores rows rowKeys
+  pub knapsacks-tabled : {cores : ℕ} → cores ≤ shape .cores →
+      KnapsacksTabled (optionsOf shape load cost refusal must) (shape .items) (shape .levels) cores knapsacks knapsackKeys
   unfolding optionsOf offered
-  rows-tabled le = record { given = given; same-levels = refl; in-range = le; held = rows-are .held }
+  knapsacks-tabled le = record { given = given; same-levels = refl; in-range = le; held = knapsacks-are .held }
 
   pub best-ready : {cores : ℕ} {weights costs keys : List ℕ} → 1 ≤ cores → cores ≤ shape .cores →
       4096 ≤ length weights → WeightsBelow (shape .items) (2 ^ shape .items) weights → 4096 ≤ length costs → 4096 ≤ length keys →
-      BestReady (shape .items) (shape .levels) cores weights rows rowKeys costs keys
+      BestReady (shape .items) (shape .levels) cores weights knapsacks knapsackKeys costs keys
   best-ready some le room right costs-room keys-room =
       let few = room-for-sets (given .few-items) in
       record {
         options = optionsOf shape load cost refusal must;
-        tabled = rows-tabled le;
+        tabled = knapsacks-tabled le;
         some-core = some;
         weights-for-all = omega arith;
         weights-right = right;
@@ -91,7 +91,7 @@ module _ {shape : Shape} {load cost refusal : List ℕ} {must : List Bool} {rows
 
     pub one-ready : OneReady (shape .items) refusal must costs keys
     one-ready =
-        let limits = rows-are .offer .limits in
+        let limits = knapsacks-are .offer .limits in
         record {
           few-items = given .few-items;
           refusals-long = limits .long-enough .refusals-for-all;
@@ -126,9 +126,9 @@ module _ {shape : Shape} {load cost refusal : List ℕ} {must : List Bool} {rows
         lower = lower;
       }
 
-  -- the rows are the values on one core
-  pub rows-best : TableOf (shape .items) (best (optionsOf shape load cost refusal must) 0) rows rowKeys
-  rows-best = best-of-one-core given (rows-are .held)
+  -- the knapsacks are the values on one core
+  pub knapsacks-best : TableOf (shape .items) (best (optionsOf shape load cost refusal must) 0) knapsacks knapsackKeys
+  knapsacks-best = best-of-one-core given (knapsacks-are .held)
 
   pub one-core-chosen : {costs keys : List ℕ} → shape .cores ≡ 1 →
       TableOf (shape .items) (best (optionsOf shape load cost refusal must) 0) costs keys →

@@ -15,7 +15,7 @@ use Rattle.assignment.specs.Values.{Value, none, lesser, to-none}
 use Rattle.assignment.specs.ValueLaws.{lesser-is-second}
 use Rattle.assignment.specs.Words.{noCost, valueOf, words-none}
 use Rattle.assignment.specs.Bounds.{keys-fit}
-use Rattle.assignment.specs.Rows.{keyBase}
+use Rattle.assignment.specs.Knapsacks.{keyBase}
 use Rattle.assignment.specs.Sets.{setNumber}
 use Rattle.assignment.specs.SetLaws.{setNumber-below, numbered}
 use Rattle.assignment.specs.Partition.{leastSplit}
@@ -38,8 +38,8 @@ leastSplit-same (true ∷ S) same =
 pub room-for-sets : {n : ℕ} → n ≤ 12 → 2 ^ n ≤ 4096
 room-for-sets few = pow-mono few
 
-module _ {n shift : ℕ} {weights rows rowKeys costs keys : List ℕ}
-    (ready : CoreReady n shift weights rows rowKeys costs keys) where
+module _ {n shift : ℕ} {weights knapsacks knapsackKeys costs keys : List ℕ}
+    (ready : CoreReady n shift weights knapsacks knapsackKeys costs keys) where
   -- what is added to the key of set x
   shift-of : (x : ℕ) → x < 2 ^ n → shift * getD weights x 0 < keyBase ^ n
   shift-of x h =
@@ -47,30 +47,30 @@ module _ {n shift : ℕ} {weights rows rowKeys costs keys : List ℕ}
       let right = ready .weights-right .at (s .set) (s .of-items) (rw (s .number) h) in
       rw (ap (λ (k : ℕ). getD weights k 0) (sym (s .number)) ∙ right) (digits-below (ready .small-shift) n (s .set))
 
-  pub moves-fit : MovesFit n shift weights rowKeys
+  pub moves-fit : MovesFit n shift weights knapsackKeys
   unfolding movedKey
   moves-fit =
       record {
         weights-long = ready .weights-for-all;
-        keys-long = ready .row-table .keys-for-all;
-        moved-fit = λ x h. omega (arith, shift-of x h, ready .row-table .key-bound x h, keys-fit (ready .few-items));
+        keys-long = ready .knapsack-table .keys-for-all;
+        moved-fit = λ x h. omega (arith, shift-of x h, ready .knapsack-table .key-bound x h, keys-fit (ready .few-items));
       }
 
   module _ {moved : List ℕ} (buffer : List ℕ) (long : 2 ^ n ≤ length buffer)
-      (is-moved : moved ≡ onto (listOf (movedKey shift weights rowKeys) (2 ^ n)) buffer) where
-    moved-at : (x : ℕ) → x < 2 ^ n → getD moved x 0 ≡ getD rowKeys x 0 + shift * getD weights x 0
+      (is-moved : moved ≡ onto (listOf (movedKey shift weights knapsackKeys) (2 ^ n)) buffer) where
+    moved-at : (x : ℕ) → x < 2 ^ n → getD moved x 0 ≡ getD knapsackKeys x 0 + shift * getD weights x 0
     unfolding movedKey
-    moved-at x h = rw is-moved (getD-onto-listOf (movedKey shift weights rowKeys) buffer (2 ^ n) x 0 h)
+    moved-at x h = rw is-moved (getD-onto-listOf (movedKey shift weights knapsackKeys) buffer (2 ^ n) x 0 h)
 
-    pub sums-ready : SumsReady (2 ^ n) 0 0 rows moved costs keys
+    pub sums-ready : SumsReady (2 ^ n) 0 0 knapsacks moved costs keys
     sums-ready =
         record {
           sets = record { exponent = n; is-power = refl };
           costs-fit = record {
-            tops-long = omega (arith, ready .row-table .costs-for-all);
+            tops-long = omega (arith, ready .knapsack-table .costs-for-all);
             rests-long = omega (arith, ready .rest-table .costs-for-all);
             sums-fit = λ x y h j.
-                rw (zero-add x, zero-add y) (omega (arith, ready .row-table .cost-bound x h, ready .rest-table .cost-bound y j));
+                rw (zero-add x, zero-add y) (omega (arith, ready .knapsack-table .cost-bound x h, ready .rest-table .cost-bound y j));
           };
           keys-fit = record {
             tops-long = moved-long;
@@ -81,17 +81,17 @@ module _ {n shift : ℕ} {weights rows rowKeys costs keys : List ℕ}
       where
         moved-long : 0 + 2 ^ n ≤ length moved
         moved-long =
-            let writes : length (listOf (movedKey shift weights rowKeys) (2 ^ n)) ≤ length buffer = rw length-listOf long in
+            let writes : length (listOf (movedKey shift weights knapsackKeys) (2 ^ n)) ≤ length buffer = rw length-listOf long in
             let same = ap length is-moved ∙ length-onto _ buffer writes in
             omega arith
 
         moved-sums : (x y : ℕ) → x < 2 ^ n → y < 2 ^ n → getD moved (0 + x) 0 + getD keys (0 + y) 0 < 2 ^ 64
         moved-sums x y h j =
             rw (zero-add x, zero-add y, moved-at x h)
-            (omega (arith, shift-of x h, ready .row-table .key-bound x h, ready .rest-table .key-bound y j, keys-fit (ready .few-items)))
+            (omega (arith, shift-of x h, ready .knapsack-table .key-bound x h, ready .rest-table .key-bound y j, keys-fit (ready .few-items)))
 
     pub splits-ready : {next nextKeys : List ℕ} → 4096 ≤ length next → 4096 ≤ length nextKeys →
-        SplitsReady (2 ^ n) 0 0 0 rows moved costs keys next nextKeys
+        SplitsReady (2 ^ n) 0 0 0 knapsacks moved costs keys next nextKeys
     splits-ready room key-room =
         let few = room-for-sets (ready .few-items) in
         record {
@@ -104,15 +104,15 @@ module _ {n shift : ℕ} {weights rows rowKeys costs keys : List ℕ}
 
     -- what the sums of the code are
     pub sums-same : (S : List Bool) → length S ≡ n →
-        leastFrom n (sumAt rows moved costs keys) 0 0 S ≡ leastSplit S (splitSum n shift rows rowKeys costs keys)
+        leastFrom n (sumAt knapsacks moved costs keys) 0 0 S ≡ leastSplit S (splitSum n shift knapsacks knapsackKeys costs keys)
     unfolding leastFrom sumAt splitSum
     sums-same S of-items = leastSplit-same S same
       where
         same : (T R : List Bool) → length T ≡ length S → length R ≡ length S →
-            valueOf (getD rows (0 + setNumber n T) 0 + getD costs (0 + setNumber n R) 0)
+            valueOf (getD knapsacks (0 + setNumber n T) 0 + getD costs (0 + setNumber n R) 0)
             (getD moved (0 + setNumber n T) 0 + getD keys (0 + setNumber n R) 0)
-            ≡ valueOf (getD rows (setNumber n T) 0 + getD costs (setNumber n R) 0)
-            (getD rowKeys (setNumber n T) 0 + shift * digitSum keyBase n T + getD keys (setNumber n R) 0)
+            ≡ valueOf (getD knapsacks (setNumber n T) 0 + getD costs (setNumber n R) 0)
+            (getD knapsackKeys (setNumber n T) 0 + shift * digitSum keyBase n T + getD keys (setNumber n R) 0)
         same T R t r =
             let below = setNumber-below n T in
             rw (
@@ -124,7 +124,7 @@ module _ {n shift : ℕ} {weights rows rowKeys costs keys : List ℕ}
 
     module _ {blank blankKeys next nextKeys costs' keys' : List ℕ}
         (nothing : (x : ℕ) → x < 2 ^ n → getD blank x 0 ≡ noCost) (no-key : (x : ℕ) → x < 2 ^ n → getD blankKeys x 0 ≡ 0)
-        (lowered : LoweredFrom n 0 0 0 (sumAt rows moved costs keys) blank blankKeys next nextKeys)
+        (lowered : LoweredFrom n 0 0 0 (sumAt knapsacks moved costs keys) blank blankKeys next nextKeys)
         (copied : costs' ≡ onto (listOf (λ x. getD next x 0) (2 ^ n)) costs)
         (keys-copied : keys' ≡ onto (listOf (λ x. getD nextKeys x 0) (2 ^ n)) keys) where
       cost-at : (x : ℕ) → x < 2 ^ n → getD costs' x 0 ≡ getD next x 0
@@ -141,15 +141,15 @@ module _ {n shift : ℕ} {weights rows rowKeys costs keys : List ℕ}
       unfolding entryAt
       nothing-at x h = rw (nothing x h) (words-none noCost _ (omega arith))
 
-      pub core-added : CoreAdded n shift rows rowKeys costs keys costs' keys'
+      pub core-added : CoreAdded n shift knapsacks knapsackKeys costs keys costs' keys'
       core-added = record { holds = holds; bounded = λ x h. bounded x h (lowered .no-dearer .at x) }
         where
           holds : (S : List Bool) → length S ≡ n →
-              entryAt costs' keys' (setNumber n S) ≡ leastSplit S (splitSum n shift rows rowKeys costs keys)
+              entryAt costs' keys' (setNumber n S) ≡ leastSplit S (splitSum n shift knapsacks knapsackKeys costs keys)
           holds S of-items =
               let x = setNumber n S in
               let below = setNumber-below n S in
-              let there : entryAt next nextKeys x ≡ lesser (entryAt blank blankKeys x) (leastFrom n (sumAt rows moved costs keys) 0 0 S) =
+              let there : entryAt next nextKeys x ≡ lesser (entryAt blank blankKeys x) (leastFrom n (sumAt knapsacks moved costs keys) 0 0 S) =
               rw zero-add at (lowered .there S of-items) in
               entry-at x below ∙ there ∙ rw (nothing-at x below) (lesser-is-second to-none ∙ sums-same S of-items)
 

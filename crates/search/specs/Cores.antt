@@ -8,7 +8,7 @@ use lib.ListN.{length, getD}
 use Rattle.assignment.specs.Values.{Value}
 use Rattle.assignment.specs.Words.{noCost, valueOf}
 use Rattle.assignment.specs.Sets.{setNumber}
-use Rattle.assignment.specs.Rows.{keyBase}
+use Rattle.assignment.specs.Knapsacks.{keyBase}
 use Rattle.assignment.specs.Partition.{leastSplit}
 use Rattle.search.specs.Moves.{digitSum, WeightsBelow}
 use Rattle.assignment.specs.Entries.{entryAt}
@@ -20,22 +20,22 @@ pub record SetTable (n : ℕ) (costs keys : List ℕ) : Type 0 where
   pub cost-bound : (x : ℕ) → x < 2 ^ n → getD costs x 0 < 2 ^ 63
   pub key-bound : (x : ℕ) → x < 2 ^ n → getD keys x 0 < keyBase ^ n
 
-pub record CoreReady (n shift : ℕ) (weights rows rowKeys costs keys : List ℕ) : Type 0 where
+pub record CoreReady (n shift : ℕ) (weights knapsacks knapsackKeys costs keys : List ℕ) : Type 0 where
   pub few-items : n ≤ 12
   pub small-shift : shift < keyBase
   pub weights-for-all : 2 ^ n ≤ length weights
   pub weights-right : WeightsBelow n (2 ^ n) weights
-  pub row-table : SetTable n rows rowKeys
+  pub knapsack-table : SetTable n knapsacks knapsackKeys
   pub rest-table : SetTable n costs keys
 
 -- the part T on the new core, where each choice is larger by `shift`, and R on the cores below
-unfoldable pub splitSum : (n shift : ℕ) (rows rowKeys costs keys : List ℕ) → List Bool → List Bool → Value
-splitSum n shift rows rowKeys costs keys T R =
-    valueOf (getD rows (setNumber n T) 0 + getD costs (setNumber n R) 0)
-    (getD rowKeys (setNumber n T) 0 + shift * digitSum keyBase n T + getD keys (setNumber n R) 0)
+unfoldable pub splitSum : (n shift : ℕ) (knapsacks knapsackKeys costs keys : List ℕ) → List Bool → List Bool → Value
+splitSum n shift knapsacks knapsackKeys costs keys T R =
+    valueOf (getD knapsacks (setNumber n T) 0 + getD costs (setNumber n R) 0)
+    (getD knapsackKeys (setNumber n T) 0 + shift * digitSum keyBase n T + getD keys (setNumber n R) 0)
 
 -- every set's entry is its least split; where there is none, it has key 0
-pub record CoreAdded (n shift : ℕ) (rows rowKeys costs keys costs' keys' : List ℕ) : Type 0 where
+pub record CoreAdded (n shift : ℕ) (knapsacks knapsackKeys costs keys costs' keys' : List ℕ) : Type 0 where
   pub holds : (S : List Bool) → length S ≡ n →
-      entryAt costs' keys' (setNumber n S) ≡ leastSplit S (splitSum n shift rows rowKeys costs keys)
+      entryAt costs' keys' (setNumber n S) ≡ leastSplit S (splitSum n shift knapsacks knapsackKeys costs keys)
   pub bounded : (x : ℕ) → x < 2 ^ n → (getD costs' x 0 < noCost) ⊎ ((getD costs' x 0 ≡ noCost) × (getD keys' x 0 ≡ 0))

@@ -9,7 +9,7 @@ use lib.ListN.{length}
 use Rattle.assignment.specs.Assignment.{Options, totalCost, Allowed, Best}
 use Rattle.assignment.specs.Values.{pair, Attained}
 use Rattle.assignment.specs.Words.{noCost, valueOf, words-none, words-pair}
-use Rattle.assignment.specs.Rows.{keyBase}
+use Rattle.assignment.specs.Knapsacks.{keyBase}
 use Rattle.assignment.specs.Choice.{chosen, digits}
 use Rattle.assignment.specs.ChoiceLaws.{kept-set, chosen-least}
 use Rattle.assignment.specs.Keeping.{planKey, planWorth}
@@ -19,13 +19,13 @@ use Rattle.assignment.specs.Offered.{Affordable}
 use Rattle.search.specs.OfferedLaws.{offered-searchable}
 use Rattle.search.specs.BestTables.{Searchable}
 use Rattle.search.specs.CoreLaws.{room-for-sets}
-use Rattle.rows.specs.TabledRows.{RowsFit}
+use Rattle.knapsack.specs.TabledKnapsacks.{KnapsacksFit}
 use Rattle.search.specs.Limits.{WithinLimits}
 use Rattle.search.specs.Found.{optionsOf}
-use Rattle.search.specs.Light.{BestTold}
-use Rattle.rows.specs.Worths.{worthOf}
+use Rattle.search.specs.Light.{EncodesBest}
+use Rattle.knapsack.specs.Worths.{worthOf}
 use Rattle.search.specs.declared.Shape.{Shape}
-use Rattle.rows.specs.declared.value.Worth.{Worth}
+use Rattle.knapsack.specs.declared.value.Worth.{Worth}
 
 -- what a chosen pair of cost and key tells
 module _ (o : Options) (n : ℕ) (given : Searchable o n) (worth : Worth) (is : worthOf worth ≡ chosen o) where
@@ -55,8 +55,8 @@ module _ (o : Options) (n : ℕ) (given : Searchable o n) (worth : Worth) (is : 
   best-found : cost < noCost → Best o (digits n key) × (totalCost (o .levels) (o .items) (digits n key) ≡ cost)
   best-found real = rw (words-pair cost key real, given .items-counted) at answers
 
-  pub chosen-tells : BestTold o n worth
-  chosen-tells =
+  pub chosen-encodes-best : EncodesBest o n worth
+  chosen-encodes-best =
       record {
         best = λ real.
             let found = best-found real in record { is-best = found .0; costs = found .1; key-below = key-of-plan real };
@@ -81,9 +81,9 @@ module _ {shape : Shape} {load cost refusal : List ℕ} {must : List Bool} {plan
       offered-searchable load cost refusal must (limits .shape-limited .items) (limits .shape-limited .some-core)
       (limits .shape-limited .cores) affordable
 
-  pub rows-fit : {costs keys : List ℕ} → 4096 ≤ length costs → 4096 ≤ length keys →
-      RowsFit (shape .items) (shape .levels) (shape .capacity) load cost costs keys
-  rows-fit room key-room =
+  pub knapsacks-fit : {costs keys : List ℕ} → 4096 ≤ length costs → 4096 ≤ length keys →
+      KnapsacksFit (shape .items) (shape .levels) (shape .capacity) load cost costs keys
+  knapsacks-fit room key-room =
       let few = room-for-sets (limits .shape-limited .items) in
       record {
         items-limited = limits .shape-limited .items;

@@ -12,8 +12,8 @@ use Rattle.laws.specs.Below.{lt-or-le}
 use Rattle.assignment.specs.Values.{Value, pair, add, Within, absent, present}
 use Rattle.assignment.specs.Words.{noCost, valueOf, words-none, words-pair, words-add, words-within}
 use Rattle.assignment.specs.Offered.{mostCost}
-use Rattle.assignment.specs.Rows.{keyBase}
-use Rattle.rows.specs.RowWords.{Small}
+use Rattle.assignment.specs.Knapsacks.{keyBase}
+use Rattle.knapsack.specs.KnapsackWords.{Small}
 use Rattle.assignment.specs.Sets.{setNumber}
 use Rattle.assignment.specs.SetLaws.{setNumber-below, numbered}
 use Rattle.assignment.specs.Partition.{leastSplit}
@@ -138,7 +138,7 @@ module _ {n shift : ℕ} {weights tops topKeys refusal : List ℕ} {must : List 
         small-shift = ready .small-shift;
         weights-for-all = ready .weights-for-all;
         weights-right = ready .weights-right;
-        row-table = small-sets (ready .top-table);
+        knapsack-table = small-sets (ready .top-table);
         rest-table = rests;
       }
 

@@ -5,8 +5,8 @@ use mathlib.Core.List.{List}
 use lib.ListN.{length, getD}
 use Rattle.assignment.specs.Values.{Value, pair, add}
 use Rattle.assignment.specs.Offered.{mostCost}
-use Rattle.assignment.specs.Rows.{keyBase}
-use Rattle.rows.specs.RowWords.{Small}
+use Rattle.assignment.specs.Knapsacks.{keyBase}
+use Rattle.knapsack.specs.KnapsackWords.{Small}
 use Rattle.assignment.specs.Sets.{setNumber}
 use Rattle.assignment.specs.Partition.{leastSplit}
 use Rattle.search.specs.Moves.{digitSum, WeightsBelow}

@@ -10,10 +10,10 @@ use Rattle.assignment.specs.Choice.{digits}
 use Rattle.search.specs.Found.{optionsOf}
 use Rattle.assignment.specs.Keeping.{planKey}
 use Rattle.assignment.specs.Offered.{mostCost, itemAt}
-use Rattle.assignment.specs.Rows.{keyBase}
+use Rattle.assignment.specs.Knapsacks.{keyBase}
 use Rattle.assignment.specs.Words.{noCost}
 use Rattle.search.specs.declared.Shape.{Shape}
-use Rattle.rows.specs.declared.value.Worth.{Worth}
+use Rattle.knapsack.specs.declared.value.Worth.{Worth}
 
 -- the key of the best plan of n items, and its cost
 pub record BestKey (o : Options) (n : ℕ) (worth : Worth) : Type 0 where
@@ -22,7 +22,7 @@ pub record BestKey (o : Options) (n : ℕ) (worth : Worth) : Type 0 where
   pub key-below : worth .key < keyBase ^ n
 
 -- what a cost and a key tell of the best plan: its key, or, where they stand for none, that no plan is allowed
-pub record BestTold (o : Options) (n : ℕ) (worth : Worth) : Type 0 where
+pub record EncodesBest (o : Options) (n : ℕ) (worth : Worth) : Type 0 where
   pub best : worth .cost < noCost → BestKey o n worth
   pub none-allowed : noCost ≤ worth .cost → (plan : List ℕ) → ¬ (Allowed o plan)
 

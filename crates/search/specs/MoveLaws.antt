@@ -11,7 +11,7 @@ use lib.ListN.{length, getD, set}
 use lib.Pow.{pow-pos}
 use lib.Seq.{getD-set-same, getD-set-other}
 use Rattle.assignment.specs.Assignment.{Item}
-use Rattle.assignment.specs.Rows.{keyBase}
+use Rattle.assignment.specs.Knapsacks.{keyBase}
 use Rattle.assignment.specs.Bounds.{keys-fit}
 use Rattle.assignment.specs.Sets.{setNumber}
 use Rattle.assignment.specs.SetLaws.{numbered}

@@ -8,7 +8,7 @@ use native.Mathlib.Omega.{arith}
 use Rattle.laws.specs.Lists.{listOf}
 use Rattle.laws.specs.JoinedLaws.{length-listOf}
 use Rattle.assignment.specs.Bounds.{CostsAtMost, nothing, more}
-use Rattle.assignment.specs.Rows.{keyBase}
+use Rattle.assignment.specs.Knapsacks.{keyBase}
 use Rattle.search.specs.BestTables.{Searchable}
 use Rattle.assignment.specs.Offered.{mostItems, mostCost, itemAt, itemsOf, offered, Affordable, CheapAt}
 

@@ -8,45 +8,45 @@ use crate::partition::copy_entries;
 use crate::partition::fill_weights;
 use crate::partition::move_keys;
 use crate::powers::sets_of;
-use rows::NO_COST;
-use rows::Worth;
-use rows::fill_rows;
+use knapsack::NO_COST;
+use knapsack::Worth;
+use knapsack::fill_knapsacks;
 ghost use mathlib.Core.List.{List};
 ghost use mathlib.Core.Path.{_≡_};
 ghost use Prim.Native.Nat.{ℕ, pred};
 ghost use Rattle.assignment.specs.Assignment.{Options};
 ghost use Rattle.search.specs.BestTables.{TableOf};
-ghost use Rattle.search.specs.BestFilled.{BestReady, RowsTabled};
+ghost use Rattle.search.specs.BestFilled.{BestReady, KnapsacksTabled};
 ghost use Rattle.assignment.specs.Choice.{chosen};
-ghost use Rattle.search.specs.ChosenTables.{RowsOffered, RowsReady};
+ghost use Rattle.search.specs.ChosenTables.{KnapsacksOffered, KnapsacksReady};
 ghost use Rattle.search.specs.Found.{optionsOf};
 ghost use Rattle.search.specs.HalvesTables.{HalvesReady, leastOverHalves, OneReady, leastOnOne};
-ghost use Rattle.search.specs.Light.{BestTold};
+ghost use Rattle.search.specs.Light.{EncodesBest};
 ghost use Rattle.search.specs.Limits.{OfferLimited};
 ghost use Rattle.assignment.specs.Partition.{best};
-ghost use Rattle.rows.specs.Worths.{worthOf};
+ghost use Rattle.knapsack.specs.Worths.{worthOf};
 
-// From the rows the value of every set on the first `cores` cores, in the entry of the set's number.
+// From the knapsacks the value of every set on the first `cores` cores, in the entry of the set's number.
 pub(crate) fn fill_best(
     items: usize,
     levels: usize,
     cores: usize,
     weights: &[u64],
-    rows: &[u64],
-    rowkeys: &[u64],
+    knapsacks: &[u64],
+    knapsackkeys: &[u64],
     costs: &mut [u64],
     keys: &mut [u64],
 )
-    requires { ⌜ BestReady items levels cores (now weights) (now rows) (now rowkeys) (now costs) (now keys) ⌝ }
-    ensures { λ _. ⌜ ((o : Options) → RowsTabled o items levels cores (now (rows .entry)) (now (rowkeys .entry)) →
+    requires { ⌜ BestReady items levels cores (now weights) (now knapsacks) (now knapsackkeys) (now costs) (now keys) ⌝ }
+    ensures { λ _. ⌜ ((o : Options) → KnapsacksTabled o items levels cores (now (knapsacks .entry)) (now (knapsackkeys .entry)) →
         TableOf items (best o (pred cores)) (now (costs .exit)) (now (keys .exit))) ⌝ }
 {
-    copy_entries(items, rows, costs);
-    copy_entries(items, rowkeys, keys);
+    copy_entries(items, knapsacks, costs);
+    copy_entries(items, knapsackkeys, keys);
     let mut c = 1;
     while c < cores {
         let shift = (c * levels) as u64;
-        add_core(items, shift, weights, rows, rowkeys, costs, keys);
+        add_core(items, shift, weights, knapsacks, knapsackkeys, costs, keys);
         c += 1;
     }
 }
@@ -96,18 +96,18 @@ fn least_on_one(
     }
 }
 
-// What the best plan is worth, from the rows. Of an odd number of cores the lower half has one more; no half has more than
+// What the best plan is worth, from the knapsacks. Of an odd number of cores the lower half has one more; no half has more than
 // two, so that one table of two cores serves both.
-fn least_of_rows(
+fn least_of_knapsacks(
     shape: Shape,
     refusal: &[u64],
     must: &[bool],
-    rows: &[u64],
-    rowkeys: &[u64],
+    knapsacks: &[u64],
+    knapsackkeys: &[u64],
 ) -> Worth
-    requires { ⌜ RowsReady shape (now refusal) (now must) (now rows) (now rowkeys) ⌝ }
+    requires { ⌜ KnapsacksReady shape (now refusal) (now must) (now knapsacks) (now knapsackkeys) ⌝ }
     ensures { λ r. ⌜ ((load cost : List ℕ) →
-        RowsOffered shape load cost (now (refusal .entry)) (now (must .entry)) (now (rows .entry)) (now (rowkeys .entry)) →
+        KnapsacksOffered shape load cost (now (refusal .entry)) (now (must .entry)) (now (knapsacks .entry)) (now (knapsackkeys .entry)) →
         worthOf r ≡ chosen (optionsOf shape load cost (now (refusal .entry)) (now (must .entry)))) ⌝ }
 {
     let n = shape.items;
@@ -122,8 +122,8 @@ fn least_of_rows(
         shape.levels,
         below,
         &weights,
-        rows,
-        rowkeys,
+        knapsacks,
+        knapsackkeys,
         &mut costs,
         &mut keys,
     );
@@ -136,8 +136,8 @@ fn least_of_rows(
             n,
             shift,
             &weights,
-            rows,
-            rowkeys,
+            knapsacks,
+            knapsackkeys,
             refusal,
             must,
             &mut costs,
@@ -159,24 +159,24 @@ fn least_of_rows(
     )
 }
 
-// What the best plan is worth, from the rows of all sets.
+// What the best plan is worth, from the knapsacks of all sets.
 fn least_plan(shape: Shape, load: &[u64], cost: &[u64], refusal: &[u64], must: &[bool]) -> Worth
     requires { ⌜ OfferLimited shape (now load) (now cost) (now refusal) (now must) ⌝ }
     ensures { λ r. ⌜ worthOf r
         ≡ chosen (optionsOf shape (now (load .entry)) (now (cost .entry)) (now (refusal .entry)) (now (must .entry))) ⌝ }
 {
-    let mut rows = [0u64; 4096];
-    let mut rowkeys = [0u64; 4096];
-    fill_rows(
+    let mut knapsacks = [0u64; 4096];
+    let mut knapsackkeys = [0u64; 4096];
+    fill_knapsacks(
         shape.items,
         shape.levels,
         shape.capacity,
         load,
         cost,
-        &mut rows,
-        &mut rowkeys,
+        &mut knapsacks,
+        &mut knapsackkeys,
     );
-    least_of_rows(shape, refusal, must, &rows, &rowkeys)
+    least_of_knapsacks(shape, refusal, must, &knapsacks, &knapsackkeys)
 }
 
 // What the best plan is worth: that of the first cheapest choices, where core 0 takes them together.
@@ -188,7 +188,7 @@ pub(crate) fn best_plan(
     must: &[bool],
 ) -> Worth
     requires { ⌜ OfferLimited shape (now load) (now cost) (now refusal) (now must) ⌝ }
-    ensures { λ r. ⌜ BestTold
+    ensures { λ r. ⌜ EncodesBest
         (optionsOf shape (now (load .entry)) (now (cost .entry)) (now (refusal .entry)) (now (must .entry)))
         (shape .items) r ⌝ }
 {

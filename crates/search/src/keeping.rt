@@ -1,9 +1,9 @@
 // The choice of the items to keep, and the plan that its key stands for.
 use crate::partition::lower;
 use crate::powers::keys_of;
-use rows::KEY_BASE;
-use rows::Worth;
-use rows::lesser;
+use knapsack::KEY_BASE;
+use knapsack::Worth;
+use knapsack::lesser;
 ghost use mathlib.Core.Path.{_≡_};
 ghost use Prim.Native.Nat.{ℕ, _^_, _≤_, _<_};
 ghost use lib.ListN.{length};
@@ -11,9 +11,9 @@ ghost use Rattle.laws.specs.Lists.{onto};
 ghost use Rattle.assignment.specs.Choice.{digits};
 ghost use Rattle.search.specs.RefusedTables.{ItemReady, ItemRefused, RefuseReady, RefusedFrom};
 ghost use Rattle.assignment.specs.Refusing.{every};
-ghost use Rattle.assignment.specs.Rows.{keyBase};
+ghost use Rattle.assignment.specs.Knapsacks.{keyBase};
 ghost use Rattle.search.specs.Splits.{SumsReady, sumAt, leastFrom};
-ghost use Rattle.rows.specs.Worths.{worthOf};
+ghost use Rattle.knapsack.specs.Worths.{worthOf};
 
 // Lowers the value of every set with an item to that of the same set without it, where refusing the item comes first. From s
 // on stand `half` sets without the item, and after them those with it.

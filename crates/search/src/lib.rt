@@ -8,8 +8,8 @@ mod powers;
 
 use best::best_plan;
 use keeping::write_plan;
+use knapsack::NO_COST;
 use limits::within_limits;
-use rows::NO_COST;
 ghost use Rattle.search.specs.Found.{Searched};
 
 // How many items there are, how many cores and levels for each, and the most load that a core takes.

@@ -1,9 +1,9 @@
 // Light sites: where core 0 takes what each item would choose alone, that is the best plan, and no table is filled.
 use crate::Shape;
-use rows::KEY_BASE;
-use rows::NO_COST;
-use rows::STRIDE;
-use rows::Worth;
+use knapsack::KEY_BASE;
+use knapsack::NO_COST;
+use knapsack::STRIDE;
+use knapsack::Worth;
 ghost use mathlib.Core.Path.{_≡_};
 ghost use Prim.Native.Nat.{_+_, _*_, _≤_, _<_};
 ghost use lib.ListN.{length};

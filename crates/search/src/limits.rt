@@ -1,20 +1,20 @@
 // Whether the numbers are within the limits of the search.
 use crate::Shape;
-use rows::MOST_CAPACITY;
-use rows::MOST_COST;
-use rows::MOST_ITEMS;
-use rows::STRIDE;
-use rows::affordable;
+use knapsack::MOST_CAPACITY;
+use knapsack::MOST_COST;
+use knapsack::MOST_ITEMS;
+use knapsack::STRIDE;
+use knapsack::affordable;
 ghost use Prim.Native.Nat.{ℕ, _≤_, _<_};
 ghost use lib.ListN.{length, getD};
 ghost use Rattle.search.specs.Limits.{LongEnough, ShapeLimited, WithinLimits};
 ghost use Rattle.assignment.specs.Offered.{mostCost};
-ghost use Rattle.laws.specs.Tests.{Tells};
+ghost use Rattle.laws.specs.Tests.{Decides};
 
 const MOST_CORES: usize = 4;
 
 fn shape_within(shape: Shape) -> bool
-    ensures { λ r. ⌜ Tells r (ShapeLimited shape) ⌝ }
+    ensures { λ r. ⌜ Decides r (ShapeLimited shape) ⌝ }
 {
     if MOST_ITEMS < shape.items {
         return false;
@@ -47,7 +47,7 @@ fn long_enough(
     room: usize,
 ) -> bool
     requires { ⌜ items ≤ 12 ⌝ }
-    ensures { λ r. ⌜ Tells r (LongEnough items loads costs refusals musts room) ⌝ }
+    ensures { λ r. ⌜ Decides r (LongEnough items loads costs refusals musts room) ⌝ }
 {
     if loads < items * STRIDE {
         return false;
@@ -69,7 +69,7 @@ fn long_enough(
 
 fn refusals_within(items: usize, refusal: &[u64]) -> bool
     requires { ⌜ items ≤ length (now refusal) ⌝ }
-    ensures { λ r. ⌜ Tells r ((i : ℕ) → i < items → getD (now (refusal .entry)) i 0 ≤ mostCost) ⌝ }
+    ensures { λ r. ⌜ Decides r ((i : ℕ) → i < items → getD (now (refusal .entry)) i 0 ≤ mostCost) ⌝ }
 {
     let mut i = 0;
     while i < items {
@@ -89,7 +89,7 @@ pub(crate) fn within_limits(
     must: &[bool],
     plan: &[u32],
 ) -> bool
-    ensures { λ r. ⌜ Tells r
+    ensures { λ r. ⌜ Decides r
         (WithinLimits shape (now (load .entry)) (now (cost .entry)) (now (refusal .entry)) (now (must .entry)) (now (plan .entry))) ⌝ }
 {
     if !shape_within(shape) {

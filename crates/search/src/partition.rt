@@ -1,8 +1,8 @@
 // One core more: the least values of all sets on some cores become those on these and one core. A set is a number below
 // 2^items, the first item its most significant digit; a table is a slice of costs and one of keys.
 use crate::powers::sets_of;
-use rows::KEY_BASE;
-use rows::NO_COST;
+use knapsack::KEY_BASE;
+use knapsack::NO_COST;
 ghost use mathlib.Core.Path.{_≡_};
 ghost use Prim.Native.Nat.{ℕ, _+_, _*_, _^_, _≤_, _<_};
 ghost use lib.ListN.{length, getD};
@@ -167,7 +167,7 @@ pub(crate) fn fill_weights(items: usize, weights: &mut [u64])
     }
 }
 
-// The keys of the rows on another core, where each choice is larger by `shift`.
+// The keys of the knapsacks on another core, where each choice is larger by `shift`.
 pub(crate) fn move_keys(items: usize, shift: u64, weights: &[u64], keys: &[u64], moved: &mut [u64])
     requires { ⌜ items ≤ 12 ⌝ }
     requires { ⌜ MovesFit items shift (now weights) (now keys) ⌝ }
@@ -198,22 +198,22 @@ pub(crate) fn copy_entries(items: usize, from: &[u64], to: &mut [u64])
     }
 }
 
-// One core more: the value of each set on some cores becomes that on these and one core, whose rows are moved by `shift`.
+// One core more: the value of each set on some cores becomes that on these and one core, whose knapsacks are moved by `shift`.
 pub(crate) fn add_core(
     items: usize,
     shift: u64,
     weights: &[u64],
-    rows: &[u64],
-    rowkeys: &[u64],
+    knapsacks: &[u64],
+    knapsackkeys: &[u64],
     costs: &mut [u64],
     keys: &mut [u64],
 )
-    requires { ⌜ CoreReady items shift (now weights) (now rows) (now rowkeys) (now costs) (now keys) ⌝ }
-    ensures { λ _. ⌜ CoreAdded items shift (now (rows .entry)) (now (rowkeys .entry)) (now (costs .entry)) (now (keys .entry))
+    requires { ⌜ CoreReady items shift (now weights) (now knapsacks) (now knapsackkeys) (now costs) (now keys) ⌝ }
+    ensures { λ _. ⌜ CoreAdded items shift (now (knapsacks .entry)) (now (knapsackkeys .entry)) (now (costs .entry)) (now (keys .entry))
         (now (costs .exit)) (now (keys .exit)) ⌝ }
 {
     let mut moved = [0u64; 4096];
-    move_keys(items, shift, weights, rowkeys, &mut moved);
+    move_keys(items, shift, weights, knapsackkeys, &mut moved);
     let mut next = [NO_COST; 4096];
     let mut nextkeys = [0u64; 4096];
     let all = sets_of(items);
@@ -222,7 +222,7 @@ pub(crate) fn add_core(
         0,
         0,
         0,
-        rows,
+        knapsacks,
         &moved,
         costs,
         keys,

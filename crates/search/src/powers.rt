@@ -1,8 +1,8 @@
 // How many sets and how many keys there are.
-use rows::KEY_BASE;
+use knapsack::KEY_BASE;
 ghost use mathlib.Core.Path.{_≡_};
 ghost use Prim.Native.Nat.{_^_, _≤_};
-ghost use Rattle.assignment.specs.Rows.{keyBase};
+ghost use Rattle.assignment.specs.Knapsacks.{keyBase};
 
 // The number of sets of so many items.
 pub(crate) fn sets_of(items: usize) -> usize

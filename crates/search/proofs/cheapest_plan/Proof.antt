@@ -6,7 +6,7 @@ use Rattle.assignment.specs.Choice.{digits}
 use Rattle.search.specs.Limits.{WithinLimits}
 use Rattle.search.proofs.cheapest_plan.Statement.{statement}
 use Rattle.search.proofs.cheapest_plan.Tie as tie
-use Rattle.laws.specs.Tests.{tells-no, tells-yes}
+use Rattle.laws.specs.Tests.{decides-no, decides-yes}
 
 within-limits-requires : tie.Need-within-limits-requires
 within-limits-requires c κs = search needs
@@ -15,13 +15,13 @@ same-length : tie.Need-same-length
 same-length c = search needs
 
 returns : tie.Need-returns
-returns c = (tells-no (c .before .within-limits .result) (c .if1 .taken) (c .before .within-limits .ensures), refl)
+returns c = (decides-no (c .before .within-limits .result) (c .if1 .taken) (c .before .within-limits .ensures), refl)
 
 -- past the first test, the limits hold
 limits-hold : (c : tie.Else1) →
     let a = c .before .before .before .before .before .before .before .before .args in
     WithinLimits (a .shape) (now (a .load)) (now (a .cost)) (now (a .refusal)) (now (a .must)) (now (a .plan))
-limits-hold c = tells-yes (c .before .within-limits .result) (c .if1 .left) (c .before .within-limits .ensures)
+limits-hold c = decides-yes (c .before .within-limits .result) (c .if1 .left) (c .before .within-limits .ensures)
 
 best-plan-requires : tie.Need-best-plan-requires
 best-plan-requires c κs = record { plan = _; limits = limits-hold c }

@@ -1,5 +1,5 @@
 use borrow.Author.Needs.{needs}
-use Rattle.search.specs.FoundLaws.{searchable, chosen-tells}
+use Rattle.search.specs.FoundLaws.{searchable, chosen-encodes-best}
 use Rattle.search.proofs.best.best_plan.Statement.{statement}
 use Rattle.search.proofs.best.best_plan.Tie as tie
 
@@ -13,7 +13,7 @@ least-plan-requires : tie.Need-least-plan-requires
 least-plan-requires c κs = search needs
 
 returns-2 : tie.Need-returns-2
-returns-2 c = let start = c .before .before .before .before .before .before .before .before in chosen-tells _ _ (searchable (start .pre .limits)) _ (c .least-plan .ensures)
+returns-2 c = let start = c .before .before .before .before .before .before .before .before in chosen-encodes-best _ _ (searchable (start .pre .limits)) _ (c .least-plan .ensures)
 
 pub best-plan-spec : {M : Type 1} → statement M
 best-plan-spec = tie.close (tie.spec light-plan-requires returns least-plan-requires returns-2)

@@ -1,20 +1,20 @@
--- `fill_best` copies the rows, and fills from them the values on one core more in each turn.
+-- `fill_best` copies the knapsacks, and fills from them the values on one core more in each turn.
 use Prim.Native.Nat.{_-_}
 use mathlib.Core.Path.{_≡_, refl, _∙_}
 use native.Mathlib.Omega.{arith}
 use borrow.Author.Needs.{needs}
 use denote.Ref.{now}
 use lib.ListN.{length}
-use Rattle.assignment.specs.Rows.{keyBase}
+use Rattle.assignment.specs.Knapsacks.{keyBase}
 use Rattle.search.specs.BestFilled.{CoresFilled, first-core, next-choices, core-ready, next-core, all-cores}
 use Rattle.search.proofs.best.fill_best.Statement.{statement}
 use Rattle.search.proofs.best.fill_best.Tie as tie
 
 abbrev Inv-loop : tie.InvT-loop
-Inv-loop items levels cores weights rows rowkeys costs₀ keys₀ c₀ costs keys c = (length costs ≡ length costs₀) × (length keys ≡ length keys₀) × CoresFilled items levels cores rows rowkeys c costs keys
+Inv-loop items levels cores weights knapsacks knapsackkeys costs₀ keys₀ c₀ costs keys c = (length costs ≡ length costs₀) × (length keys ≡ length keys₀) × CoresFilled items levels cores knapsacks knapsackkeys c costs keys
 
 abbrev μ-loop : tie.MeasureT-loop
-μ-loop items levels cores weights rows rowkeys costs₀ keys₀ c₀ costs keys c = cores - c
+μ-loop items levels cores weights knapsacks knapsackkeys costs₀ keys₀ c₀ costs keys c = cores - c
 
 copy-entries-requires : tie.Need-copy-entries-requires Inv-loop μ-loop
 copy-entries-requires c κs =

@@ -14,7 +14,7 @@ use borrow.Fn.PlainCycle.{Measures, is, falls, and}
 use Rattle.search.proofs.keeping.least_parted.Reads as least-parted
 use Rattle.search.proofs.keeping.least_parted.Kinds as least-parted-kinds
 use Rattle.search.proofs.keeping.+least_parted.Lts-least_parted as least-parted-lts
-use Rattle.rows.proofs.lesser.Reads as lesser-reads
+use Rattle.knapsack.proofs.lesser.Reads as lesser-reads
 use Rattle.search.proofs.keeping.+least_parted.{statement}
 use Rattle.search.proofs.keeping.+least_parted.Tie.{close}
 

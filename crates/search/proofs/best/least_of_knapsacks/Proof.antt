@@ -1,0 +1,117 @@
+-- `least_of_knapsacks` fills the table of the lower cores; the upper cores have the knapsacks, or the same table.
+use mathlib.Core.Path.{refl, _∙_}
+use Rattle.search.specs.CoreLaws.{room-for-sets}
+use Rattle.search.specs.HalfCores.{lower-ready, shift-fits, alone-ready, knapsacks-above-ready, table-above-ready, alone-chosen, knapsacks-above-chosen, table-above-chosen}
+use borrow.Author.Needs.{needs}
+use Rattle.search.proofs.best.least_of_knapsacks.Statement.{statement}
+use Rattle.search.proofs.best.least_of_knapsacks.Tie as tie
+
+sub-below : tie.Need-sub-below
+sub-below c = search needs
+
+slice-aggregate-fill-weights : tie.Need-slice-aggregate-fill-weights
+slice-aggregate-fill-weights c = search needs
+
+fill-weights-requires : tie.Need-fill-weights-requires
+fill-weights-requires c κs =
+    let few = c .before .before .before .before .before .before .before .pre .knapsacks-offered .offer .limits .shape-limited .items in (few, room-for-sets few)
+
+slice-aggregate-fill-best : tie.Need-slice-aggregate-fill-best
+slice-aggregate-fill-best c = search needs
+
+slice-aggregate-fill-best-2 : tie.Need-slice-aggregate-fill-best-2
+slice-aggregate-fill-best-2 c = search needs
+
+slice-aggregate-fill-best-3 : tie.Need-slice-aggregate-fill-best-3
+slice-aggregate-fill-best-3 c = search needs
+
+fill-best-requires : tie.Need-fill-best-requires
+fill-best-requires c κs =
+    lower-ready (c .before .before .before .before .before .before .before .before .before .before .before .before .pre) (c .before .before .before .before .fill-weights .kept .1 .0) (c .before .before .before .before .fill-weights .ensures) refl refl
+
+slice-aggregate-least-on-one : tie.Need-slice-aggregate-least-on-one
+slice-aggregate-least-on-one c = search needs
+
+slice-aggregate-least-on-one-2 : tie.Need-slice-aggregate-least-on-one-2
+slice-aggregate-least-on-one-2 c = search needs
+
+least-on-one-requires : tie.Need-least-on-one-requires
+least-on-one-requires c κs =
+    alone-ready (c .before .before .before .before .before .before .before .before .before .before .before .before .before .before .before .before .before .before .pre) (c .before .before .before .before .before .fill-best .ensures)
+
+returns : tie.Need-returns
+returns c =
+    λ load cost knapsacks-are. c .before .before .least-on-one .ensures load cost ∙ alone-chosen (c .before .before .before .before .before .before .before .before .fill-best .ensures) knapsacks-are (c .before .before .before .before .before .if1 .taken)
+
+mul-shift : tie.Need-mul-shift
+mul-shift c =
+    record { fits = shift-fits (c .before .before .before .before .before .before .before .before .before .before .before .before .before .before .before .before .before .pre) }
+
+slice-aggregate-least-over-halves : tie.Need-slice-aggregate-least-over-halves
+slice-aggregate-least-over-halves c = search needs
+
+slice-aggregate-least-over-halves-2 : tie.Need-slice-aggregate-least-over-halves-2
+slice-aggregate-least-over-halves-2 c = search needs
+
+slice-aggregate-least-over-halves-3 : tie.Need-slice-aggregate-least-over-halves-3
+slice-aggregate-least-over-halves-3 c = search needs
+
+least-over-halves-requires : tie.Need-least-over-halves-requires
+least-over-halves-requires c κs =
+    knapsacks-above-ready (c .before .before .before .before .before .before .before .before .before .before .before .before .before .before .before .before .before .before .before .before .before .pre) (c .before .before .before .before .before .before .before .before .fill-best .ensures) (c .before .before .before .before .before .before .before .before .before .before .before .before .before .fill-weights .kept .1 .0) (c .before .before .before .before .before .before .before .before .before .before .before .before .before .fill-weights .ensures)
+
+returns-2 : tie.Need-returns-2
+returns-2 c =
+    λ load cost knapsacks-are. c .before .before .least-over-halves .ensures load cost ∙ knapsacks-above-chosen (c .before .before .before .before .before .before .before .before .before .before .before .fill-best .ensures) knapsacks-are (c .before .before .before .before .before .before .if2 .taken)
+
+slice-aggregate-least-over-halves-4 : tie.Need-slice-aggregate-least-over-halves-4
+slice-aggregate-least-over-halves-4 c = search needs
+
+slice-aggregate-least-over-halves-5 : tie.Need-slice-aggregate-least-over-halves-5
+slice-aggregate-least-over-halves-5 c = search needs
+
+slice-aggregate-least-over-halves-6 : tie.Need-slice-aggregate-least-over-halves-6
+slice-aggregate-least-over-halves-6 c = search needs
+
+slice-aggregate-least-over-halves-7 : tie.Need-slice-aggregate-least-over-halves-7
+slice-aggregate-least-over-halves-7 c = search needs
+
+slice-aggregate-least-over-halves-8 : tie.Need-slice-aggregate-least-over-halves-8
+slice-aggregate-least-over-halves-8 c = search needs
+
+least-over-halves-requires-2 : tie.Need-least-over-halves-requires-2
+least-over-halves-requires-2 c κs =
+    table-above-ready (c .before .before .before .before .before .before .before .before .before .before .before .before .before .before .before .before .before .before .before .before .before .before .before .pre) (c .before .before .before .before .before .before .before .before .before .before .fill-best .ensures) (c .before .before .before .before .before .before .before .before .before .before .before .before .before .before .before .fill-weights .kept .1 .0) (c .before .before .before .before .before .before .before .before .before .before .before .before .before .before .before .fill-weights .ensures)
+
+returns-3 : tie.Need-returns-3
+returns-3 c =
+    λ load cost knapsacks-are. c .before .before .least-over-halves2 .ensures load cost ∙ table-above-chosen (c .before .before .before .before .before .before .before .before .before .before .before .before .before .fill-best .ensures) knapsacks-are (c .before .before .before .before .before .before .before .before .before .before .if1 .left) (c .before .before .before .before .before .before .before .before .if2 .left)
+
+pub least-of-knapsacks-spec : {M : Type 1} → statement M
+least-of-knapsacks-spec =
+    tie.close
+    (tie.spec
+    sub-below
+    slice-aggregate-fill-weights
+    fill-weights-requires
+    slice-aggregate-fill-best
+    slice-aggregate-fill-best-2
+    slice-aggregate-fill-best-3
+    fill-best-requires
+    slice-aggregate-least-on-one
+    slice-aggregate-least-on-one-2
+    least-on-one-requires
+    returns
+    mul-shift
+    slice-aggregate-least-over-halves
+    slice-aggregate-least-over-halves-2
+    slice-aggregate-least-over-halves-3
+    least-over-halves-requires
+    returns-2
+    slice-aggregate-least-over-halves-4
+    slice-aggregate-least-over-halves-5
+    slice-aggregate-least-over-halves-6
+    slice-aggregate-least-over-halves-7
+    slice-aggregate-least-over-halves-8
+    least-over-halves-requires-2
+    returns-3)
