@@ -91,13 +91,19 @@ module _ (p : Problem) (plan : List ℕ) where
     λ fit. none-refused _ _ _ .1 (λ k h. ap not (fit k h)),
   )
 
-module _ (p : Problem) (periodic : Periodic p) (plan : List ℕ) where
-  pub passing-table-passes : planPasses p plan ≡ Accepted → check p plan (tableOf p plan) ≡ Accepted
+  passing-core-fits : planPasses p plan ≡ Accepted → (k : ℕ) → k < p .cores → fits p plan k ≡ true
   unfolding planPasses
+  passing-core-fits passes = cores-fit-iff .0 (andThen-accepts (choicesPass p plan) _ .0 passes .1)
+
+module _ (p : Problem) (periodic : Periodic p) (plan : List ℕ) where
+  pub passing-core-meets-demand : planPasses p plan ≡ Accepted → (k : ℕ) → k < p .cores → Demand (coreTasks p plan k)
+  unfolding fits
+  passing-core-meets-demand passes k h = fitting-core-meets-demand p periodic plan k (leb-true _ _ (passing-core-fits p plan passes k h))
+
+  pub passing-table-passes : planPasses p plan ≡ Accepted → check p plan (tableOf p plan) ≡ Accepted
   passing-table-passes passes =
-      let fit = cores-fit-iff p plan .0 (andThen-accepts (choicesPass p plan) _ .0 passes .1) in
       tabulated-table-passes p periodic plan passes (λ k h.
-      let served = core-fits-iff-served p periodic plan k .0 (fit k h) in
+      let served = core-fits-iff-served p periodic plan k .0 (passing-core-fits p plan passes k h) in
       edf-serves-if-any-row-does p periodic plan k (served .0) (served .1))
 
   -- the plan of a drawing passes ..

@@ -24,9 +24,10 @@ pub mod RepeatedRowLaws
 pub mod KeptTaskLaws
 pub mod SchedulingTheorems
 pub mod TableRowLaws
-pub mod WorkedOut
-pub mod WorkedOutLaws
 pub mod FitLaws
+pub mod WorkedOut
+pub mod PendingJobLaws
+pub mod WorkedOutLaws
 pub mod RepeatedTables
 pub mod RepeatedTableLaws
 pub mod HeldQuantities

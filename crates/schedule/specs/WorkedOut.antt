@@ -1,33 +1,37 @@
 -- The table of a plan in the paper's words, with no dispatching: "The row of a core is worked out from tick 0: among jobs
--- released and not finished, the earliest due runs; of equal ones, the lower task number." On a core that fits, the jobs of
--- a task before the one released last are finished, so that it alone is looked at.
-use Prim.Native.Nat.{ℕ, suc, _+_, _-_, _*_, _/_, _%_, _<_}
+-- released and not finished, the earliest due runs; of equal ones, the lower task number."
+use Prim.Native.Nat.{ℕ, suc, _*_, _≤_, _<_}
 use mathlib.Core.List.{List}
 use mathlib.Core.Path.{_≡_}
 use lib.Dec.{eqb}
 use lib.ListN.{length}
 use Rattle.laws.specs.Search.{count}
-use Rattle.instance.specs.Node.{Problem, taskCount, taskAt, span}
-use Rattle.dispatch.specs.Earliest.{Choice}
+use Rattle.instance.specs.Node.{Problem, taskCount, span}
 use Rattle.schedule.specs.Quantities.{ticksOn}
 use Rattle.schedule.specs.Tables.{releaseOf, dueOf, slotAt}
 
--- the job of task i that was released last by tick t
-abbrev pub jobAt : Problem → ℕ → ℕ → ℕ
-jobAt p t i = t / taskAt p i .period
+-- the slots with task i's number among the first t of a row
+unfoldable pub slotsGiven : (ℕ → ℕ) → ℕ → ℕ → ℕ
+slotsGiven slots i t = count (λ u. eqb (slots u) (suc i)) t
 
--- the slots that it has before tick t
-unfoldable pub slotsBefore : Problem → (ℕ → ℕ) → ℕ → ℕ → ℕ
-slotsBefore p slots t i = count (λ x. eqb (slots (releaseOf p i (jobAt p t i) + x)) (suc i)) (t % taskAt p i .period)
+-- job j of task i on core k at tick t: "released and not finished". It is finished once the row has given the task's jobs
+-- up to and with j all their ticks. A task that the plan does not keep on this core has no ticks there, so that no job of
+-- it is ever unfinished.
+pub record Pending (p : Problem) (plan : List ℕ) (k : ℕ) (slots : ℕ → ℕ) (t i j : ℕ) : Type 0 where
+  pub is-task : i < taskCount p
+  pub released : releaseOf p i j ≤ t
+  pub not-finished : slotsGiven slots i t < suc j * ticksOn p plan k i
 
--- the ticks that it still has to get on core k: none once it is finished
-unfoldable pub ticksLeft : Problem → List ℕ → ℕ → (ℕ → ℕ) → ℕ → ℕ → ℕ
-ticksLeft p plan k slots t i = ticksOn p plan k i - slotsBefore p slots t i
-
--- what the row shows at tick t is the choice by that rule
-abbrev pub EarliestDueRuns : Problem → List ℕ → ℕ → (ℕ → ℕ) → ℕ → Type 0
-EarliestDueRuns p plan k slots t = Choice (λ i. dueOf p i (jobAt p t i)) (ticksLeft p plan k slots t) (taskCount p) (slots t)
+-- what the row shows at tick t by the rule: 0 where no job is pending; else the number of the task of a pending job, such
+-- that no pending job is due earlier, and none of a lower task number is due at the same tick
+pub data EarliestDueRuns (p : Problem) (plan : List ℕ) (k : ℕ) (slots : ℕ → ℕ) (t : ℕ) : ℕ → Type 0 where
+  idle : ((i j : ℕ) → Pending p plan k slots t i j → ⊥) → EarliestDueRuns p plan k slots t 0
+  runs : (i j : ℕ) → Pending p plan k slots t i j →
+      ((i₂ j₂ : ℕ) → Pending p plan k slots t i₂ j₂ → dueOf p i j ≤ dueOf p i₂ j₂) →
+      ((i₂ j₂ : ℕ) → Pending p plan k slots t i₂ j₂ → dueOf p i₂ j₂ ≡ dueOf p i j → i ≤ i₂) →
+      EarliestDueRuns p plan k slots t (suc i)
 
 pub record WorkedOut (p : Problem) (plan table : List ℕ) : Type 0 where
   pub table-size : length table ≡ p .cores * span p
-  pub by-rule : (k t : ℕ) → k < p .cores → t < span p → EarliestDueRuns p plan k (slotAt p table k) t
+  pub by-rule : (k t : ℕ) → k < p .cores → t < span p →
+      EarliestDueRuns p plan k (slotAt p table k) t (slotAt p table k t)
