@@ -19,6 +19,7 @@ use Rattle.schedule.specs.Tables.{tableOf, tableSize}
 use Rattle.schedule.specs.declared.prices.Priced.{Priced}
 use Rattle.schedule.specs.declared.prices.Priced.the-variants as Priced
 use Rattle.assignment.specs.Assignment.{Before}
+use Rattle.planner.specs.Endings.{PlanningEnds}
 
 -- "no drawing exists"
 abbrev pub NoDrawing : Problem → Type 0
@@ -49,6 +50,8 @@ pub record Optimal (p : Problem) (answer : Priced) (plan table : List ℕ) : Typ
 
 -- `plan` and `table` are what the lent buffers held before the call.
 pub record Planned (words plan table : List ℕ) (answer : Priced) (planAfter tableAfter : List ℕ) : Type 0 where
+  -- "of several short ones, the plan's before the table's .. 5 comes last"
+  pub ends : PlanningEnds words plan table answer planAfter tableAfter
   -- "words are taken from the front, each tested for 2, 3, 4"
   pub not-read : (r : Refusal) → problemOf words ≡ refused r → answer ≡ Priced.Refused r
   -- "then 6 .. of several short ones, the plan's before the table's"
