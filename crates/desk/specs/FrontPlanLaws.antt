@@ -26,7 +26,7 @@ use Rattle.schedule.specs.VerdictLaws.{andThen-accepts, longer-is-refused}
 use Rattle.planner.specs.EndingLaws.{best-plan-length}
 use Rattle.planner.specs.Outcomes.{PlanOutcome, planAnswered, planWhere, planOutcomeOf, planOutcome}
 use Rattle.planner.specs.Planning.{bestPlan}
-use Rattle.planner.specs.RoomLaws.{enough-room, no-room, room-accepts}
+use Rattle.instance.specs.RoomLaws.{enough-room, no-room, room-accepts}
 use Rattle.desk.specs.ByteLists.{ByteList, front-is-bytes, planned-choices-fit-bytes}
 
 longer-plan-is-refused : (p : Problem) (plan : List ℕ) → taskCount p < length plan →

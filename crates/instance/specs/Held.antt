@@ -1,6 +1,6 @@
 -- The problem that an instance struct holds, for contracts of functions that take the struct.
 use Prim.Native.Nat.{ℕ, _<_, _≤_}
-use mathlib.Core.Path.{_≡_, sym, ap}
+use mathlib.Core.Path.{_≡_, refl, sym, ap}
 use lib.ListN.{take, getD}
 use lib.Seq.{getD-take}
 use native.Mathlib.Omega.{arith}
@@ -60,3 +60,30 @@ module _ (inst : Instance) (s : Sound inst) where
   pub held-level : (l : ℕ) → l < levelCount (problemIn inst) → getD (inst .levels) l noLevel ≡ levelAt (problemIn inst) l
   unfolding problemIn
   held-level l h = sym (getD-take (inst .levelcount) (inst .levels) l noLevel (omega (arith, held-levelcount)))
+
+-- the struct has the problem's weights and cores, as many levels and tasks, each of these, and its span
+pub record HoldsProblem (p : Problem) (inst : Instance) : Type 0 where
+  pub same-weights : inst .weights ≡ p .weights
+  pub same-cores : inst .cores ≡ p .cores
+  pub same-level-count : inst .levelcount ≡ levelCount p
+  pub same-levels : (l : ℕ) → l < levelCount p → getD (inst .levels) l noLevel ≡ levelAt p l
+  pub same-task-count : inst .taskcount ≡ taskCount p
+  pub same-tasks : (i : ℕ) → i < taskCount p → getD (inst .tasks) i noTask ≡ taskAt p i
+  pub same-span : inst .span ≡ span p
+
+sound-holds-problem : (inst : Instance) → Sound inst → HoldsProblem (problemIn inst) inst
+unfolding problemIn
+sound-holds-problem inst s =
+    record {
+      same-weights = refl;
+      same-cores = refl;
+      same-level-count = held-levelcount inst s;
+      same-levels = held-level inst s;
+      same-task-count = held-taskcount inst s;
+      same-tasks = held-task inst s;
+      same-span = held-span inst s;
+    }
+
+pub stored-holds-problem : (p : Problem) → Valid p → HoldsProblem p (stored p)
+stored-holds-problem p v =
+    rw (problem-in-stored p (v .level-count .at-most) (v .task-count)) at (sound-holds-problem (stored p) (stored-is-sound p v))

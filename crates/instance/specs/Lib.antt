@@ -1,4 +1,8 @@
 pub mod Refusals
+pub mod RefusalNumbers
+pub mod Endings
+pub mod EndingLaws
+pub mod RoomLaws
 pub mod Node
 pub mod SiteFile
 pub mod Outcomes
@@ -11,6 +15,7 @@ pub mod ReadLevels
 pub mod ReadTasks
 pub mod SiteFileLaws
 pub mod SiteFileRefusals
+pub mod OutcomeLaws
 pub mod Sections
 pub mod Levels
 pub mod Tasks

@@ -1,7 +1,7 @@
 -- The paper's section 'Refused input': the number of each refusal, and the place returned with it.
 use Prim.Native.Nat.{ℕ}
 use mathlib.Core.Bool.{cond}
-use mathlib.Core.List.{List}
+use mathlib.Core.List.{List, [], _∷_}
 use lib.Dec.{leb}
 use lib.ListN.{length}
 use Rattle.instance.specs.declared.Refusal.{Refusal}
@@ -42,6 +42,25 @@ placeOf (GivenPlan place) = place
 placeOf (CoreOverloaded place) = place
 placeOf (GivenTable place) = place
 placeOf (JobSlots place) = place
+
+-- every case of a refusal, with one place for all that have one
+abbrev pub refusalsAt : ℕ → List Refusal
+refusalsAt place =
+    Text place ∷ WordCount place ∷ WordRange place ∷ SpanTooLong place ∷ NoPlan
+    ∷ ShortBuffer place ∷ GivenPlan place ∷ CoreOverloaded place ∷ GivenTable place ∷ JobSlots place ∷ []
+
+-- the columns "Returned" and "Place returned with it"
+pub record Answer : Type 0 where
+  pub number : ℕ
+  pub place : ℕ
+
+abbrev pub answer : ℕ → ℕ → Answer
+answer number place = record { number = number; place = place }
+
+-- what a verdict returns: 0 and 0 where nothing is refused
+abbrev pub answerOf : Verdict → Answer
+answerOf Accepted = answer 0 0
+answerOf (Refused r) = answer (numberOf r) (placeOf r)
 
 -- tests in a row: the first refusal is the one returned
 infixr 25 _andThen_

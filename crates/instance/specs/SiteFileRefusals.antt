@@ -1,14 +1,17 @@
 -- Reading words refuses with 2, 3 or 4 and with no other number, at a place among the words or just after them.
 use Prim.Native.Nat.{ℕ, zero, suc, _+_, _≤_}
-use mathlib.Core.Path.{_≡_}
+use mathlib.Core.Path.{_≡_, refl}
 use mathlib.Core.Bool.{Bool, true, false, cond}
-use mathlib.Core.List.{List, [], _∷_}
+use mathlib.Core.List.{List, [], _∷_, List·Memᴰ, List·Memᴰ·head, List·Memᴰ·tail}
+use mathlib.Core.Logic.{⊎-elim}
+use native.Mathlib.Nat.{eq-or-lt-of-le}
 use native.Mathlib.Omega.{arith}
 use lib.Dec.{leb}
 use lib.ListN.{length}
 use Rattle.laws.specs.Multiples.{lcm}
 use Rattle.ranges.specs.Limits
 use Rattle.instance.specs.Node.{Problem}
+use Rattle.instance.specs.RefusalNumbers.{UnreadOnly, read, unread}
 use Rattle.instance.specs.Refusals.{Reading, numberOf, placeOf}
 use Rattle.instance.specs.SiteFile.{Taken, taken, refused, Take, continue, word, end, settings, levels, period, tasks, siteFile, readingOf, problemOf}
 use Rattle.instance.specs.Valid.{InRange}
@@ -94,6 +97,20 @@ reading-refusal words {r} = go (siteFile-answers 0 words (omega arith))
     go (refuses r′ h) e = let same : r′ ≡ r = cc in rw same at h
     go (takes p at rest after) e = let z : _≡_ {A = ℕ} 0 1 = cc in absurd (omega arith)
 
-pub refused-with-2-3-or-4 : (words : List ℕ) {r : Refusal} →
-    problemOf words ≡ Reading.refused r → InRange 2 4 (numberOf r)
-refused-with-2-3-or-4 words e = reading-refusal words e .number
+two-to-four : {n : ℕ} → InRange 2 4 n → List·Memᴰ n (2 ∷ 3 ∷ 4 ∷ [])
+two-to-four range =
+    ⊎-elim
+    (λ e. List·Memᴰ·tail (List·Memᴰ·tail (List·Memᴰ·head e)))
+    (λ below.
+    ⊎-elim
+    (λ e. List·Memᴰ·tail (List·Memᴰ·head (omega arith)))
+    (λ lower. List·Memᴰ·head (omega arith))
+    (eq-or-lt-of-le below))
+    (eq-or-lt-of-le (range .at-most))
+
+pub reading-refuses-2-3-4 : (words : List ℕ) → UnreadOnly (2 ∷ 3 ∷ 4 ∷ []) (problemOf words)
+reading-refuses-2-3-4 words = go (problemOf words) refl
+  where
+    go : (reading : Reading Problem) → problemOf words ≡ reading → UnreadOnly (2 ∷ 3 ∷ 4 ∷ []) reading
+    go (Reading.accepted p) e = read p
+    go (Reading.refused r) e = unread (two-to-four (reading-refusal words e .number))

@@ -12,7 +12,7 @@ use crate::word::Pair;
 use crate::word::pair_at;
 ghost use mathlib.Core.Path.{_≡_};
 ghost use lib.ListN.{drop};
-ghost use Rattle.instance.specs.Outcomes.{instanceOutcome};
+ghost use Rattle.instance.specs.Outcomes.{instanceOutcome, ReadingEnds};
 ghost use Rattle.instance.specs.SiteFile.{refused};
 ghost use Rattle.instance.specs.SiteRead.{afterSettings, instanceRead};
 
@@ -76,6 +76,7 @@ fn after_settings(words: &[u32], at: usize, weights: Weights, cores: u32) -> Ins
 // The instance that the words are, or why they are none: the settings are two pairs of words.
 pub fn read_instance(words: &[u32]) -> InstanceRead
     ensures { λ r. ⌜ r ≡ instanceOutcome (now (words .entry)) ⌝ }
+    ensures promise { λ r. ⌜ ReadingEnds (now (words .entry)) (r .verdict) ⌝ }
 {
     match pair_at(
         words,

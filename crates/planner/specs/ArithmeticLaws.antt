@@ -13,6 +13,7 @@ use Rattle.laws.specs.Lists.{onto}
 use Rattle.laws.specs.Sums.{sum}
 use Rattle.instance.specs.Node.{Problem, taskCount, levelAt, taskAt}
 use Rattle.instance.specs.Refusals.{accepted, room}
+use Rattle.instance.specs.RoomLaws.{enough-room}
 use Rattle.instance.specs.SiteFile.{problemOf}
 use Rattle.instance.specs.declared.Verdict.the-variants.{Accepted}
 use Rattle.schedule.specs.CheckLaws.{choices-pass}
@@ -27,7 +28,6 @@ use Rattle.planner.specs.CostLaws.{energy-of-kept-tasks}
 use Rattle.planner.specs.Outcomes.{planAnswered, planOutcome}
 use Rattle.planner.specs.PlannedLaws.{where-room}
 use Rattle.planner.specs.Planning.{bestPlan}
-use Rattle.planner.specs.RoomLaws.{enough-room}
 
 -- the least number of ticks in which the cycles are done
 pub ticks-round-up : (cycles speed n : ℕ) → 0 < speed → (ticks cycles speed ≤ n) ↔ (cycles ≤ n * speed)

@@ -1,8 +1,9 @@
--- Demands 1 to 3, each in its own words above the theorem that meets it. What the theorems speak of is defined in document
--- 01's own words in the crates below, and in `Endings` and `Planned`.
+-- Demands 1 to 3: above each theorem stands the demand that it meets, in our words. What documents 00 and 01 say stands in
+-- quotation marks. What the theorems speak of is defined in document 01's words in the crates below, and in `Endings` and
+-- `Planned`.
 use Prim.Native.Nat.{ℕ, _+_, _*_, _≤_, _<_, _∣_}
 use mathlib.Core.Bool.{cond}
-use mathlib.Core.List.{List, [], _∷_}
+use mathlib.Core.List.{List, [], _∷_, map, List·Memᴰ}
 use mathlib.Core.Logic.{_↔_}
 use mathlib.Core.Option.{none, some}
 use mathlib.Core.Path.{_≡_}
@@ -11,23 +12,30 @@ use Rattle.laws.specs.Lists.{onto}
 use Rattle.laws.specs.Sums.{sum}
 use Rattle.text.specs.Decimal.{spelled}
 use Rattle.ranges.specs.Limits.{mostTextBytes}
+use Rattle.instance.specs.Held.{HoldsProblem}
 use Rattle.instance.specs.Node.{Problem, levelCount, taskCount, levelAt, taskAt, span}
-use Rattle.instance.specs.Outcomes.{instanceOutcome}
-use Rattle.text.specs.Outcomes.{wordsOutcome}
-use Rattle.instance.specs.Refusals.{accepted, room, _andThen_}
+use Rattle.instance.specs.OutcomeLaws.{reading-ends, instance-is-handed-over}
+use Rattle.instance.specs.Outcomes.{instanceOutcome, ReadingEnds}
+use Rattle.instance.specs.RefusalNumbers.{numbers-and-places, every-refusal-is-listed}
+use Rattle.text.specs.OutcomeLaws.{text-ends, words-are-handed-over}
+use Rattle.text.specs.Outcomes.{wordsOutcome, TextEnds}
+use Rattle.instance.specs.Refusals.{accepted, placeOf, refusalsAt, answer, answerOf}
 use Rattle.instance.specs.SiteFile.{problemOf}
 use Rattle.instance.specs.SiteFileLaws.{accepted-is-valid, accepted-is-written, valid-is-accepted}
 use Rattle.instance.specs.SpanLaws.{period-divides-span, span-divides-common-multiple}
 use Rattle.text.specs.SpelledLaws.{AllWords, spelled-is-read-back}
 use Rattle.text.specs.Text.{wordsOf}
 use Rattle.instance.specs.Valid.{Valid, wordsOfProblem}
-use Rattle.instance.specs.declared.Verdict.the-variants.{Accepted}
+use Rattle.instance.specs.declared.Refusal.{Refusal}
+use Rattle.instance.specs.declared.Refusal.the-variants.{Text, WordCount, WordRange, SpanTooLong, NoPlan, ShortBuffer, GivenPlan, CoreOverloaded, GivenTable, JobSlots}
+use Rattle.instance.specs.declared.Verdict.the-variants.{Accepted, Refused}
+use Rattle.text.specs.declared.TextRead.the-variants as TextRead
 use Rattle.schedule.specs.CheckTheorem.{check-accepts-exactly-drawings, check-accepts-exactly-drawn-tables}
-use Rattle.schedule.specs.Checks.{slotsPass, jobsPass}
 use Rattle.schedule.specs.Drawings.{DrawnTable, Drawing}
-use Rattle.schedule.specs.Outcomes.{priceOutcome, tableOutcome, checkOutcome}
+use Rattle.schedule.specs.EndingLaws.{pricing-ends, tabling-ends, checking-ends}
+use Rattle.schedule.specs.Outcomes.{priceOutcome, tableOutcome, checkOutcome, PricingEnds, TablingEnds, CheckingEnds}
 use Rattle.schedule.specs.Periods.{valid-is-periodic}
-use Rattle.schedule.specs.Plans.{choicesPass, coresFit, planPasses}
+use Rattle.schedule.specs.Plans.{choicesPass, planPasses}
 use Rattle.schedule.specs.Quantities.{isRefused, levelOf, ticks, jobTicks, jobs, priceOf}
 use Rattle.schedule.specs.Tables.{tableOf, tableSize}
 use Rattle.schedule.specs.WorkedOut.{WorkedOut}
@@ -35,71 +43,59 @@ use Rattle.schedule.specs.WorkedOutLaws.{worked-out-is-table}
 use Rattle.schedule.specs.declared.prices.Priced.the-variants as Priced
 use Rattle.planner.specs.ArithmeticLaws.{ticks-round-up, priced-energy, priced-penalty, priced-cost, passing-plan-is-priced, passing-plan-is-tabled, checked-as-defined, best-plan-is-written}
 use Rattle.planner.specs.BestDrawingLaws.{no-plan-iff-no-drawing, answered-is-best-drawing}
-use Rattle.planner.specs.EndingLaws.{text-ends, reading-ends, pricing-ends, tabling-ends, checking-ends, planning-ends}
-use Rattle.planner.specs.Endings.{lent, Ends, readThen, planFound, neededFor, textVerdict, priceVerdict}
+use Rattle.planner.specs.EndingLaws.{planning-ends}
+use Rattle.planner.specs.Endings.{PlanningEnds}
 use Rattle.planner.specs.Outcomes.{planOutcome}
 use Rattle.planner.specs.Planned.{NoDrawing, BestDrawing, Optimal}
 use Rattle.planner.specs.PlannedLaws.{planOutcome-is-planned}
 use Rattle.planner.specs.Planning.{bestPlan}
 
--- Demand 1. "Every input has an end. Any text, words, plan or table is either served or refused with exactly the refusal
--- and place that document 01 names; after a refusal every lent buffer is as before."
+-- Demand 1. Every call comes to an end, whatever text, words, plan or table it is given. It does its work, or it returns the
+-- number and the place of the refusal that document 01 has for that input, and then every buffer lent to it is as before.
 --
--- Each call, whatever it is given, has the verdict of document 01's tests in their order: it is served, or refused with one
--- of the numbers that document 01 lists for it.
+-- Each call has the verdict of document 01's tests in their order: it returns one of the numbers that document 01 lists for it,
+-- or 0.
 pub record RefusalsExact : Type 0 where
+  -- 'Refused input', row by row: "Returned" and "Place returned with it" of every refusal
+  pub numbers-and-places : (place : ℕ) →
+      map (λ (r : Refusal). answerOf (Refused r))
+      (Text place ∷ WordCount place ∷ WordRange place ∷ SpanTooLong place ∷ NoPlan
+      ∷ ShortBuffer place ∷ GivenPlan place ∷ CoreOverloaded place ∷ GivenTable place ∷ JobSlots place ∷ [])
+      ≡ answer 1 place ∷ answer 2 place ∷ answer 3 place ∷ answer 4 place ∷ answer 5 0
+      ∷ answer 6 place ∷ answer 7 place ∷ answer 8 place ∷ answer 9 place ∷ answer 10 place ∷ []
+  pub no-other-refusals : (r : Refusal) → List·Memᴰ r (refusalsAt (placeOf r))
   -- "Turning text into words: 1, then 6."
-  pub text : (text words : List ℕ) →
-      let o = wordsOutcome text words in
-      Ends
-      (readThen (wordsOf text) (λ ws. room (length ws) words))
-      (1 ∷ 6 ∷ [])
-      (lent (neededFor length (wordsOf text)) words (o .words) ∷ [])
-      (textVerdict (o .answer))
+  pub text : (text words : List ℕ) → let o = wordsOutcome text words in TextEnds text words (o .answer) (o .words)
   -- "words are taken from the front, each tested for 2, 3, 4"
-  pub reading : (words : List ℕ) →
-      Ends (readThen (problemOf words) (λ p. Accepted)) (2 ∷ 3 ∷ 4 ∷ []) [] (instanceOutcome words .verdict)
-  -- "Pricing and tabling test 7 and 8."
-  pub pricing : (words plan : List ℕ) →
-      Ends
-      (readThen (problemOf words) (λ p. choicesPass p plan andThen coresFit p plan))
-      (2 ∷ 3 ∷ 4 ∷ 7 ∷ 8 ∷ [])
-      []
-      (priceVerdict (priceOutcome words plan))
-  -- "then 6; then 7 (length before choices); then 8"
+  pub reading : (words : List ℕ) → ReadingEnds words (instanceOutcome words .verdict)
+  -- 2, 3, 4, and: "Pricing and tabling test 7 and 8."
+  pub pricing : (words plan : List ℕ) → PricingEnds words plan (priceOutcome words plan)
+  -- 2, 3, 4; "then 6; then 7 (length before choices); then 8"
   pub tabling : (words plan table : List ℕ) →
-      let o = tableOutcome words plan table in
-      Ends
-      (readThen (problemOf words) (λ p. room (tableSize p) table andThen choicesPass p plan andThen coresFit p plan))
-      (2 ∷ 3 ∷ 4 ∷ 6 ∷ 7 ∷ 8 ∷ [])
-      (lent (neededFor tableSize (problemOf words)) table (o .table) ∷ [])
-      (o .answer)
-  -- "The check tests 7, 9 (length before slots), 10, and not 8."
-  pub checking : (words plan table : List ℕ) →
-      Ends
-      (readThen (problemOf words) (λ p. choicesPass p plan andThen slotsPass p plan table andThen jobsPass p plan table))
-      (2 ∷ 3 ∷ 4 ∷ 7 ∷ 9 ∷ 10 ∷ [])
-      []
-      (checkOutcome words plan table)
-  -- "of several short ones, the plan's before the table's .. 5 comes last"
+      let o = tableOutcome words plan table in TablingEnds words plan table (o .answer) (o .table)
+  -- 2, 3, 4, and: "The check tests 7, 9 (length before slots), 10, and not 8."
+  pub checking : (words plan table : List ℕ) → CheckingEnds words plan table (checkOutcome words plan table)
+  -- 2, 3, 4; then 6, "of several short ones, the plan's before the table's"; "5 comes last"
   pub planning : (words plan table : List ℕ) →
-      let o = planOutcome words plan table in
-      let reading = problemOf words in
-      Ends
-      (readThen reading (λ p. (room (taskCount p) plan andThen room (tableSize p) table) andThen planFound (bestPlan p)))
-      (2 ∷ 3 ∷ 4 ∷ 6 ∷ 5 ∷ [])
-      (lent (neededFor taskCount reading) plan (o .plan) ∷ lent (neededFor tableSize reading) table (o .table) ∷ [])
-      (priceVerdict (o .answer))
+      let o = planOutcome words plan table in PlanningEnds words plan table (o .answer) (o .plan) (o .table)
   -- none is turned down without need: words written out in base ten are taken from the text as they are, ..
   pub written-words-are-taken : (words : List ℕ) → AllWords words → length (spelled words) ≤ mostTextBytes →
       wordsOf (spelled words) ≡ accepted words
   -- .. and the words that are read are those of the instances within document 01's ranges
   pub valid-instances-are-read : (p : Problem) → Valid p → problemOf (wordsOfProblem p) ≡ accepted p
   pub no-others-are-read : (words : List ℕ) (p : Problem) → problemOf words ≡ accepted p → Valid p × (words ≡ wordsOfProblem p)
+  -- what was read is handed over: the words of the text at the buffer's front, with their count, ..
+  pub words-handed-over : (text words buffer : List ℕ) → wordsOf text ≡ accepted words → length words ≤ length buffer →
+      wordsOutcome text buffer ≡ record { answer = TextRead.Words (length words); words = onto words buffer }
+  -- .. and the instance that the words are
+  pub instance-handed-over : (words : List ℕ) (p : Problem) → problemOf words ≡ accepted p →
+      let o = instanceOutcome words in (o .verdict ≡ Accepted) × HoldsProblem p (o .instance)
 
 pub demand-1 : RefusalsExact
 demand-1 =
     record {
+      numbers-and-places = numbers-and-places;
+      no-other-refusals = every-refusal-is-listed;
       text = text-ends;
       reading = reading-ends;
       pricing = pricing-ends;
@@ -109,11 +105,13 @@ demand-1 =
       written-words-are-taken = spelled-is-read-back;
       valid-instances-are-read = λ p. valid-is-accepted;
       no-others-are-read = λ words p read. (accepted-is-valid words read, accepted-is-written words read);
+      words-handed-over = words-are-handed-over;
+      instance-handed-over = instance-is-handed-over;
     }
 
--- Demand 2. "The arithmetic is the papers'. Ticks, span, price and slot table are document 01's; the check passes exactly the
--- tables in which each job of a kept task has its ticks between release and deadline on its core and every other slot is
--- idle."
+-- Demand 2. Ticks, span, price and slot table are those of document 01, in whole ticks; and of a plan that 7 lets pass, the
+-- check passes exactly the tables in which each job of a kept task has exactly its ticks between release and deadline on its
+-- core and every other slot is idle.
 pub record QuantitiesExact (words : List ℕ) (p : Problem) : Type 0 where
   -- "c divided by s, rounded up"
   pub ticks-rounded-up : (i l n : ℕ) → i < taskCount p → l < levelCount p →
@@ -164,9 +162,9 @@ demand-2 words p read =
           (check-accepts-exactly-drawn-tables p (valid-is-periodic valid) plan table passes);
     }
 
--- Demand 3. "Nobody beats the plan. For every instance read without refusal: "no plan" exactly when no drawing exists;
--- otherwise the plan with its table is a drawing, its cost is the one returned, and every drawing by anyone costs at least as
--- much; and the table repeated for ever serves every job."
+-- Demand 3. Of every instance that is read without refusal: there is "no plan" exactly where there is no drawing for it.
+-- Elsewhere the plan with its table is a drawing, the cost returned is that plan's, nobody's drawing costs less, and the table
+-- repeated without end gives every job of a kept task exactly its ticks in time.
 pub record PlanningOptimal (words : List ℕ) (p : Problem) : Type 0 where
   pub no-plan : (bestPlan p ≡ none) ↔ NoDrawing p
   pub otherwise : (plan : List ℕ) → bestPlan p ≡ some plan → BestDrawing p plan (tableOf p plan)

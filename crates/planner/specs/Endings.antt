@@ -1,70 +1,30 @@
--- How a call ends, as demand 1 has it: served, or refused. "Every refusal leaves all lent buffers unchanged. An accepted
--- call writes only the words or bytes its result needs, from the front of each buffer."
+-- How planning ends, as demand 1 has it.
 use Prim.Native.Nat.{ℕ}
-use mathlib.Core.List.{List, [], _∷_, List·Memᴰ}
+use mathlib.Core.List.{List, [], _∷_}
 use mathlib.Core.Option.{Option, none, some}
-use mathlib.Core.Path.{_≡_}
-use lib.ListN.{length, drop}
-use Rattle.instance.specs.Refusals.{Reading, numberOf}
-use Rattle.instance.specs.declared.Refusal.{Refusal}
+use Rattle.instance.specs.Endings.{lent, Ends, readThen, neededFor}
+use Rattle.instance.specs.Node.{taskCount}
+use Rattle.instance.specs.Refusals.{room, _andThen_}
+use Rattle.instance.specs.SiteFile.{problemOf}
 use Rattle.instance.specs.declared.Refusal.the-variants.{NoPlan}
-use Rattle.text.specs.declared.TextRead.{TextRead}
-use Rattle.text.specs.declared.TextRead.the-variants as TextRead
 use Rattle.instance.specs.declared.Verdict.{Verdict}
 use Rattle.instance.specs.declared.Verdict.the-variants.{Accepted, Refused}
+use Rattle.schedule.specs.Outcomes.{priceVerdict}
+use Rattle.schedule.specs.Tables.{tableSize}
 use Rattle.schedule.specs.declared.prices.Priced.{Priced}
-use Rattle.schedule.specs.declared.prices.Priced.the-variants as Priced
-
--- a lent buffer: how many of its elements the result needs, and what it holds before and after the call
-pub record Lent : Type 0 where
-  pub needs : ℕ
-  pub before : List ℕ
-  pub after : List ℕ
-
-pub record Unchanged (b : Lent) : Type 0 where
-  pub as-before : b .after ≡ b .before
-
-pub record FrontWritten (b : Lent) : Type 0 where
-  pub same-length : length (b .after) ≡ length (b .before)
-  pub rest-as-before : drop (b .needs) (b .after) ≡ drop (b .needs) (b .before)
-
-abbrev pub lent : ℕ → List ℕ → List ℕ → Lent
-lent needs before after = record { needs = needs; before = before; after = after }
-
--- P holds of every lent buffer
-abbrev pub Every : (Lent → Type 0) → List Lent → Type 0
-Every P [] = Unit {0}
-Every P (b ∷ buffers) = P b × Every P buffers
-
--- "either served or refused", with one of these numbers
-pub data ServedOrRefused (numbers : List ℕ) (buffers : List Lent) : Verdict → Type 0 where
-  served : Every FrontWritten buffers → ServedOrRefused numbers buffers Accepted
-  refused : {r : Refusal} → List·Memᴰ (numberOf r) numbers → Every Unchanged buffers → ServedOrRefused numbers buffers (Refused r)
-
--- a call for which document 01 has these tests in this order, and lists these numbers: its verdict is theirs
-pub record Ends (tests : Verdict) (numbers : List ℕ) (buffers : List Lent) (verdict : Verdict) : Type 0 where
-  pub as-tested : verdict ≡ tests
-  pub ending : ServedOrRefused numbers buffers verdict
-
--- what is tested once the input was read
-abbrev pub readThen : {A : Type 0} → Reading A → (A → Verdict) → Verdict
-readThen (Reading.refused r) tests = Refused r
-readThen (Reading.accepted a) tests = tests a
+use Rattle.planner.specs.Planning.{bestPlan}
 
 -- 5: "no plan keeps every task that may not be refused with all cores fitting"
 abbrev pub planFound : Option (List ℕ) → Verdict
 planFound none = Refused NoPlan
 planFound (some plan) = Accepted
 
--- what a result needs of a buffer, where the input was read
-abbrev pub neededFor : {A : Type 0} → (A → ℕ) → Reading A → ℕ
-neededFor size (Reading.refused r) = 0
-neededFor size (Reading.accepted a) = size a
-
-abbrev pub textVerdict : TextRead → Verdict
-textVerdict (TextRead.Words n) = Accepted
-textVerdict (TextRead.Refused r) = Refused r
-
-abbrev pub priceVerdict : Priced → Verdict
-priceVerdict (Priced.Cost price) = Accepted
-priceVerdict (Priced.Refused r) = Refused r
+-- "of several short ones, the plan's before the table's .. 5 comes last"
+abbrev pub PlanningEnds : List ℕ → List ℕ → List ℕ → Priced → List ℕ → List ℕ → Type 0
+PlanningEnds words plan table answer planAfter tableAfter =
+    let reading = problemOf words in
+    Ends
+    (readThen reading (λ p. (room (taskCount p) plan andThen room (tableSize p) table) andThen planFound (bestPlan p)))
+    (2 ∷ 3 ∷ 4 ∷ 6 ∷ 5 ∷ [])
+    (lent (neededFor taskCount reading) plan planAfter ∷ lent (neededFor tableSize reading) table tableAfter ∷ [])
+    (priceVerdict answer)

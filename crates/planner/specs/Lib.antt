@@ -10,8 +10,6 @@ pub mod CheapestLaws
 pub mod BestPlanLaws
 pub mod OptionsBounds
 pub mod Endings
-pub mod RefusalNumbers
-pub mod RoomLaws
 pub mod EndingLaws
 pub mod Planned
 pub mod BestDrawingLaws

@@ -8,6 +8,7 @@ use lib.ListN.{length, take}
 use Rattle.instance.specs.Held.{problemIn, held-taskcount}
 use Rattle.instance.specs.Node.{taskCount}
 use Rattle.instance.specs.Refusals.{refused, room}
+use Rattle.instance.specs.RoomLaws.{enough-room, no-room, front-of-onto}
 use Rattle.instance.specs.SiteFile.{problemOf}
 use Rattle.instance.specs.declared.Instance.{Instance}
 use Rattle.instance.specs.declared.Refusal.the-variants as Refusal
@@ -28,7 +29,6 @@ use Rattle.planner.specs.Outcomes.{PlanOutcome, planRefused, planAnswere
 use Rattle.planner.specs.Planned.{Planned}
 use Rattle.planner.specs.PlannedLaws.{of-reading, where-room, planOutcome-is-planned}
 use Rattle.planner.specs.Planning.{bestPlan}
-use Rattle.planner.specs.RoomLaws.{enough-room, no-room, front-of-onto}
 
 abbrev pub planGiven : Priced → List ℕ → List ℕ → PlanOutcome
 planGiven answer plan table = record { answer = answer; plan = plan; table = table }

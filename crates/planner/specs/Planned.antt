@@ -19,36 +19,40 @@ use Rattle.schedule.specs.Tables.{tableOf, tableSize}
 use Rattle.schedule.specs.declared.prices.Priced.{Priced}
 use Rattle.schedule.specs.declared.prices.Priced.the-variants as Priced
 use Rattle.assignment.specs.Assignment.{Before}
+use Rattle.planner.specs.Endings.{PlanningEnds}
 
--- "no drawing exists"
+-- "no drawing for that instance exists"
 abbrev pub NoDrawing : Problem → Type 0
 NoDrawing p = (plan table : List ℕ) → Drawing p plan table → ⊥
 
 pub record BestDrawing (p : Problem) (plan table : List ℕ) : Type 0 where
-  -- "the plan with its table is a drawing"
+  -- "a plan that with its table is itself a drawing"
   pub is-drawing : Drawing p plan table
   -- "These are the choices and tables that pass the check."
   pub passes-check : check p plan table ≡ Accepted
-  -- "every drawing by anyone costs at least as much"
+  -- "every other drawing for that instance, whatever its choices and whatever its table, costs at least as much"
   pub no-drawing-cheaper : (other slots : List ℕ) → Drawing p other slots → cost p plan ≤ cost p other
   -- "among equal costs the one whose first differing choice, in task order, is smaller"
   pub first-of-equals : (other slots : List ℕ) → Drawing p other slots → cost p plan ≡ cost p other →
       (plan ≡ other) ⊎ Before plan other
   -- "Planning writes that plan and its table"
   pub its-table : table ≡ tableOf p plan
-  -- "the table repeated for ever serves every job"
+  -- "repeated span after span without end, gives every job of a kept task, however late its release, exactly its ticks on its
+  -- core between release and deadline"
   pub for-ever : ServesForEver p plan table
 
 -- Demand 3 of an answer, and of the plan and the table that were written with it
 pub record Optimal (p : Problem) (answer : Priced) (plan table : List ℕ) : Type 0 where
-  -- "no plan" exactly when no drawing exists
+  -- "no plan" exactly where there is no drawing
   pub no-plan : (answer ≡ Priced.Refused NoPlan) ↔ NoDrawing p
-  -- "otherwise .. its cost is the one returned", with energy and penalty
+  -- "the cost it returns is that plan's cost", with energy and penalty
   pub otherwise : (answer ≡ Priced.Refused NoPlan → ⊥) →
       (answer ≡ Priced.Cost (priceOf p plan)) × BestDrawing p plan table
 
 -- `plan` and `table` are what the lent buffers held before the call.
 pub record Planned (words plan table : List ℕ) (answer : Priced) (planAfter tableAfter : List ℕ) : Type 0 where
+  -- "of several short ones, the plan's before the table's .. 5 comes last"
+  pub ends : PlanningEnds words plan table answer planAfter tableAfter
   -- "words are taken from the front, each tested for 2, 3, 4"
   pub not-read : (r : Refusal) → problemOf words ≡ refused r → answer ≡ Priced.Refused r
   -- "then 6 .. of several short ones, the plan's before the table's"

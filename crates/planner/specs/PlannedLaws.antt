@@ -1,19 +1,22 @@
 -- The outcome of planning keeps every promise of `Planned`.
 use Prim.Native.Nat.{ℕ}
-use mathlib.Core.List.{List, [], _∷_}
+use mathlib.Core.List.{List}
 use mathlib.Core.Logic.{_↔_, Iff·trans}
 use mathlib.Core.Option.{Option, none, some}
 use mathlib.Core.Path.{_≡_, refl, ap, _∙_}
 use native.Mathlib.Omega.{arith}
-use lib.ListN.{length, take, drop}
+use lib.ListN.{take}
+use Rattle.instance.specs.EndingLaws.{refused-leaves, front-at-most}
 use Rattle.instance.specs.Node.{Problem, taskCount}
 use Rattle.instance.specs.Refusals.{refused, accepted, room, _andThen_}
+use Rattle.instance.specs.RoomLaws.{enough-room, no-room, front-of-onto}
 use Rattle.instance.specs.SiteFile.{problemOf}
 use Rattle.instance.specs.SiteFileLaws.{accepted-is-valid}
 use Rattle.instance.specs.declared.Refusal.{Refusal}
 use Rattle.instance.specs.declared.Refusal.the-variants.{NoPlan, ShortBuffer}
 use Rattle.instance.specs.declared.Verdict.{Verdict}
 use Rattle.instance.specs.declared.Verdict.the-variants.{Accepted, Refused}
+use Rattle.schedule.specs.Outcomes.{priceVerdict}
 use Rattle.schedule.specs.Periods.{Periodic, valid-is-periodic}
 use Rattle.schedule.specs.Quantities.{priceOf}
 use Rattle.schedule.specs.TableLaws.{length-tableOf}
@@ -22,31 +25,9 @@ use Rattle.schedule.specs.declared.prices.Priced.{Priced}
 use Rattle.schedule.specs.declared.prices.Priced.the-variants as Priced
 use Rattle.planner.specs.BestDrawingLaws.{no-plan-iff-no-drawing, answered-is-best-drawing}
 use Rattle.planner.specs.EndingLaws.{best-plan-length, planning-ends}
-use Rattle.planner.specs.Endings.{Lent, Unchanged, FrontWritten, Every, ServedOrRefused, priceVerdict}
 use Rattle.planner.specs.Outcomes.{PlanOutcome, planAnswered, planWhere, planOutcomeOf, planOutcome}
 use Rattle.planner.specs.Planned.{BestDrawing, Optimal, Planned}
 use Rattle.planner.specs.Planning.{bestPlan}
-use Rattle.planner.specs.RoomLaws.{enough-room, no-room, front-of-onto}
-
-refused-leaves : {numbers : List ℕ} {buffers : List Lent} {v : Verdict} {r : Refusal} →
-    ServedOrRefused numbers buffers v → v ≡ Refused r → Every Unchanged buffers
-refused-leaves (ServedOrRefused.served written) e = let z : _≡_ {A = ℕ} 0 1 = cc in absurd (omega arith)
-refused-leaves (ServedOrRefused.refused listed same) e = same
-
-unchanged-is-front-written : (buffers : List Lent) → Every Unchanged buffers → Every FrontWritten buffers
-unchanged-is-front-written [] same = tt
-unchanged-is-front-written (b ∷ buffers) same = (
-  record {
-    same-length = ap length (same .0 .as-before);
-    rest-as-before = ap (λ (xs : List ℕ). drop (b .needs) xs) (same .0 .as-before);
-  },
-  unchanged-is-front-written buffers (same .1),
-)
-
--- in either case
-front-at-most : {numbers : List ℕ} {buffers : List Lent} {v : Verdict} → ServedOrRefused numbers buffers v → Every FrontWritten buffers
-front-at-most (ServedOrRefused.served written) = written
-front-at-most {buffers = buffers} (ServedOrRefused.refused listed same) = unchanged-is-front-written buffers same
 
 -- the answer is "no plan" exactly when there is no best plan
 answers-no-plan : (p : Problem) (best : Option (List ℕ)) (plan table : List ℕ) →
@@ -92,9 +73,10 @@ module _ (words plan table : List ℕ) where
   pub planOutcome-is-planned :
       let o = planOutcome words plan table in Planned words plan table (o .answer) (o .plan) (o .table)
   planOutcome-is-planned =
-      let ends = planning-ends words plan table .ending in
-      let fronts = front-at-most ends in
+      let ends = planning-ends words plan table in
+      let fronts = front-at-most (ends .ending) in
       record {
+        ends = ends;
         not-read = λ r e. ap (λ (o : PlanOutcome). o .answer) (of-reading e);
         plan-too-short = λ p read short.
             ap (λ (o : PlanOutcome). o .answer) (where-room p read (Refused (ShortBuffer (taskCount p))) (rw (no-room (taskCount p) plan short)));
@@ -105,7 +87,7 @@ module _ (words plan table : List ℕ) where
             rw (where-room p read Accepted (rw (enough-room (taskCount p) plan enough, enough-room (tableSize p) table enough-too)))
             (answered-is-optimal p (valid-is-periodic (accepted-is-valid words read)) plan table);
         refused-unchanged = λ r e.
-            let same = refused-leaves ends (ap priceVerdict e) in (same .0 .as-before, same .1 .0 .as-before);
+            let same = refused-leaves (ends .ending) (ap priceVerdict e) in (same .0 .as-before, same .1 .0 .as-before);
         rest-unchanged = λ p read. (rw read at (fronts .0 .rest-as-before), rw read at (fronts .1 .0 .rest-as-before));
         same-lengths = (fronts .0 .same-length, fronts .1 .0 .same-length);
       }

@@ -24,8 +24,8 @@ pub check-accepts-exactly-drawings : (p : Problem) → Periodic p → (plan tabl
 check-accepts-exactly-drawings p periodic plan table =
     Iff·trans (check-accepts p periodic plan table) (drawing-of-parts p plan table periodic, parts-of-drawing p plan table)
 
--- "the check passes exactly the tables in which each job of a kept task has its ticks between release and deadline on its
--- core and every other slot is idle", for a plan that is not refused under 7
+-- "for a plan that 01 does not refuse under 7, the check passes exactly those tables in which each job of a kept task has
+-- exactly its ticks between release and deadline on its core, and every other slot is idle"
 pub check-accepts-exactly-drawn-tables : (p : Problem) → Periodic p → (plan table : List ℕ) →
     choicesPass p plan ≡ Accepted → (check p plan table ≡ Accepted) ↔ DrawnTable p plan table
 check-accepts-exactly-drawn-tables p periodic plan table passes =

@@ -13,6 +13,8 @@ pub mod ServedRows
 pub mod ServedRowLaws
 pub mod CheckTheorem
 pub mod Outcomes
+pub mod RefusalLaws
+pub mod EndingLaws
 pub mod Demand
 pub mod JobsDueLaws
 pub mod OnTime

@@ -1,16 +1,17 @@
 -- The whole outcome of pricing, tabling and checking, for every list of words: the answer, and what the lent buffer holds
--- afterwards. "Order: words are taken from the front, each tested for 2, 3, 4; then 6; then 7 (length before choices);
+-- afterwards; and how each call ends. "Order: words are taken from the front, each tested for 2, 3, 4; then 6; then 7 (length before choices);
 -- then 8."
 use Prim.Native.Nat.{ℕ}
-use mathlib.Core.List.{List}
+use mathlib.Core.List.{List, [], _∷_}
 use Rattle.laws.specs.Lists.{onto}
+use Rattle.instance.specs.Endings.{lent, Ends, readThen, neededFor}
 use Rattle.instance.specs.Node.{Problem}
 use Rattle.instance.specs.Refusals.{Reading, refused, accepted, room, _andThen_}
 use Rattle.instance.specs.SiteFile.{problemOf}
 use Rattle.instance.specs.declared.Verdict.{Verdict}
 use Rattle.instance.specs.declared.Verdict.the-variants.{Accepted, Refused}
-use Rattle.schedule.specs.Checks.{check}
-use Rattle.schedule.specs.Plans.{planPasses}
+use Rattle.schedule.specs.Checks.{slotsPass, jobsPass, check}
+use Rattle.schedule.specs.Plans.{choicesPass, coresFit, planPasses}
 use Rattle.schedule.specs.Quantities.{priceOf}
 use Rattle.schedule.specs.Tables.{tableOf, tableSize}
 use Rattle.schedule.specs.declared.prices.Price.{Price}
@@ -51,3 +52,34 @@ checkOutcomeOf (accepted p) plan table = check p plan table
 
 unfoldable pub checkOutcome : List ℕ → List ℕ → List ℕ → Verdict
 checkOutcome words plan table = checkOutcomeOf (problemOf words) plan table
+
+abbrev pub priceVerdict : Priced → Verdict
+priceVerdict (Priced.Cost price) = Accepted
+priceVerdict (Priced.Refused r) = Refused r
+
+-- "Pricing and tabling test 7 and 8."
+abbrev pub PricingEnds : List ℕ → List ℕ → Priced → Type 0
+PricingEnds words plan answer =
+    Ends
+    (readThen (problemOf words) (λ p. choicesPass p plan andThen coresFit p plan))
+    (2 ∷ 3 ∷ 4 ∷ 7 ∷ 8 ∷ [])
+    []
+    (priceVerdict answer)
+
+-- "then 6; then 7 (length before choices); then 8"
+abbrev pub TablingEnds : List ℕ → List ℕ → List ℕ → Verdict → List ℕ → Type 0
+TablingEnds words plan buffer answer after =
+    Ends
+    (readThen (problemOf words) (λ p. room (tableSize p) buffer andThen choicesPass p plan andThen coresFit p plan))
+    (2 ∷ 3 ∷ 4 ∷ 6 ∷ 7 ∷ 8 ∷ [])
+    (lent (neededFor tableSize (problemOf words)) buffer after ∷ [])
+    answer
+
+-- "The check tests 7, 9 (length before slots), 10, and not 8."
+abbrev pub CheckingEnds : List ℕ → List ℕ → List ℕ → Verdict → Type 0
+CheckingEnds words plan table answer =
+    Ends
+    (readThen (problemOf words) (λ p. choicesPass p plan andThen slotsPass p plan table andThen jobsPass p plan table))
+    (2 ∷ 3 ∷ 4 ∷ 7 ∷ 9 ∷ 10 ∷ [])
+    []
+    answer

@@ -10,8 +10,9 @@ use Rattle.schedule.specs.Tables.{releaseOf, dueOf, slotAt}
 unfoldable pub shownAt : Problem → List ℕ → ℕ → ℕ → ℕ
 shownAt p table k t = slotAt p table k (t % span p)
 
--- "the table repeated for ever serves every job": each job of a kept task, however late, has exactly its ticks as slots
--- with the task's number in its core's row, from its release tick up to, but without, its due tick
+-- the table, "repeated span after span without end, gives every job of a kept task, however late its release, exactly its
+-- ticks on its core between release and deadline": as slots with the task's number in its core's row, from its release tick
+-- up to, but without, its due tick
 pub record ServesForEver (p : Problem) (plan table : List ℕ) : Type 0 where
   pub every-job : (i j : ℕ) → i < taskCount p → (choiceAt plan i ≡ 0 → ⊥) →
       ExactSlots (shownAt p table (coreOf p plan i)) (suc i) (releaseOf p i j) (dueOf p i j) (jobTicks p plan i)

@@ -20,7 +20,7 @@ ghost use Rattle.instance.specs.Held.{Sound, problemIn};
 ghost use Rattle.instance.specs.Node.{taskCount};
 ghost use Rattle.schedule.specs.Drawings.{AllowedPlan};
 ghost use Rattle.schedule.specs.Checks.{strayValue, slotsPass, isServed, jobsPass};
-ghost use Rattle.schedule.specs.Outcomes.{checkOutcome};
+ghost use Rattle.schedule.specs.Outcomes.{checkOutcome, CheckingEnds};
 ghost use Rattle.schedule.specs.HeldJobs.{jobsServed};
 ghost use Rattle.schedule.specs.Tables.{tableSize};
 
@@ -153,6 +153,7 @@ fn jobs_pass(inst: Instance, plan: &[u32], table: &[u8]) -> Verdict
 // no other slot is taken.
 pub fn check_table(instance: &[u32], plan: &[u32], table: &[u8]) -> Verdict
     ensures { λ r. ⌜ r ≡ checkOutcome (now (instance .entry)) (now (plan .entry)) (now (table .entry)) ⌝ }
+    ensures promise { λ r. ⌜ CheckingEnds (now (instance .entry)) (now (plan .entry)) (now (table .entry)) r ⌝ }
 {
     let read = read_instance(instance);
     let words = read.verdict;

@@ -5,11 +5,12 @@ use crate::prices::price_of;
 use instance::Verdict;
 use instance::read_instance;
 ghost use mathlib.Core.Path.{_≡_};
-ghost use Rattle.schedule.specs.Outcomes.{priceOutcome};
+ghost use Rattle.schedule.specs.Outcomes.{priceOutcome, PricingEnds};
 
 // What the plan costs; the words are tested first, then the plan.
 pub fn price(instance: &[u32], plan: &[u32]) -> Priced
     ensures { λ r. ⌜ r ≡ priceOutcome (now (instance .entry)) (now (plan .entry)) ⌝ }
+    ensures promise { λ r. ⌜ PricingEnds (now (instance .entry)) (now (plan .entry)) r ⌝ }
 {
     let read = read_instance(instance);
     let verdict = read.verdict;

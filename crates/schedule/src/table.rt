@@ -15,7 +15,7 @@ ghost use Rattle.laws.specs.Lists.{onto};
 ghost use Rattle.instance.specs.Held.{Sound, problemIn};
 ghost use Rattle.instance.specs.Node.{taskCount};
 ghost use Rattle.schedule.specs.HeldTables.{HeldCore};
-ghost use Rattle.schedule.specs.Outcomes.{tableOutcome};
+ghost use Rattle.schedule.specs.Outcomes.{tableOutcome, TablingEnds};
 ghost use Rattle.schedule.specs.Tables.{tableOf, tableSize};
 
 // What core k, counted from 0, knows of the tasks.
@@ -72,6 +72,7 @@ fn fill_table(inst: Instance, plan: &[u32], table: &mut [u8])
 pub fn tabulate(instance: &[u32], plan: &[u32], table: &mut [u8]) -> Verdict
     ensures { λ r. ⌜ r ≡ tableOutcome (now (instance .entry)) (now (plan .entry)) (now (table .entry)) .answer ⌝ }
     ensures { λ _. ⌜ now (table .exit) ≡ tableOutcome (now (instance .entry)) (now (plan .entry)) (now (table .entry)) .table ⌝ }
+    ensures promise { λ r. ⌜ TablingEnds (now (instance .entry)) (now (plan .entry)) (now (table .entry)) r (now (table .exit)) ⌝ }
 {
     let read = read_instance(instance);
     let words = read.verdict;

@@ -1,5 +1,6 @@
 pub mod Text
 pub mod Outcomes
+pub mod OutcomeLaws
 pub mod Tokens
 pub mod TextLaws
 pub mod TokenSteps

@@ -5,15 +5,16 @@ use mathlib.Core.Bool.{Bool, true, false, cond, not, _&&_}
 use mathlib.Core.List.{List, [], _∷_}
 use mathlib.Core.Path.{_≡_, refl, _∙_}
 use native.Mathlib.Omega.{arith}
-use borrow.Author.Tests.{ltb-false, le-leb}
+use borrow.Author.Tests.{ltb-false}
 use lib.Dec.{ltb}
 use lib.ListN.{length, take, length-take}
 use lib.Seq.{take-at}
 use Rattle.laws.specs.Lists.{onto}
 use Rattle.laws.specs.OntoLaws.{length-onto}
 use Rattle.ranges.specs.Limits.{mostTextBytes}
+use Rattle.text.specs.OutcomeLaws.{words-are-handed-over}
 use Rattle.text.specs.Outcomes.{wordsOutcome}
-use Rattle.instance.specs.Refusals.{Reading, refused, accepted, room}
+use Rattle.instance.specs.Refusals.{Reading, refused, accepted}
 use Rattle.text.specs.Text.{isDigit, value, begins, numbers, faulty, firstFault, wordsOf}
 use Rattle.text.specs.WordsLaws.{WordsRead}
 use Rattle.instance.specs.declared.Refusal.{Refusal}
@@ -80,8 +81,7 @@ module _ (text buffer : List ℕ) (answer : TextRead) (after : List ℕ)
 
   outcome-has-room : {words : List ℕ} → wordsOf text ≡ accepted words →
       wordsOutcome text buffer ≡ record { answer = Words (length words); words = onto words buffer }
-  unfolding wordsOutcome room
-  outcome-has-room {words} e = rw (e, le-leb (length words) (length buffer) (omega (arith, read-words-at-most text e)))
+  outcome-has-room {words} e = words-are-handed-over text words buffer e (omega (arith, read-words-at-most text e))
 
   pub text-is-refused : {r : Refusal} → answer ≡ Refused r → wordsOf text ≡ refused r
   text-is-refused {r} answered = go (wordsOf text) refl

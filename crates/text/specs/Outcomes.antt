@@ -1,8 +1,10 @@
--- The whole outcome of turning text into words, for every text: the answer, and what the lent buffer holds afterwards.
+-- The whole outcome of turning text into words, for every text: the answer, and what the lent buffer holds afterwards; and
+-- how the call ends.
 use Prim.Native.Nat.{ℕ}
-use mathlib.Core.List.{List}
+use mathlib.Core.List.{List, [], _∷_}
 use lib.ListN.{length}
 use Rattle.laws.specs.Lists.{onto}
+use Rattle.instance.specs.Endings.{lent, Ends, readThen, neededFor}
 use Rattle.instance.specs.Refusals.{Reading, refused, accepted, room}
 use Rattle.instance.specs.declared.Verdict.{Verdict}
 use Rattle.instance.specs.declared.Verdict.the-variants.{Accepted, Refused}
@@ -27,3 +29,16 @@ wordsOutcomeOf (accepted ws) buffer = wordsWhere (room (length ws) buffer) ws bu
 
 unfoldable pub wordsOutcome : List ℕ → List ℕ → WordsOutcome
 wordsOutcome text buffer = wordsOutcomeOf (wordsOf text) buffer
+
+abbrev pub textVerdict : TextRead → Verdict
+textVerdict (TextRead.Words n) = Accepted
+textVerdict (TextRead.Refused r) = Refused r
+
+-- "Turning text into words: 1, then 6."
+abbrev pub TextEnds : List ℕ → List ℕ → TextRead → List ℕ → Type 0
+TextEnds text buffer answer after =
+    Ends
+    (readThen (wordsOf text) (λ words. room (length words) buffer))
+    (1 ∷ 6 ∷ [])
+    (lent (neededFor length (wordsOf text)) buffer after ∷ [])
+    (textVerdict answer)

@@ -11,7 +11,8 @@ use lib.Seq.{take-all, length-take-le}
 use Rattle.laws.specs.ListLaws.{take-min}
 use Rattle.laws.specs.Lists.{onto}
 use Rattle.ranges.specs.Limits.{mostTextBytes}
-use Rattle.text.specs.Outcomes.{wordsOutcome}
+use Rattle.text.specs.OutcomeLaws.{text-ends}
+use Rattle.text.specs.Outcomes.{wordsOutcome, TextEnds}
 use Rattle.instance.specs.Refusals.{Reading, refused, accepted, room}
 use Rattle.text.specs.Text.{numbers, firstFault, wordsOf}
 use Rattle.text.specs.TextSteps.{NoFault, FirstFault, Counted, Writable}
@@ -37,15 +38,16 @@ accepted-whole text short no-fault =
     reading-of-head text text (sym (take-all mostTextBytes text short)) ∙
     rw (no-fault, le-ltb (length text) (length text) (omega arith))
 
--- the answer, and the buffer afterwards, are the outcome's
+-- what the contract of turning text into words says of the answer, and of the buffer after it
 abbrev pub WordsRead : List ℕ → List ℕ → TextRead → List ℕ → Type 0
 WordsRead text buffer answer after =
-    (answer ≡ wordsOutcome text buffer .answer) × (after ≡ wordsOutcome text buffer .words)
+    (answer ≡ wordsOutcome text buffer .answer)
+    × ((after ≡ wordsOutcome text buffer .words) × TextEnds text buffer answer after)
 
 words-read :
     (text buffer : List ℕ) (answer : TextRead) (after : List ℕ) →
     wordsOutcome text buffer ≡ record { answer = answer; words = after } → WordsRead text buffer answer after
-words-read text buffer answer after e = (rw e, rw e)
+words-read text buffer answer after e = (rw e, (rw e, rw e at (text-ends text buffer)))
 
 -- the text's first n bytes are looked at, which are all of them or 4,096
 module _ (text buffer : List ℕ) (n : ℕ) (cut : n ≡ min mostTextBytes (length text)) where

@@ -8,7 +8,7 @@ ghost use Prim.Native.Nat.{min};
 ghost use lib.ListN.{length, drop};
 ghost use Rattle.laws.specs.Lists.{onto};
 ghost use Rattle.ranges.specs.Limits.{mostTextBytes};
-ghost use Rattle.text.specs.Outcomes.{wordsOutcome};
+ghost use Rattle.text.specs.Outcomes.{wordsOutcome, TextEnds};
 ghost use Rattle.text.specs.Text.{isDigit, isBlank, numbers};
 ghost use Rattle.text.specs.TextSteps.{Counted, Writable};
 ghost use Rattle.text.specs.Tokens.{numberFrom, tokenAt};
@@ -147,6 +147,7 @@ fn head_length(text: &[u8]) -> usize
 pub fn words_of_text(text: &[u8], words: &mut [u32]) -> TextRead
     ensures { λ r. ⌜ r ≡ wordsOutcome (now (text .entry)) (now (words .entry)) .answer ⌝ }
     ensures { λ _. ⌜ now (words .exit) ≡ wordsOutcome (now (text .entry)) (now (words .entry)) .words ⌝ }
+    ensures promise { λ r. ⌜ TextEnds (now (text .entry)) (now (words .entry)) r (now (words .exit)) ⌝ }
 {
     let n = head_length(text);
     let read = count_words(&text[..n]);

@@ -24,7 +24,7 @@ check-table-requires c κs = search needs
 
 returns : tie.Need-returns
 returns c = let copied = c .before .before .before .words-of-bytes .ensures in
-    c .check-table .ensures ∙ copied-plan-is-checked _ _ _ (copied .0) _ _ _ _ (lit< tt) (copied .1)
+    c .check-table .ensures .0 ∙ copied-plan-is-checked _ _ _ (copied .0) _ _ _ _ (lit< tt) (copied .1)
 
 pub check-words-spec : {M : Type 1} → statement M
 check-words-spec =

@@ -1,5 +1,6 @@
 -- `site::read_instance` meets its contract: the words are those of the settings, and then of what follows them.
 use borrow.Author.Needs.{needs}
+use Rattle.instance.specs.OutcomeLaws.{outcome-is-promised}
 use Rattle.instance.specs.Outcomes.{instanceOutcome}
 use Rattle.instance.specs.SectionLaws.{pair-taken, pair-refused}
 use Rattle.instance.specs.SiteFile.{problemOf}
@@ -20,8 +21,9 @@ returns : tie.Need-returns
 unfolding instanceOutcome problemOf
 returns c =
     let first = c .before .before .before .before in
-    rw (site-file-sections, pair-refused _ _ _ 0 (first .pair-at .ensures) (c .before .before .why .given .1))
-    (c .no-instance .ensures)
+    outcome-is-promised _ _
+    (rw (site-file-sections, pair-refused _ _ _ 0 (first .pair-at .ensures) (c .before .before .why .given .1))
+    (c .no-instance .ensures))
 
 enum-known-energy : tie.Need-enum-known-energy
 enum-known-energy c = search needs
@@ -40,12 +42,13 @@ unfolding instanceOutcome problemOf
 returns-2 c =
     let second = c .before .before .before .before in
     let first = second .before .before .before .before in
-    rw (
+    outcome-is-promised _ _
+    (rw (
       site-file-sections,
       pair-taken _ _ _ 0 (first .pair-at .ensures) (second .before .before .energy .given .1),
       pair-refused _ _ _ _ (second .pair-at2 .ensures) (c .before .before .why2 .given .1),
     )
-    (c .no-instance2 .ensures)
+    (c .no-instance2 .ensures))
 
 enum-known-penalty : tie.Need-enum-known-penalty
 enum-known-penalty c = search needs
@@ -58,12 +61,13 @@ unfolding instanceOutcome problemOf
 returns-3 c =
     let second = c .before .before .before .before in
     let first = second .before .before .before .before in
-    rw (
+    outcome-is-promised _ _
+    (rw (
       site-file-sections,
       pair-taken _ _ _ 0 (first .pair-at .ensures) (second .before .before .energy .given .1),
       pair-taken _ _ _ _ (second .pair-at2 .ensures) (c .before .before .penalty .given .1),
     )
-    (c .after-settings .ensures)
+    (c .after-settings .ensures))
 
 pub read-instance-spec : {M : Type 1} → statement M
 read-instance-spec =

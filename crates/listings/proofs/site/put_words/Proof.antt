@@ -10,7 +10,7 @@ use Rattle.listings.proofs.site.put_words.Tie as tie
 refused-listing : (c : tie.After-verdict) →
     listingOfProblem (problemOf (c .before .before .before .before .before .before .args .words .now)) ≡ refusalLine (c .verdict .given .0 .0)
 refused-listing c =
-    refused-words-listing _ (refused-read-refuses-words _ _ (c .before .before .before .read-instance .ensures) (c .verdict .given .1))
+    refused-words-listing _ (refused-read-refuses-words _ _ (c .before .before .before .read-instance .ensures .0) (c .verdict .given .1))
 
 read-instance-requires : tie.Need-read-instance-requires
 read-instance-requires c κs = search needs
@@ -26,7 +26,7 @@ enum-told c = search needs
 
 put-best-requires : tie.Need-put-best-requires
 put-best-requires c κs = (
-  accepted-read-holds-problem _ _ (c .before .before .before .before .read-instance .ensures) (c .before .enum-told .given .1),
+  accepted-read-holds-problem _ _ (c .before .before .before .before .read-instance .ensures .0) (c .before .enum-told .given .1),
   c .before .before .before .before .before .before .before .pre,
 )
 

@@ -12,14 +12,14 @@ enum-known-verdict c = search needs
 
 returns : tie.Need-returns
 returns c =
-    let refuses = refused-read-refuses-words _ _ (c .before .before .before .read-instance .ensures) (c .before .verdict .given .1) in
+    let refuses = refused-read-refuses-words _ _ (c .before .before .before .read-instance .ensures .0) (c .before .verdict .given .1) in
     given-outcome-is-promised _ _ _ _ _ _ (refused-words-outcome _ _ _ refuses)
 
 enum-told : tie.Need-enum-told
 enum-told c = search needs
 
 plan-read-requires : tie.Need-plan-read-requires
-plan-read-requires c κs = accepted-read-holds-problem _ _ (c .before .before .before .before .read-instance .ensures) (c .before .before .enum-told .given .1)
+plan-read-requires c κs = accepted-read-holds-problem _ _ (c .before .before .before .before .read-instance .ensures .0) (c .before .before .enum-told .given .1)
 
 same-length : tie.Need-same-length
 same-length c = search needs

@@ -80,7 +80,7 @@ returns-3 : tie.Need-returns-3
 returns-3 c =
     let chosen = c .before .before .before .before .before .before .before .before .before .before in
     let tabled = c .before .before .before .tabulate .ensures in
-    ap₂ (λ (answer : Priced) (table : List ℕ). planGiven answer (chosen .best-choices .last .1 .0) table) (c .price .ensures) (tabled .1)
+    ap₂ (λ (answer : Priced) (table : List ℕ). planGiven answer (chosen .best-choices .last .1 .0) table) (c .price .ensures .0) (tabled .1 .0)
     ∙ (rw (c .before .before .before .before .before .before .enum-told .given .1) at (outcome-of-chosen chosen))
 
 same-length-3 : tie.Need-same-length-3

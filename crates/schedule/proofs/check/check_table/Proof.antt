@@ -1,6 +1,7 @@
 use mathlib.Core.Path.{refl, sym, _∙_}
 use Rattle.schedule.specs.CheckLaws.{slots-pass, choices-pass}
 use Rattle.schedule.specs.Checks.{check}
+use Rattle.schedule.specs.EndingLaws.{check-is-promised}
 use Rattle.schedule.specs.Outcomes.{checkOutcome}
 use Rattle.schedule.specs.Periods.{valid-is-periodic}
 use Rattle.schedule.specs.ReadLaws.{HoldsProblemOf, accepted-read-holds-problem, refused-read-refuses-words}
@@ -9,7 +10,7 @@ use Rattle.schedule.proofs.check.check_table.Statement.{statement}
 use Rattle.schedule.proofs.check.check_table.Tie as tie
 
 holds-problem : (c : tie.After-enum-told) → HoldsProblemOf (c .before .before .before .before .before .before .args .instance .now) (c .before .before .read-instance .result .instance)
-holds-problem c = accepted-read-holds-problem _ _ (c .before .before .read-instance .ensures) (c .enum-told .given .1)
+holds-problem c = accepted-read-holds-problem _ _ (c .before .before .read-instance .ensures .0) (c .enum-told .given .1)
 
 read-instance-requires : tie.Need-read-instance-requires
 read-instance-requires c κs = search needs
@@ -23,7 +24,7 @@ enum-told-2 c = search needs
 returns : tie.Need-returns
 unfolding checkOutcome
 returns c = let refused = c .enum-told2 .given .1 in
-    rw (refused-read-refuses-words _ _ (c .before .before .read-instance .ensures) refused) refused
+    check-is-promised _ _ _ _ (rw (refused-read-refuses-words _ _ (c .before .before .read-instance .ensures .0) refused) refused)
 
 choices-pass-requires : tie.Need-choices-pass-requires
 choices-pass-requires c κs = holds-problem c .sound
@@ -36,7 +37,9 @@ enum-told-4 c = search needs
 
 returns-2 : tie.Need-returns-2
 unfolding checkOutcome check
-returns-2 c = rw (holds-problem (c .before .before .before) .problem, ← c .before .before .choices-pass .ensures, c .enum-told4 .given .1) refl
+returns-2 c =
+    check-is-promised _ _ _ _
+    (rw (holds-problem (c .before .before .before) .problem, ← c .before .before .choices-pass .ensures, c .enum-told4 .given .1) refl)
 
 slots-pass-requires : tie.Need-slots-pass-requires
 slots-pass-requires c κs = holds-problem (c .before .before .before) .sound
@@ -49,7 +52,10 @@ enum-told-6 c = search needs
 
 returns-3 : tie.Need-returns-3
 unfolding checkOutcome check
-returns-3 c = rw (holds-problem (c .before .before .before .before .before .before) .problem, ← c .before .before .before .before .before .choices-pass .ensures, c .before .before .before .enum-told3 .given .1) (rw (← c .before .before .slots-pass .ensures, c .enum-told6 .given .1) refl)
+returns-3 c =
+    check-is-promised _ _ _ _
+    (rw (holds-problem (c .before .before .before .before .before .before) .problem, ← c .before .before .before .before .before .choices-pass .ensures, c .before .before .before .enum-told3 .given .1)
+    (rw (← c .before .before .slots-pass .ensures, c .enum-told6 .given .1) refl))
 
 jobs-pass-requires : tie.Need-jobs-pass-requires
 jobs-pass-requires c κs = let s = holds-problem (c .before .before .before .before .before .before) .sound in (
@@ -62,8 +68,10 @@ jobs-pass-requires c κs = let s = holds-problem (c .before .before .before .bef
 
 returns-4 : tie.Need-returns-4
 unfolding checkOutcome check
-returns-4 c = rw (holds-problem (c .before .before .before .before .before .before .before) .problem, ← c .before .before .before .before .before .before .choices-pass .ensures, c .before .before .before .before .enum-told3 .given .1)
-    (rw (← c .before .before .before .slots-pass .ensures, c .before .enum-told5 .given .1) (c .jobs-pass .ensures))
+returns-4 c =
+    check-is-promised _ _ _ _
+    (rw (holds-problem (c .before .before .before .before .before .before .before) .problem, ← c .before .before .before .before .before .before .choices-pass .ensures, c .before .before .before .before .enum-told3 .given .1)
+    (rw (← c .before .before .before .slots-pass .ensures, c .before .enum-told5 .given .1) (c .jobs-pass .ensures)))
 
 pub check-table-spec : {M : Type 1} → statement M
 check-table-spec =

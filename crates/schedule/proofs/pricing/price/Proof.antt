@@ -1,4 +1,5 @@
 use mathlib.Core.Path.{refl, sym, ap, _∙_}
+use Rattle.schedule.specs.EndingLaws.{price-is-promised}
 use Rattle.schedule.specs.Outcomes.{priceOutcome}
 use Rattle.schedule.specs.ReadLaws.{HoldsProblemOf, accepted-read-holds-problem, refused-read-refuses-words}
 use Rattle.schedule.specs.declared.prices.Priced.the-variants.{Cost}
@@ -8,7 +9,7 @@ use Rattle.schedule.proofs.pricing.price.Tie as tie
 
 holds-problem : (c : tie.After-enum-told) →
     HoldsProblemOf (c .before .before .before .before .before .args .instance .now) (c .before .before .read-instance .result .instance)
-holds-problem c = accepted-read-holds-problem _ _ (c .before .before .read-instance .ensures) (c .enum-told .given .1)
+holds-problem c = accepted-read-holds-problem _ _ (c .before .before .read-instance .ensures .0) (c .enum-told .given .1)
 
 read-instance-requires : tie.Need-read-instance-requires
 read-instance-requires c κs = search needs
@@ -19,7 +20,7 @@ enum-known-verdict c = search needs
 returns : tie.Need-returns
 unfolding priceOutcome
 returns c = let called = c .before .before .before in
-    rw (refused-read-refuses-words _ _ (called .read-instance .ensures) (c .before .verdict .given .1)) refl
+    price-is-promised _ _ _ (rw (refused-read-refuses-words _ _ (called .read-instance .ensures .0) (c .before .verdict .given .1)) refl)
 
 enum-told : tie.Need-enum-told
 enum-told c = search needs
@@ -34,7 +35,7 @@ returns-2 : tie.Need-returns-2
 unfolding priceOutcome
 returns-2 c = let called = c .before .before .before in
     let refuses = sym (called .plan-passes .ensures) ∙ c .before .plan-verdict .given .1 in
-    rw (holds-problem (called .before) .problem, refuses) refl
+    price-is-promised _ _ _ (rw (holds-problem (called .before) .problem, refuses) refl)
 
 enum-told-2 : tie.Need-enum-told-2
 enum-told-2 c = search needs
@@ -47,7 +48,7 @@ returns-3 : tie.Need-returns-3
 unfolding priceOutcome
 returns-3 c = let called = c .before .before .before in
     let passes = sym (called .plan-passes .ensures) ∙ c .before .enum-told2 .given .1 in
-    rw (holds-problem (called .before) .problem, passes) (ap Cost (c .price-of .ensures))
+    price-is-promised _ _ _ (rw (holds-problem (called .before) .problem, passes) (ap Cost (c .price-of .ensures)))
 
 pub price-spec : {M : Type 1} → statement M
 price-spec =

@@ -3,6 +3,7 @@ use mathlib.Core.Path.{refl, sym, _∙_}
 use native.Mathlib.Omega.{arith}
 use lib.ListN.{length}
 use Rattle.instance.specs.Held.{problemIn}
+use Rattle.schedule.specs.EndingLaws.{table-is-promised}
 use Rattle.schedule.specs.OutcomeLaws.{short-buffer-is-refused, plan-is-refused, table-is-written}
 use Rattle.schedule.specs.Outcomes.{tableOutcome}
 use Rattle.schedule.specs.PlanLaws.{passing-plan}
@@ -13,7 +14,7 @@ use Rattle.schedule.proofs.table.tabulate.Statement.{statement}
 use Rattle.schedule.proofs.table.tabulate.Tie as tie
 
 holds-problem : (c : tie.After-enum-told) → HoldsProblemOf (c .before .before .before .before .before .before .args .instance .now) (c .before .before .read-instance .result .instance)
-holds-problem c = accepted-read-holds-problem _ _ (c .before .before .read-instance .ensures) (c .enum-told .given .1)
+holds-problem c = accepted-read-holds-problem _ _ (c .before .before .read-instance .ensures .0) (c .enum-told .given .1)
 
 room-left : (c : tie.Else1) → tableSize (problemIn (c .before .before .before .before .read-instance .result .instance)) ≤ length (c .before .before .before .before .before .before .before .before .args .table .now)
 room-left c = omega (arith, c .before .table-size .ensures, c .if1 .left)
@@ -30,7 +31,7 @@ enum-told-2 c = search needs
 returns : tie.Need-returns
 unfolding tableOutcome
 returns c = let refused = c .enum-told2 .given .1 in
-    rw (refused-read-refuses-words _ _ (c .before .before .read-instance .ensures) refused) (refused, refl)
+    table-is-promised _ _ _ _ _ (rw (refused-read-refuses-words _ _ (c .before .before .read-instance .ensures .0) refused) (refused, refl))
 
 table-size-requires : tie.Need-table-size-requires
 table-size-requires c κs = holds-problem c .sound
@@ -38,7 +39,7 @@ table-size-requires c κs = holds-problem c .sound
 returns-2 : tie.Need-returns-2
 unfolding tableOutcome
 returns-2 c = let given = short-buffer-is-refused _ (c .before .before .before .before .before .before .before .before .args .plan .now) _ _ (c .before .table-size .ensures) (c .if1 .taken) in
-    rw (holds-problem (c .before .before) .problem) (given .same-answer, given .same-table)
+    table-is-promised _ _ _ _ _ (rw (holds-problem (c .before .before) .problem) (given .same-answer, given .same-table))
 
 plan-passes-requires : tie.Need-plan-passes-requires
 plan-passes-requires c κs = holds-problem (c .before .before) .sound
@@ -60,13 +61,15 @@ returns-3 : tie.Need-returns-3
 unfolding tableOutcome
 returns-3 c = let accepted = c .before .before .before .before .enum-told3 .given .1 in
     let given = table-is-written _ _ _ (room-left (c .before .before .before .before .before .before .before)) (sym (c .before .before .before .before .before .before .plan-passes .ensures) ∙ accepted) in
-    rw (holds-problem (c .before .before .before .before .before .before .before .before .before) .problem) (accepted ∙ given .same-answer, c .before .before .fill-table .ensures ∙ given .same-table)
+    table-is-promised _ _ _ _ _
+    (rw (holds-problem (c .before .before .before .before .before .before .before .before .before) .problem)
+    (accepted ∙ given .same-answer, c .before .before .fill-table .ensures ∙ given .same-table))
 
 returns-4 : tie.Need-returns-4
 unfolding tableOutcome
 returns-4 c = let refused = c .enum-told4 .given .1 in
     let given = plan-is-refused _ _ _ (room-left (c .before .before .before)) (sym (c .before .before .plan-passes .ensures) ∙ refused) in
-    rw (holds-problem (c .before .before .before .before .before) .problem) (refused ∙ given .same-answer, given .same-table)
+    table-is-promised _ _ _ _ _ (rw (holds-problem (c .before .before .before .before .before) .problem) (refused ∙ given .same-answer, given .same-table))
 
 pub tabulate-spec : {M : Type 1} → statement M
 tabulate-spec =
