@@ -115,10 +115,11 @@ typedef struct {
  * choice is smaller, and its table, each core by earliest due tick and then lower task number.
  *
  * Tested in this order: TEXT; then, number by number, WORDS, RANGE and SPAN; BUFFER, the plan's
- * before the table's; NO_PLAN. A refused call changes no byte of `plan` and `table`. An accepted
- * one writes as many bytes of `plan` as there are tasks and cores x span bytes of `table`, each
- * from the front, and no others. To learn one of these two lengths, lend that buffer empty and the
- * other one at its most: BUFFER's place tells it. (With no task an empty plan is long enough.)
+ * before the table's; NO_PLAN. A refused call stores nothing in `plan` and `table`. An accepted one
+ * stores as many bytes of `plan` as there are tasks and cores x span bytes of `table`, each from
+ * the front. Into all other bytes nothing is stored, not even what stands there. To learn one of
+ * these two lengths, lend that buffer empty and the other one at its most: BUFFER's place tells it.
+ * (With no task an empty plan is long enough.)
  */
 towhepamu_planned towhepamu_plan(const uint8_t *text, size_t text_len, uint8_t *plan,
                                  size_t plan_len, uint8_t *table, size_t table_len);
@@ -130,7 +131,7 @@ towhepamu_planned towhepamu_plan(const uint8_t *text, size_t text_len, uint8_t *
  * be the cheapest.
  *
  * Tested in this order: TEXT; then, number by number, WORDS, RANGE and SPAN; CHOICES and SLOTS,
- * each with the length first; JOB. It writes nothing.
+ * each with the length first; JOB. It stores nothing in the lent buffers.
  */
 towhepamu_checked towhepamu_check(const uint8_t *text, size_t text_len, const uint8_t *plan,
                                   size_t plan_len, const uint8_t *table, size_t table_len);

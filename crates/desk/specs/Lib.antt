@@ -2,3 +2,4 @@ pub mod DeskOutcomes
 pub mod Copies
 pub mod ByteLists
 pub mod FrontPlanLaws
+pub mod OwnPlanLaws

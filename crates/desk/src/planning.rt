@@ -2,26 +2,52 @@
 use crate::answers::Planned;
 use crate::answers::planned_of;
 use crate::choices::bytes_of_words;
-use crate::choices::words_of_bytes;
+use instance::Refusal;
+use instance::Verdict;
+use instance::read_instance;
 use planner::plan;
 use schedule::Priced;
 use text::TextRead;
 use text::words_of_text;
 ghost use mathlib.Core.Path.{_≡_};
 ghost use Rattle.desk.specs.DeskOutcomes.{plannedOf, textPlanOutcome};
+ghost use Rattle.desk.specs.OwnPlanLaws.{RoomForPlan};
 ghost use Rattle.planner.specs.Outcomes.{planOutcome};
 
-// An instance has at most 12 tasks, so no more than the first 12 choices are written.
-fn plan_words(words: &[u32], choices: &mut [u8], table: &mut [u8]) -> Priced
+// Plans an instance of n tasks in words of its own: the lent choices are written only once there is a plan.
+fn plan_with_room(words: &[u32], n: usize, choices: &mut [u8], table: &mut [u8]) -> Priced
+    requires { ⌜ RoomForPlan (now words) n (now choices) ⌝ }
     ensures { λ r. ⌜ r ≡ planOutcome (now (words .entry)) (now (choices .entry)) (now (table .entry)) .answer ⌝ }
     ensures { λ _. ⌜ now (choices .exit) ≡ planOutcome (now (words .entry)) (now (choices .entry)) (now (table .entry)) .plan ⌝ }
     ensures { λ _. ⌜ now (table .exit) ≡ planOutcome (now (words .entry)) (now (choices .entry)) (now (table .entry)) .table ⌝ }
 {
     let mut front = [0; 12];
-    let n = words_of_bytes(choices, &mut front);
-    let priced = plan(words, &mut front[..n], table);
-    bytes_of_words(&front[..n], choices);
-    priced
+    match plan(words, &mut front[..n], table) {
+        Priced::Refused(refusal) => return Priced::Refused(refusal),
+        Priced::Cost(price) => {
+            bytes_of_words(&front[..n], choices);
+            return Priced::Cost(price);
+        }
+    }
+}
+
+fn plan_words(words: &[u32], choices: &mut [u8], table: &mut [u8]) -> Priced
+    ensures { λ r. ⌜ r ≡ planOutcome (now (words .entry)) (now (choices .entry)) (now (table .entry)) .answer ⌝ }
+    ensures { λ _. ⌜ now (choices .exit) ≡ planOutcome (now (words .entry)) (now (choices .entry)) (now (table .entry)) .plan ⌝ }
+    ensures { λ _. ⌜ now (table .exit) ≡ planOutcome (now (words .entry)) (now (choices .entry)) (now (table .entry)) .table ⌝ }
+{
+    let read = read_instance(words);
+    let verdict = read.verdict;
+    match verdict {
+        Verdict::Refused(refusal) => return Priced::Refused(refusal),
+        Verdict::Accepted => {
+            let n = read.instance.taskcount;
+            if choices.len() < n {
+                return Priced::Refused(Refusal::ShortBuffer(n));
+            }
+            return plan_with_room(words, n, choices, table);
+        }
+    }
 }
 
 // Writes the plan of least cost and its table to the fronts of the lent buffers.

@@ -2,27 +2,11 @@
 use libc::STDERR_FILENO;
 use libc::STDIN_FILENO;
 use libc::STDOUT_FILENO;
-use listings::Listed;
 use listings::list_site;
-ghost use Prim.Native.Nat.{_≤_};
-ghost use lib.ListN.{length};
-ghost use Rattle.listings.specs.ListingLength.{mostListing};
-ghost use Rattle.listings.specs.OutcomeLaws.{ListingAtFront};
-
-// The listing of a text, at the front of a buffer with room for every listing, and how many bytes it has.
-fn list_into(text: &[u8], out: &mut [u8]) -> usize
-    requires { ⌜ mostListing ≤ length (now out) ⌝ }
-    ensures { λ r. ⌜ ListingAtFront (now (text .entry)) r (now (out .exit)) ⌝ }
-{
-    match list_site(text, out) {
-        Listed::Bytes(n) => n,
-        Listed::Refused(_) => 0,
-    }
-}
 
 fn print_listing(text: &[u8]) {
     let mut out = [0u8; 51200];
-    let n = list_into(text, &mut out);
+    let n = list_site(text, &mut out);
     io::write_all(STDOUT_FILENO, &out[..n]);
 }
 

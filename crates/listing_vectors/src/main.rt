@@ -1,8 +1,8 @@
 // Runs the listing on worked examples, and prints what each one gives, under lines that name them. What is expected was
 // worked out from the paper, by hand.
 mod accepted;
-mod buffers;
 mod refused;
+mod rest;
 mod show;
 
 fn main() {
@@ -16,5 +16,5 @@ fn main() {
     refused::count();
     refused::range();
     refused::span_and_plan();
-    buffers::lent();
+    rest::as_lent();
 }

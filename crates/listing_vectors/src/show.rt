@@ -1,43 +1,28 @@
-// Prints the listing of a text, and what became of a lent buffer.
-use instance::Refusal;
-use listings::Listed;
+// Prints the listing of a text, and what became of a lent array.
 use listings::list_site;
 use printing::print;
 use printing::print_filled;
 use printing::print_line;
 
-fn print_refusal(r: Refusal) {
-    let numbers = [instance::refusal_number(r), instance::refusal_place(r)];
-    print_filled(b"lent buffer refused # #\n", &numbers);
-}
-
-fn print_front(bytes: &[u8], n: usize) {
-    if n <= bytes.len() {
-        print(&bytes[..n]);
+fn print_front(bytes: &[u8; 51200], n: usize) {
+    let whole: &[u8] = bytes;
+    if n <= whole.len() {
+        print(&whole[..n]);
     }
 }
 
-// The listing of a text, in a buffer with room for each of these examples.
 pub(crate) fn listing(text: &[u8]) {
-    let mut out = [0u8; 1024];
-    match list_site(text, &mut out) {
-        Listed::Bytes(n) => print_front(&out, n),
-        Listed::Refused(r) => print_refusal(r),
-    }
+    let mut out = [0u8; 51200];
+    let n = list_site(text, &mut out);
+    print_front(&out, n);
 }
 
-fn print_count(n: usize) {
-    let numbers = [n as u64];
+// The listing of a text in a lent array of dots: the answer, and the first bytes then, as many as are asked for.
+pub(crate) fn listing_over_dots(text: &[u8], shown: usize) {
+    let mut out = [b'.'; 51200];
+    let numbers = [list_site(text, &mut out) as u64];
     print_filled(b"# bytes\n", &numbers);
-}
-
-// The listing of a text in a lent buffer: the answer, and what the buffer holds then.
-pub(crate) fn listing_into(text: &[u8], out: &mut [u8]) {
-    match list_site(text, out) {
-        Listed::Bytes(n) => print_count(n),
-        Listed::Refused(r) => print_refusal(r),
-    }
     print(b"[");
-    print(out);
+    print_front(&out, shown);
     print_line(b"]");
 }

@@ -8,6 +8,4 @@ pub mod HeldLines
 pub mod LineLengths
 pub mod ListingLength
 pub mod ListingLaws
-pub mod Outcomes
-pub mod OutcomeLaws
 pub mod LongTextLaws

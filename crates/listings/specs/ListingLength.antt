@@ -8,7 +8,8 @@ use native.Mathlib.Nat.{div-le-self, mod-lt, mul-le-mul}
 use native.Mathlib.Omega.{arith}
 use lib.ListN.{length, getD, length-append}
 use Rattle.laws.specs.JoinedLaws.{length-listOf, getD-listOf}
-use Rattle.laws.specs.Lists.{listOf}
+use Rattle.laws.specs.Lists.{listOf, onto}
+use Rattle.laws.specs.OntoLaws.{length-onto}
 use Rattle.ranges.specs.Limits.{mostCores, mostLevels, mostSpan, mostTasks}
 use Rattle.instance.specs.Node.{Problem, levelCount, taskCount, span}
 use Rattle.text.specs.NumberCountLaws.{mostTextWords, read-words-at-most}
@@ -145,3 +146,9 @@ listing-at-most text = go (wordsOf text) refl
     go : (reading : Reading (List ℕ)) → wordsOf text ≡ reading → length (listingOfWords reading) ≤ mostListing
     go (refused r) e = refusal-fits r (omega (arith, text-refusal-place text e))
     go (accepted words) e = listing-of-problem-fits words (read-words-at-most text e)
+
+-- once it is written, its bytes are the first n of the array
+pub listing-within : (text out : List ℕ) {after : List ℕ} {n : ℕ} → mostListing ≤ length out →
+    (n ≡ length (listingOf text)) × (after ≡ onto (listingOf text) out) → n ≤ length after
+listing-within text out long listed =
+    let few = listing-at-most text in rw (listed .1, length-onto (listingOf text) out (omega arith)) (omega arith)

@@ -2,11 +2,12 @@
 use Prim.Native.Nat.{ℕ, _+_, _≤_}
 use mathlib.Core.List.{List, [], _∷_, _++_, append-assoc}
 use mathlib.Core.Path.{_≡_, refl, sym, ap, _∙_}
-use native.Mathlib.Nat.{add-zero}
+use native.Mathlib.Nat.{add-zero, zero-add}
 use native.Mathlib.Numerals.{add-one}
 use native.Mathlib.Omega.{arith}
 use lib.ListN.{length, take, drop, set, length-append, length-drop, take-append-drop}
 use lib.Seq.{length-take-le, set-split, take-at, drop-at, drop-drop}
+use Rattle.laws.specs.Lists.{onto}
 
 -- the buffer with these bytes from position `at` on
 unfoldable pub placed : ℕ → List ℕ → List ℕ → List ℕ
@@ -28,6 +29,11 @@ put-nothing out at = record { buffer = rw (add-zero at, take-append-drop at out)
 pub put-one : (out : List ℕ) (at b : ℕ) → Room out at (b ∷ []) → Put out at (b ∷ []) (set out at b) (at + 1)
 unfolding placed
 put-one out at b room = record { buffer = rw add-one (set-split out at b (omega arith)); position = refl }
+
+-- put from the start, they are written onto the buffer
+pub put-from-start : {out bytes after : List ℕ} {n : ℕ} → Put out 0 bytes after n → (n ≡ length bytes) × (after ≡ onto bytes out)
+unfolding placed onto
+put-from-start put = (omega (arith, put .position), rw zero-add at (put .buffer))
 
 pub room-for-first : (xs ys : List ℕ) {out : List ℕ} {at : ℕ} → Room out at (xs ++ ys) → Room out at xs
 room-for-first xs ys room = record { fits = omega (arith, room .fits, length-append xs ys) }

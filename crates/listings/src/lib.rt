@@ -6,5 +6,4 @@ mod plans;
 mod site;
 mod tasks;
 
-pub use site::Listed;
 pub use site::list_site;

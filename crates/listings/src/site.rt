@@ -1,9 +1,7 @@
 // The listing of a site's text: read, planned and put into lines.
-use crate::bytes::put_bytes;
 use crate::lines::put_refusal;
 use crate::plans::put_plan;
 use instance::Instance;
-use instance::Refusal;
 use instance::Verdict;
 use instance::read_instance;
 use planner::plan;
@@ -11,17 +9,12 @@ use schedule::Priced;
 use text::TextRead;
 use text::words_of_text;
 ghost use mathlib.Core.Path.{_≡_};
+ghost use lib.ListN.{length};
+ghost use Rattle.laws.specs.Lists.{onto};
 ghost use Rattle.instance.specs.SiteFile.{problemOf};
 ghost use Rattle.schedule.specs.ReadLaws.{HoldsProblemOf};
 ghost use Rattle.listings.specs.Listing.{listingOfProblem, listingOf};
-ghost use Rattle.listings.specs.Outcomes.{listOutcome};
 ghost use Rattle.listings.specs.Placing.{Room, Put};
-
-// How many bytes a listing has, or why it was not written.
-pub enum Listed {
-    Bytes(usize),
-    Refused(Refusal),
-}
 
 // Plans the instance that the words are, and puts its lines.
 fn put_best(out: &mut [u8], words: &[u32], inst: Instance) -> usize
@@ -65,17 +58,10 @@ fn put_listing(out: &mut [u8], text: &[u8]) -> usize
     }
 }
 
-// Writes what is printed for a text to the front of a lent buffer. It is made in a buffer of its own, which has room for
-// every listing, so that a buffer which is too short stays as it was.
-pub fn list_site(text: &[u8], out: &mut [u8]) -> Listed
-    ensures { λ r. ⌜ r ≡ listOutcome (now (text .entry)) (now (out .entry)) .answer ⌝ }
-    ensures { λ _. ⌜ now (out .exit) ≡ listOutcome (now (text .entry)) (now (out .entry)) .out ⌝ }
+// Writes what is printed for a text to the front of an array that has room for every listing.
+pub fn list_site(text: &[u8], out: &mut [u8; 51200]) -> usize
+    ensures { λ r. ⌜ r ≡ length (listingOf (now (text .entry))) ⌝ }
+    ensures { λ _. ⌜ now (out .exit) ≡ onto (listingOf (now (text .entry))) (now (out .entry)) ⌝ }
 {
-    let mut listing = [0u8; 51200];
-    let n = put_listing(&mut listing, text);
-    if out.len() < n {
-        return Listed::Refused(Refusal::ShortBuffer(n));
-    }
-    put_bytes(out, 0, &listing[..n]);
-    Listed::Bytes(n)
+    put_listing(out, text)
 }

@@ -1,47 +1,29 @@
-use mathlib.Core.Path.{_≡_, sym, ap, _∙_}
-use native.Mathlib.Omega.{arith}
-use lib.Dec.{lit≤}
-use lib.ListN.{length, length-append}
-use lib.Seq.{length-take-le}
-use Rattle.planner.specs.Outcomes.{PlanOutcome}
-use Rattle.desk.specs.ByteLists.{ByteList}
-use Rattle.desk.specs.FrontPlanLaws.{copied-plan-is-planned, planned-is-written, planned-is-bytes}
+use Rattle.schedule.specs.ReadLaws.{HoldsProblemOf, accepted-read-holds-problem, refused-read-refuses-words}
+use Rattle.desk.specs.OwnPlanLaws.{refused-words-outcome, room-for-plan, short-plan-outcome}
 use borrow.Author.Needs.{needs}
 use Rattle.desk.proofs.planning.plan_words.Statement.{statement}
 use Rattle.desk.proofs.planning.plan_words.Tie as tie
 
-lent-is-bytes : (c : tie.After-slice-known) → ByteList (c .before .before .args .choices .now)
-lent-is-bytes c = record { fits = λ i l. omega (arith, c .slice-known .given i) }
+read-instance-requires : tie.Need-read-instance-requires
+read-instance-requires c κs = search needs
 
-planned-length : (c : tie.After-plan) → length (c .plan .last .1 .0) ≡ c .before .before .before .before .words-of-bytes .result
-planned-length c = c .plan .kept .1 .0 ∙ length-take-le _ _ (omega arith)
+enum-known-verdict : tie.Need-enum-known-verdict
+enum-known-verdict c = search needs
 
-slice-aggregate-words-of-bytes : tie.Need-slice-aggregate-words-of-bytes
-slice-aggregate-words-of-bytes c = search needs
+returns : tie.Need-returns
+returns c = refused-words-outcome _ _ _ (refused-read-refuses-words _ _ (c .before .before .before .read-instance .ensures) (c .before .verdict .given .1))
 
-words-of-bytes-requires : tie.Need-words-of-bytes-requires
-words-of-bytes-requires c κs = search needs
+enum-told : tie.Need-enum-told
+enum-told c = search needs
 
-array-borrow-prefix-front : tie.Need-array-borrow-prefix-front
-array-borrow-prefix-front c = search needs
+holds-problem : (c : tie.After-enum-told) → HoldsProblemOf (c .before .before .before .before .before .before .args .words .now) (c .before .before .read-instance .result .instance)
+holds-problem c = accepted-read-holds-problem _ _ (c .before .before .read-instance .ensures) (c .enum-told .given .1)
 
-slice-aggregate-plan : tie.Need-slice-aggregate-plan
-slice-aggregate-plan c = sym (length-take-le _ _ (omega arith))
+returns-2 : tie.Need-returns-2
+returns-2 c = short-plan-outcome _ _ (holds-problem (c .before)) _ _ (c .if1 .taken)
 
-plan-requires : tie.Need-plan-requires
-plan-requires c κs = search needs
-
-array-share-prefix-front : tie.Need-array-share-prefix-front
-array-share-prefix-front c = simp length-append (omega (arith, planned-length (c .before .before .before)))
-
-slice-aggregate-bytes-of-words : tie.Need-slice-aggregate-bytes-of-words
-slice-aggregate-bytes-of-words c = sym (length-take-le _ _ (array-share-prefix-front (c .before)))
-
-bytes-of-words-requires : tie.Need-bytes-of-words-requires
-bytes-of-words-requires c κs = let copied = c .before .before .before .before .before .before .before .before .before .words-of-bytes .ensures in
-    let planned = c .before .before .before .before .before .plan .ensures in
-    let bytes = planned-is-bytes _ _ _ (copied .0) _ _ _ _ (copied .1) (lit≤ tt) _ _ (planned .1 .0) (planned-length (c .before .before .before .before .before)) (lent-is-bytes (c .before .before .before .before .before .before .before .before .before .before .before .before .before)) in
-    (bytes, omega (arith, slice-aggregate-bytes-of-words (c .before), copied .0))
+plan-with-room-requires : tie.Need-plan-with-room-requires
+plan-with-room-requires c κs = room-for-plan _ _ (holds-problem (c .before .before .before)) _ (c .before .before .if1 .left)
 
 same-length : tie.Need-same-length
 same-length c = search needs
@@ -49,25 +31,19 @@ same-length c = search needs
 same-length-2 : tie.Need-same-length-2
 same-length-2 c = search needs
 
-returns : tie.Need-returns
-returns c = let copied = c .before .before .before .before .before .before .before .before .before .before .before .before .words-of-bytes .ensures in
-    let planned = c .before .before .before .before .before .before .before .before .plan .ensures in
-    let whole = copied-plan-is-planned _ _ _ (copied .0) _ _ _ _ (copied .1) (lit≤ tt) in
-    let written = planned-is-written _ _ _ (copied .0) _ _ _ _ (copied .1) (lit≤ tt) _ _ (planned .1 .0) (planned-length (c .before .before .before .before .before .before .before .before)) _ (c .before .before .bytes-of-words .ensures) in
-    (planned .0 ∙ ap (λ (o : PlanOutcome). o .answer) whole, (written, planned .1 .1 .0 ∙ ap (λ (o : PlanOutcome). o .table) whole))
+returns-3 : tie.Need-returns-3
+returns-3 c = search needs
 
 pub plan-words-spec : {M : Type 1} → statement M
 plan-words-spec =
     tie.close
     (tie.spec
-    slice-aggregate-words-of-bytes
-    words-of-bytes-requires
-    array-borrow-prefix-front
-    slice-aggregate-plan
-    plan-requires
-    array-share-prefix-front
-    slice-aggregate-bytes-of-words
-    bytes-of-words-requires
+    read-instance-requires
+    enum-known-verdict
+    returns
+    enum-told
+    returns-2
+    plan-with-room-requires
     same-length
     same-length-2
-    returns)
+    returns-3)
