@@ -22,9 +22,9 @@ pub record Holds (m : ℕ) (value : Value) (c k : ℕ) : Type 0 where
   pub is : valueOf c k ≡ value
   pub small : Small m c k
 
--- entry x is that of no set that is filled in
-abbrev pub Elsewhere : (bit index x : ℕ) → Type 0
-Elsewhere bit index x = (k : ℕ) → x ≡ k * bit + index → ⊥
+-- entry x is that of none of the first n sets
+abbrev pub Elsewhere : (n bit index x : ℕ) → Type 0
+Elsewhere n bit index x = (k : ℕ) → k < n → x ≡ k * bit + index → ⊥
 
 -- the entries of the sets without the next item, and of those with it
 
@@ -41,19 +41,21 @@ with-is-not-without q k bit index some e = go (lt-or-le k q)
     go (inl less) = omega (arith, suc-mul k (bit * 2), mul-le-mul-right (bit * 2) less)
     go (inr le) = omega (arith, mul-le-mul-right (bit * 2) le)
 
-elsewhere-without : (bit index : ℕ) {x : ℕ} → Elsewhere bit index x → Elsewhere (bit * 2) index x
-elsewhere-without bit index apart q e = apart (q * 2) (e ∙ sym (without-place q bit index))
+elsewhere-without : (ahead bit index : ℕ) {x : ℕ} → Elsewhere (2 ^ suc ahead) bit index x → Elsewhere (2 ^ ahead) (bit * 2) index x
+elsewhere-without ahead bit index apart q under e =
+    apart (q * 2) (omega (arith, pow-suc 2 ahead)) (e ∙ sym (without-place q bit index))
 
-elsewhere-with : (bit index : ℕ) {x : ℕ} → Elsewhere bit index x → Elsewhere (bit * 2) (index + bit) x
-elsewhere-with bit index apart q e = apart (q * 2 + 1) (e ∙ sym (with-place q bit index))
+elsewhere-with : (ahead bit index : ℕ) {x : ℕ} → Elsewhere (2 ^ suc ahead) bit index x → Elsewhere (2 ^ ahead) (bit * 2) (index + bit) x
+elsewhere-with ahead bit index apart q under e =
+    apart (q * 2 + 1) (omega (arith, pow-suc 2 ahead)) (e ∙ sym (with-place q bit index))
 
 module _ (levels capacity : ℕ) (item : ℕ → Item) where
-  -- the entries of the first n sets are filled in
+  -- the entries of the first n sets are filled in, and no others
   pub record FilledTo (n ahead places bit index : ℕ) (rest : ℕ → Value) (costs₀ keys₀ costs keys : List ℕ) : Type 0 where
     pub entries : (k : ℕ) → k < n →
         Holds (ahead + places) (knapsackBefore levels item ahead places k rest capacity) (getD costs (k * bit + index) 0) (getD keys (k * bit + index) 0)
-    pub other-costs : (x : ℕ) → Elsewhere bit index x → getD costs x 0 ≡ getD costs₀ x 0
-    pub other-keys : (x : ℕ) → Elsewhere bit index x → getD keys x 0 ≡ getD keys₀ x 0
+    pub other-costs : (x : ℕ) → Elsewhere n bit index x → getD costs x 0 ≡ getD costs₀ x 0
+    pub other-keys : (x : ℕ) → Elsewhere n bit index x → getD keys x 0 ≡ getD keys₀ x 0
 
   abbrev pub Filled : (ahead places bit index : ℕ) (rest : ℕ → Value) (costs₀ keys₀ costs keys : List ℕ) → Type 0
   Filled ahead = FilledTo (2 ^ ahead) ahead
@@ -72,8 +74,10 @@ module _ (levels capacity : ℕ) (item : ℕ → Item) where
   one-more-filled {n} {ahead} {places} {bit} {index} {c} {j} {rest} {costs = costs} {keys} some in-costs in-keys filled holds =
       record {
         entries = λ k under. go k under (lt-or-le k n);
-        other-costs = λ x apart. getD-set-other costs _ x c 0 (λ e. apart n e) ∙ filled .other-costs x apart;
-        other-keys = λ x apart. getD-set-other keys _ x j 0 (λ e. apart n e) ∙ filled .other-keys x apart;
+        other-costs = λ x apart.
+            getD-set-other costs _ x c 0 (λ e. apart n (omega arith) e) ∙ filled .other-costs x (λ k less e. apart k (omega arith) e);
+        other-keys = λ x apart.
+            getD-set-other keys _ x j 0 (λ e. apart n (omega arith) e) ∙ filled .other-keys x (λ k less e. apart k (omega arith) e);
       }
     where
       place : ℕ
@@ -118,13 +122,13 @@ module _ (levels capacity : ℕ) (item : ℕ → Item) where
       record {
         entries = λ k under. go k under (hasLast k) refl;
         other-costs = λ x apart.
-            with .other-costs x (elsewhere-with bit index apart) ∙ without .other-costs x (elsewhere-without bit index apart);
+            with .other-costs x (elsewhere-with ahead bit index apart) ∙ without .other-costs x (elsewhere-without ahead bit index apart);
         other-keys = λ x apart.
-            with .other-keys x (elsewhere-with bit index apart) ∙ without .other-keys x (elsewhere-without bit index apart);
+            with .other-keys x (elsewhere-with ahead bit index apart) ∙ without .other-keys x (elsewhere-without ahead bit index apart);
       }
     where
-      stays : (q : ℕ) → Elsewhere (bit * 2) (index + bit) (q * (bit * 2) + index)
-      stays q k e = with-is-not-without q k bit index some e
+      stays : (q : ℕ) → Elsewhere (2 ^ ahead) (bit * 2) (index + bit) (q * (bit * 2) + index)
+      stays q k under e = with-is-not-without q k bit index some e
 
       go : (k : ℕ) → k < 2 ^ suc ahead → (b : Bool) → hasLast k ≡ b →
           Holds (suc ahead + places) (knapsackBefore levels item (suc ahead) places k rest capacity) (getD costs (k * bit + index) 0) (getD keys (k * bit + index) 0)

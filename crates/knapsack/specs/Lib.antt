@@ -1,4 +1,5 @@
 pub mod Worths
+pub mod WorthLaws
 pub mod KnapsackSteps
 pub mod SetNumberLaws
 pub mod FrontKnapsacks

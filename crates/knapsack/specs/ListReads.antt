@@ -14,9 +14,10 @@ use Rattle.assignment.specs.Offered.{mostItems}
 use Rattle.knapsack.specs.PointLaws.{leastListed-more}
 use Rattle.assignment.specs.Knapsacks.{keyBase}
 use Rattle.knapsack.specs.KnapsackWords.{Small, KnapsackHeld, knapsackOf}
-use Rattle.assignment.specs.Values.{Value, leastBelow, lesser}
+use Rattle.assignment.specs.Values.{Value, leastBelow}
 use Rattle.assignment.specs.Words.{noCost, words-none, words-pair, words-add, words-lesser-first}
-use Rattle.knapsack.specs.Worths.{worthOf}
+use Rattle.knapsack.specs.WorthLaws.{lesserWorth-either, lesserWorth-value}
+use Rattle.knapsack.specs.Worths.{lesserWorth, worthOf}
 use Rattle.knapsack.specs.declared.value.Worth.{Worth}
 
 -- the entries from `from` to `to` are n items' choices for f, in front of the `places` items of the knapsack
@@ -95,6 +96,9 @@ module _ {capacity from to : ℕ} {points knapsackCosts knapsackKeys : List ℕ}
 
     module _ {best : Worth}
         (least : Holds (n + places) (leastListed points from (p - from) (knapsackOf knapsackCosts knapsackKeys) capacity) (best .cost) (best .key)) where
+      abbrev nextBest : Worth
+      nextBest = lesserWorth best (pointWorth capacity p points knapsackCosts knapsackKeys)
+
       dearer-holds : best .cost < pointWorth capacity p points knapsackCosts knapsackKeys .cost →
           Holds (n + places) (leastListed points from (suc p - from) (knapsackOf knapsackCosts knapsackKeys) capacity) (best .cost) (best .key)
       dearer-holds dear =
@@ -103,17 +107,18 @@ module _ {capacity from to : ℕ} {points knapsackCosts knapsackKeys : List ℕ}
             small = least .small;
           }
 
-      lesser-holds : {next : Worth} → pointWorth capacity p points knapsackCosts knapsackKeys .cost ≤ best .cost →
-          worthOf next ≡ lesser (worthOf best) (worthOf (pointWorth capacity p points knapsackCosts knapsackKeys)) →
-          (next ≡ best) ⊎ (next ≡ pointWorth capacity p points knapsackCosts knapsackKeys) →
-          Holds (n + places) (leastListed points from (suc p - from) (knapsackOf knapsackCosts knapsackKeys) capacity) (next .cost) (next .key)
-      lesser-holds {next} cheap is-lesser either =
+      lesser-holds : pointWorth capacity p points knapsackCosts knapsackKeys .cost ≤ best .cost →
+          Holds (n + places) (leastListed points from (suc p - from) (knapsackOf knapsackCosts knapsackKeys) capacity) (nextBest .cost) (nextBest .key)
+      lesser-holds cheap =
           record {
-            is = rw (leastListed-more points (knapsackOf knapsackCosts knapsackKeys) capacity lower, point-value, ← least .is) is-lesser;
-            small = go either;
+            is =
+                rw (leastListed-more points (knapsackOf knapsackCosts knapsackKeys) capacity lower, point-value, ← least .is)
+                (lesserWorth-value best (pointWorth capacity p points knapsackCosts knapsackKeys));
+            small = go (lesserWorth-either best (pointWorth capacity p points knapsackCosts knapsackKeys));
           }
         where
-          go : (next ≡ best) ⊎ (next ≡ pointWorth capacity p points knapsackCosts knapsackKeys) → Small (n + places) (next .cost) (next .key)
+          go : (nextBest ≡ best) ⊎ (nextBest ≡ pointWorth capacity p points knapsackCosts knapsackKeys) →
+              Small (n + places) (nextBest .cost) (nextBest .key)
           go (inl e) = rw e (least .small)
           go (inr e) =
               rw e
@@ -129,12 +134,10 @@ module _ {capacity from to : ℕ} {points knapsackCosts knapsackKeys : List ℕ}
         LeastTo capacity from to points knapsackCosts knapsackKeys (suc p) best
     least-if-dearer dear n places f read = dearer-holds read lower under (least n places f read) dear
 
-    pub least-if-cheap : {next : Worth} → pointWorth capacity p points knapsackCosts knapsackKeys .cost ≤ best .cost →
-        worthOf next ≡ lesser (worthOf best) (worthOf (pointWorth capacity p points knapsackCosts knapsackKeys)) →
-        (next ≡ best) ⊎ (next ≡ pointWorth capacity p points knapsackCosts knapsackKeys) →
-        LeastTo capacity from to points knapsackCosts knapsackKeys (suc p) next
-    least-if-cheap cheap is-lesser either n places f read =
-        lesser-holds read lower under (least n places f read) cheap is-lesser either
+    pub least-if-cheap : pointWorth capacity p points knapsackCosts knapsackKeys .cost ≤ best .cost →
+        LeastTo capacity from to points knapsackCosts knapsackKeys (suc p)
+        (lesserWorth best (pointWorth capacity p points knapsackCosts knapsackKeys))
+    least-if-cheap cheap n places f read = lesser-holds read lower under (least n places f read) cheap
 
   -- after the last entry it is the knapsack's value
   pub least-of-all : {best : Worth} → LeastTo capacity from to points knapsackCosts knapsackKeys to best → (n places : ℕ)

@@ -1,7 +1,6 @@
 -- The entries that come before all of smaller load, gathered to a list, one load after the other.
 use Prim.Native.Nat.{ℕ, _+_, _*_, _-_, _≤_, _<_}
 use mathlib.Core.Path.{_≡_}
-use mathlib.Core.Logic.{_⊎_}
 use mathlib.Core.List.{List}
 use lib.ListN.{length, getD, set}
 use Rattle.knapsack.specs.Listed.{Falling, pointAt, leastListed, PointSmall, Listed}
@@ -11,10 +10,6 @@ use Rattle.assignment.specs.Words.{noCost}
 use Rattle.knapsack.specs.Worths.{worthOf}
 use Rattle.knapsack.specs.declared.value.Worth.{Worth}
 use Rattle.assignment.specs.Entries.{entryAt}
-
--- a comes before b
-abbrev pub First : Worth → Worth → Type 0
-First a b = (a .cost < b .cost) ⊎ ((a .cost ≡ b .cost) × (a .key < b .key))
 
 -- the list with entry p
 unfoldable pub withPoint : List ℕ → (p load : ℕ) → Worth → List ℕ

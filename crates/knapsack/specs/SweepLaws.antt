@@ -12,11 +12,12 @@ use Rattle.knapsack.specs.Listed.{before, Falling, pointAt, leastListed,
 use Rattle.knapsack.specs.PointLaws.{leastListed-alike, leastListed-more, point-alike, with-point-older, with-point-there}
 use Rattle.knapsack.specs.Spread.{valueBefore, leastSpread, Sound, present, AllSound}
 use Rattle.knapsack.specs.SpreadLaws.{none-before}
-use Rattle.knapsack.specs.Sweep.{First, withPoint, Older, Gathered, Swept}
+use Rattle.knapsack.specs.Sweep.{withPoint, Older, Gathered, Swept}
 use Rattle.assignment.specs.ValueLaws.{atMost-refl, atMost-trans, add-mono, lesser-second, lesser-is-first}
 use Rattle.assignment.specs.Values.{Value, pair, lesser, leastBelow, AtMost, to-none}
 use Rattle.assignment.specs.Words.{noCost, words-none, words-pair, words-atMost}
-use Rattle.knapsack.specs.Worths.{worthOf}
+use Rattle.knapsack.specs.WorthLaws.{not-first}
+use Rattle.knapsack.specs.Worths.{First, worthOf}
 use Rattle.knapsack.specs.declared.relaxing.Choice.{Choice}
 use Rattle.knapsack.specs.declared.value.Worth.{Worth}
 use Rattle.assignment.specs.Entries.{entryAt}
@@ -42,16 +43,6 @@ valueBefore-mono {a} {b} u rest w order = go (lt-or-le w u)
     go : (w < u) ⊎ (u ≤ w) → AtMost (valueBefore u a rest w) (valueBefore u b rest w)
     go (inl over) = rw (lt-leb u w over) to-none
     go (inr room) = rw (le-leb u w room) (add-mono order (atMost-refl _))
-
-pub not-first : {a b : Worth} → ¬ (First a b) → (b .cost < a .cost) ⊎ ((b .cost ≡ a .cost) × (b .key ≤ a .key))
-not-first {a} {b} later = go (lt-or-le (b .cost) (a .cost)) (lt-or-le (a .cost) (b .cost)) (lt-or-le (a .key) (b .key))
-  where
-    go : (b .cost < a .cost) ⊎ (a .cost ≤ b .cost) → (a .cost < b .cost) ⊎ (b .cost ≤ a .cost) →
-        (a .key < b .key) ⊎ (b .key ≤ a .key) → (b .cost < a .cost) ⊎ ((b .cost ≡ a .cost) × (b .key ≤ a .key))
-    go (inl dearer) cheap key = inl dearer
-    go (inr le) (inl cheap) key = absurd (later (inl cheap))
-    go (inr le) (inr ge) (inl less) = absurd (later (inr (omega arith, less)))
-    go (inr le) (inr ge) (inr key) = inr (omega arith, key)
 
 module _ {capacity from : ℕ} {costs keys : List ℕ} where
   pub gathered-none : (points : List ℕ) (best : Worth) → best .cost ≡ noCost → best .key ≡ 0 →

@@ -10,7 +10,7 @@ use Rattle.knapsack.specs.Branches.{BranchFits}
 use Rattle.knapsack.specs.FallingLaws.{falling-flat}
 use Rattle.knapsack.specs.Listed.{FrontListed}
 use Rattle.assignment.specs.Offered.{mostItems, Affordable, knapsackItem, itemsOf}
-use Rattle.knapsack.specs.FilledTables.{Holds, Filled, filled-same}
+use Rattle.knapsack.specs.FilledTables.{Elsewhere, Holds, Filled, filled-same}
 use Rattle.knapsack.specs.RelaxedItems.{FlatKnapsack}
 use Rattle.assignment.specs.Knapsacks.{keyBase, knapsack}
 use Rattle.knapsack.specs.KnapsackSteps.{knapsackBefore}
@@ -28,23 +28,30 @@ pub record KnapsacksFit (n levels capacity : ℕ) (load cost costs keys : List �
   pub costs-for-all : 2 ^ n ≤ length costs
   pub keys-for-all : 2 ^ n ≤ length keys
 
--- the tables have the knapsack of every set at the whole capacity
-abbrev pub KnapsacksFilled : (n levels capacity : ℕ) (load cost costs keys : List ℕ) → Type 0
-KnapsacksFilled n levels capacity load cost costs keys =
-    (refusal : List ℕ) (must : List Bool) →
-    Tabled n (keyBase ^ n) (λ S. knapsack levels (itemsOf load cost refusal must n) S capacity) costs keys
+-- the buffer is as long as before, and its entries from n on are as they were
+pub record SameFrom (n : ℕ) (before after : List ℕ) : Type 0 where
+  pub same-length : length after ≡ length before
+  pub as-before : (x : ℕ) → n ≤ x → getD after x 0 ≡ getD before x 0
+
+-- the tables have the knapsack of every set at the whole capacity, and nothing else is written
+pub record KnapsacksFilled (n levels capacity : ℕ) (load cost costs₀ keys₀ costs keys : List ℕ) : Type 0 where
+  pub tabled : (refusal : List ℕ) (must : List Bool) →
+      Tabled n (keyBase ^ n) (λ S. knapsack levels (itemsOf load cost refusal must n) S capacity) costs keys
+  pub other-costs : SameFrom (2 ^ n) costs₀ costs
+  pub other-keys : SameFrom (2 ^ n) keys₀ keys
 
 -- the knapsacks are filled where they fit, and else the tables stay as they are
 abbrev pub KnapsacksOutcome : (n levels capacity : ℕ) (load cost costs keys costs' keys' : List ℕ) → Bool → Type 0
 KnapsacksOutcome n levels capacity load cost costs keys costs' keys' true =
-    KnapsacksFit n levels capacity load cost costs keys × KnapsacksFilled n levels capacity load cost costs' keys'
+    KnapsacksFit n levels capacity load cost costs keys × KnapsacksFilled n levels capacity load cost costs keys costs' keys'
 KnapsacksOutcome n levels capacity load cost costs keys costs' keys' false =
     (¬ KnapsacksFit n levels capacity load cost costs keys) × (costs' ≡ costs) × (keys' ≡ keys)
 
 -- knapsacks that fit are filled
 pub knapsacks-filled : (n levels capacity : ℕ) (load cost costs keys costs' keys' : List ℕ) (answer : Bool) →
     KnapsacksFit n levels capacity load cost costs keys →
-    KnapsacksOutcome n levels capacity load cost costs keys costs' keys' answer → KnapsacksFilled n levels capacity load cost costs' keys'
+    KnapsacksOutcome n levels capacity load cost costs keys costs' keys' answer →
+    KnapsacksFilled n levels capacity load cost costs keys costs' keys'
 knapsacks-filled n levels capacity load cost costs keys costs' keys' true fit told = told .1
 knapsacks-filled n levels capacity load cost costs keys costs' keys' false fit told = absurd (told .0 fit)
 
@@ -97,15 +104,24 @@ module _ {n levels capacity : ℕ} {load cost costs₀ keys₀ emptyCosts emptyK
         let at-last = filled-same levels capacity (knapsackItem load cost) empty-knapsack filled in
         rw (mul-one x, add-zero x, add-zero n) at (at-last .entries x under)
 
-    pub all-sets-tabled : length costs ≡ length costs₀ → length keys ≡ length keys₀ → (refusal : List ℕ) (must : List Bool) →
-        Tabled n (keyBase ^ n) (λ S. knapsack levels (itemsOf load cost refusal must n) S capacity) costs keys
-    all-sets-tabled same-costs same-keys refusal must =
+    -- an entry that is no set's
+    no-set : {x : ℕ} → 2 ^ n ≤ x → Elsewhere (2 ^ n) 1 0 x
+    no-set over k under e = omega arith
+
+    pub all-sets-filled : length costs ≡ length costs₀ → length keys ≡ length keys₀ →
+        KnapsacksFilled n levels capacity load cost costs₀ keys₀ costs keys
+    all-sets-filled same-costs same-keys =
         record {
-          costs-for-all = rw same-costs (fit .costs-for-all);
-          marks-for-all = rw same-keys (fit .keys-for-all);
-          holds = λ S e.
-              entry-of (setNumber n S) (setNumber-below n S) .is
-              ∙ ap (λ (f : ℕ → Value). f capacity) (knapsackBefore-set levels load cost refusal must n S e);
-          cost-bound = λ x under. omega (arith, entry-of x under .small .at-most-none);
-          key-bound = λ x under. entry-of x under .small .digits;
+          tabled = λ refusal must.
+              record {
+                costs-for-all = rw same-costs (fit .costs-for-all);
+                marks-for-all = rw same-keys (fit .keys-for-all);
+                holds = λ S e.
+                    entry-of (setNumber n S) (setNumber-below n S) .is
+                    ∙ ap (λ (f : ℕ → Value). f capacity) (knapsackBefore-set levels load cost refusal must n S e);
+                cost-bound = λ x under. omega (arith, entry-of x under .small .at-most-none);
+                key-bound = λ x under. entry-of x under .small .digits;
+              };
+          other-costs = record { same-length = same-costs; as-before = λ x over. filled .other-costs x (no-set over) };
+          other-keys = record { same-length = same-keys; as-before = λ x over. filled .other-keys x (no-set over) };
         }

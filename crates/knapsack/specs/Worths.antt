@@ -1,7 +1,23 @@
--- The value that two numbers of the code stand for.
+-- The value that two numbers of the code stand for, and which of two such pairs comes first.
+use Prim.Native.Nat.{_<_}
+use mathlib.Core.Path.{_≡_}
+use mathlib.Core.Logic.{_⊎_}
+use mathlib.Core.Bool.{Bool, cond, _&&_, _||_}
+use lib.Dec.{eqb, ltb}
 use Rattle.assignment.specs.Values.{Value}
 use Rattle.assignment.specs.Words.{valueOf}
 use Rattle.knapsack.specs.declared.value.Worth.{Worth}
 
 abbrev pub worthOf : Worth → Value
 worthOf worth = valueOf (worth .cost) (worth .key)
+
+-- a comes before b
+abbrev pub First : Worth → Worth → Type 0
+First a b = (a .cost < b .cost) ⊎ ((a .cost ≡ b .cost) × (a .key < b .key))
+
+unfoldable pub isFirst : Worth → Worth → Bool
+isFirst a b = ltb (a .cost) (b .cost) || (eqb (a .cost) (b .cost) && ltb (a .key) (b .key))
+
+-- b where it comes first, else a: also where both stand for none
+unfoldable pub lesserWorth : Worth → Worth → Worth
+lesserWorth a b = cond (isFirst b a) b a

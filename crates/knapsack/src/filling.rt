@@ -152,7 +152,8 @@ fn fill_with(
 )
     requires { ⌜ KnapsacksFit n (core .levels) (core .capacity) (now load) (now cost) (now costs) (now keys) ⌝ }
     requires { ⌜ 3 ≤ length (now points) ⌝ }
-    ensures { λ _. ⌜ KnapsacksFilled n (core .levels) (core .capacity) (now (load .entry)) (now (cost .entry)) (now (costs .exit)) (now (keys .exit)) ⌝ }
+    ensures { λ _. ⌜ KnapsacksFilled n (core .levels) (core .capacity) (now (load .entry)) (now (cost .entry))
+        (now (costs .entry)) (now (keys .entry)) (now (costs .exit)) (now (keys .exit)) ⌝ }
 {
     let mut starts = [0usize; STARTS];
     let listed = list_front(core, n, load, cost, points, &mut starts);
@@ -183,7 +184,8 @@ fn fill_with(
 // The same, with as much room as the items may need.
 fn fill_all(core: Core, n: usize, load: &[u64], cost: &[u64], costs: &mut [u64], keys: &mut [u64])
     requires { ⌜ KnapsacksFit n (core .levels) (core .capacity) (now load) (now cost) (now costs) (now keys) ⌝ }
-    ensures { λ _. ⌜ KnapsacksFilled n (core .levels) (core .capacity) (now (load .entry)) (now (cost .entry)) (now (costs .exit)) (now (keys .exit)) ⌝ }
+    ensures { λ _. ⌜ KnapsacksFilled n (core .levels) (core .capacity) (now (load .entry)) (now (cost .entry))
+        (now (costs .entry)) (now (keys .entry)) (now (costs .exit)) (now (keys .exit)) ⌝ }
 {
     if n <= 2 {
         let mut points = [0u64; FEW_POINTS];

@@ -21,8 +21,8 @@ ghost use Rattle.knapsack.specs.ListedFront.{frontAt, ListsFit, nothing}
 ghost use Rattle.knapsack.specs.ListedSets.{Enough, NextSetFits, SetAdded, SetFits, SetsFit, SetsGoing, Short, WithItem};
 ghost use Rattle.assignment.specs.Offered.{Affordable};
 ghost use Rattle.knapsack.specs.Spread.{Cleared, ItemFits, ItemSpread, LevelSpread, Long, SumsSmall};
-ghost use Rattle.knapsack.specs.Sweep.{First, Swept, withPoint};
-ghost use Rattle.knapsack.specs.Worths.{worthOf};
+ghost use Rattle.knapsack.specs.Sweep.{Swept, withPoint};
+ghost use Rattle.knapsack.specs.Worths.{First, worthOf};
 ghost use Rattle.assignment.specs.Entries.{Lowered};
 ghost use Rattle.laws.specs.Tests.{Decides};
 

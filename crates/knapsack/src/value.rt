@@ -1,8 +1,6 @@
 // What a part of a plan is worth.
 ghost use mathlib.Core.Path.{_≡_};
-ghost use mathlib.Core.Logic.{_⊎_};
-ghost use Rattle.assignment.specs.Values as values;
-ghost use Rattle.knapsack.specs.Worths.{worthOf};
+ghost use Rattle.knapsack.specs.Worths.{lesserWorth};
 
 // 2^62: a cost from here on stands for none.
 pub const NO_COST: u64 = 0x4000_0000_0000_0000;
@@ -15,8 +13,7 @@ pub struct Worth {
 
 // The cheaper of the two, of equal costs the one with the smaller key, and the first where both are equal.
 pub fn lesser(a: Worth, b: Worth) -> Worth
-    ensures value { λ r. ⌜ worthOf r ≡ values.lesser (worthOf a) (worthOf b) ⌝ }
-    ensures either { λ r. ⌜ (r ≡ a) ⊎ (r ≡ b) ⌝ }
+    ensures { λ r. ⌜ r ≡ lesserWorth a b ⌝ }
 {
     if a.cost < b.cost {
         return a;

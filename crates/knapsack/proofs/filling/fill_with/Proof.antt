@@ -2,7 +2,7 @@
 use native.Mathlib.Nat.{le-refl}
 use borrow.Author.Needs.{needs}
 use Rattle.knapsack.specs.RelaxedItems.{flat-knapsack}
-use Rattle.knapsack.specs.TabledKnapsacks.{all-sets-fit, all-sets-tabled}
+use Rattle.knapsack.specs.TabledKnapsacks.{all-sets-fit, all-sets-filled}
 use Rattle.knapsack.proofs.filling.fill_with.Statement.{statement}
 use Rattle.knapsack.proofs.filling.fill_with.Tie as tie
 
@@ -49,7 +49,7 @@ returns : tie.Need-returns
 returns c =
     let fit = c .before .before .before .before .before .before .before .before .before .before .before .before .before .before .before .before .before .before .before .before .before .before .pre .0 in
     let called = c .before .before .before .before .fill in
-    all-sets-tabled fit (flat-knapsack 0 0 _ (fit .affordable .capacity-limited)) (called .ensures) (called .kept .1 .1 .1 .1 .1 .1 .1 .1 .0) (called .kept .1 .1 .1 .1 .1 .1 .1 .1 .1 .0)
+    all-sets-filled fit (flat-knapsack 0 0 _ (fit .affordable .capacity-limited)) (called .ensures) (called .kept .1 .1 .1 .1 .1 .1 .1 .1 .0) (called .kept .1 .1 .1 .1 .1 .1 .1 .1 .1 .0)
 
 pub fill-with-spec : {M : Type 1} → statement M
 fill-with-spec =

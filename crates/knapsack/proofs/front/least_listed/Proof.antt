@@ -121,7 +121,7 @@ loop-again c =
       omega arith,
       rw add-one
           (⊎-elim
-          (λ took. rw (took .4) (least-if-cheap lower (omega arith) least (took .0 .taken) (took .3 .ensures .0) (took .3 .ensures .1)))
+          (λ took. rw (took .4, took .3 .ensures) (least-if-cheap lower (omega arith) least (took .0 .taken)))
           (λ over. rw (over .1) (least-if-dearer lower (omega arith) least (over .0 .left)))
           (c .if1 .came)),
     )

@@ -1,7 +1,7 @@
 -- `lower` stores a worth that comes first.
 use native.Mathlib.Omega.{arith}
 use Rattle.assignment.specs.LowerLaws.{lowered-first, lowered-nothing}
-use Rattle.knapsack.specs.SweepLaws.{not-first}
+use Rattle.knapsack.specs.WorthLaws.{not-first}
 use borrow.Author.Needs.{needs}
 use Rattle.knapsack.proofs.lists.lower.Statement.{statement}
 use Rattle.knapsack.proofs.lists.lower.Tie as tie

@@ -31,7 +31,7 @@ least-of-knapsacks-requires c κs =
     record {
       load = now (a .load);
       cost = now (a .cost);
-      knapsacks-offered = record { offer = c .before .before .before .before .before .before .before .before .before .before .before .pre; held = knapsacks-filled _ _ _ _ _ _ _ _ _ (c .before .before .before .before .fill-knapsacks .result) (knapsacks-fit (c .before .before .before .before .before .before .before .before .before .before .before .pre .limits) (le-refl 4096) (le-refl 4096)) (c .before .before .before .before .fill-knapsacks .ensures) (now (a .refusal)) (now (a .must)) };
+      knapsacks-offered = record { offer = c .before .before .before .before .before .before .before .before .before .before .before .pre; held = knapsacks-filled _ _ _ _ _ _ _ _ _ (c .before .before .before .before .fill-knapsacks .result) (knapsacks-fit (c .before .before .before .before .before .before .before .before .before .before .before .pre .limits) (le-refl 4096) (le-refl 4096)) (c .before .before .before .before .fill-knapsacks .ensures) .tabled (now (a .refusal)) (now (a .must)) };
     }
 
 returns : tie.Need-returns
@@ -39,7 +39,7 @@ unfolding optionsOf offered
 returns c =
     let a = c .before .before .before .before .before .before .before .before .before .before .before .before .args in
     c .least-of-knapsacks .ensures (now (a .load)) (now (a .cost))
-    record { offer = c .before .before .before .before .before .before .before .before .before .before .before .before .pre; held = knapsacks-filled _ _ _ _ _ _ _ _ _ (c .before .before .before .before .before .fill-knapsacks .result) (knapsacks-fit (c .before .before .before .before .before .before .before .before .before .before .before .before .pre .limits) (le-refl 4096) (le-refl 4096)) (c .before .before .before .before .before .fill-knapsacks .ensures) (now (a .refusal)) (now (a .must)) }
+    record { offer = c .before .before .before .before .before .before .before .before .before .before .before .before .pre; held = knapsacks-filled _ _ _ _ _ _ _ _ _ (c .before .before .before .before .before .fill-knapsacks .result) (knapsacks-fit (c .before .before .before .before .before .before .before .before .before .before .before .before .pre .limits) (le-refl 4096) (le-refl 4096)) (c .before .before .before .before .before .fill-knapsacks .ensures) .tabled (now (a .refusal)) (now (a .must)) }
 
 pub least-plan-spec : {M : Type 1} → statement M
 least-plan-spec =

@@ -1,11 +1,13 @@
 -- `least_parted` takes the lesser of two calls: with the next item in the one part, and in the other. The measure is the number of ways.
 use Prim.Native.Nat.{_/_, ℕ, _<_}
-use mathlib.Core.Path.{ap₂, sym, _∙_}
+use mathlib.Core.Path.{ap, ap₂, sym, _∙_}
 use native.Mathlib.Omega.{arith}
 use denote.Ref.{now}
 use borrow.Author.Needs.{needs}
 use Rattle.assignment.specs.Values.{lesser}
 use Rattle.assignment.specs.Words.{valueOf}
+use Rattle.knapsack.specs.WorthLaws.{lesserWorth-value}
+use Rattle.knapsack.specs.Worths.{worthOf}
 use Rattle.search.specs.Splits.{sumAt}
 use Rattle.search.specs.SplitLaws.{first-sums-fit, half-is-power}
 use Rattle.search.specs.PartedLaws.{parted-nothing, parted-either, half-of-parts, in-top-ready, in-rest-ready}
@@ -105,7 +107,7 @@ least-parted-returns-2 t c =
     λ k is-power.
     let (j, e, half) = half-is-power k is-power (c .before .before .before .if1 .left) in
     rw e
-    (c .lesser .ensures .0 ∙ ap₂ lesser (c .before .before .least-parted .ensures j half) (c .before .least-parted2 .ensures j half)
+    (ap worthOf (c .lesser .ensures) ∙ lesserWorth-value _ _ ∙ ap₂ lesser (c .before .before .least-parted .ensures j half) (c .before .least-parted2 .ensures j half)
     ∙ parted-either (sumAt (now (a .tops)) (now (a .topkeys)) (now (a .costs)) (now (a .keys))) (a .t) (a .r) j (a .size / 2) half)
 
 pub +least-parted-spec : {M : Type 1} → statement M
