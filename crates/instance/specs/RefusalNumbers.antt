@@ -15,17 +15,8 @@ use Rattle.instance.specs.declared.Verdict.the-variants.{Accepted, Refus
 
 pub numbers-and-places : (place : ℕ) →
     map (λ (r : Refusal). answerOf (Refused r)) (refusalsAt place)
-    ≡ answer 1 place
-    ∷ answer 2 place
-    ∷ answer 3 place
-    ∷ answer 4 place
-    ∷ answer 5 0
-    ∷ answer 6 place
-    ∷ answer 7 place
-    ∷ answer 8 place
-    ∷ answer 9 place
-    ∷ answer 10 place
-    ∷ []
+    ≡ answer 1 place ∷ answer 2 place ∷ answer 3 place ∷ answer 4 place ∷ answer 5 0
+    ∷ answer 6 place ∷ answer 7 place ∷ answer 8 place ∷ answer 9 place ∷ answer 10 place ∷ []
 numbers-and-places place = refl
 
 is-at : (rs : List Refusal) (k : ℕ) → k < length rs → List·Memᴰ (getD rs k NoPlan) rs

@@ -46,17 +46,8 @@ placeOf (JobSlots place) = place
 -- every case of a refusal, with one place for all that have one
 abbrev pub refusalsAt : ℕ → List Refusal
 refusalsAt place =
-    Text place
-    ∷ WordCount place
-    ∷ WordRange place
-    ∷ SpanTooLong place
-    ∷ NoPlan
-    ∷ ShortBuffer place
-    ∷ GivenPlan place
-    ∷ CoreOverloaded place
-    ∷ GivenTable place
-    ∷ JobSlots place
-    ∷ []
+    Text place ∷ WordCount place ∷ WordRange place ∷ SpanTooLong place ∷ NoPlan
+    ∷ ShortBuffer place ∷ GivenPlan place ∷ CoreOverloaded place ∷ GivenTable place ∷ JobSlots place ∷ []
 
 -- the columns "Returned" and "Place returned with it"
 pub record Answer : Type 0 where

@@ -58,30 +58,11 @@ use Rattle.planner.specs.Planning.{bestPlan}
 pub record RefusalsExact : Type 0 where
   -- 'Refused input', row by row: "Returned" and "Place returned with it" of every refusal
   pub numbers-and-places : (place : ℕ) →
-      map (λ (r : Refusal). answerOf (Refused r)) (
-      Text place
-      ∷ WordCount place
-      ∷ WordRange place
-      ∷ SpanTooLong place
-      ∷ NoPlan
-      ∷ ShortBuffer place
-      ∷ GivenPlan place
-      ∷ CoreOverloaded place
-      ∷ GivenTable place
-      ∷ JobSlots place
-      ∷ []
-      )
-      ≡ answer 1 place
-      ∷ answer 2 place
-      ∷ answer 3 place
-      ∷ answer 4 place
-      ∷ answer 5 0
-      ∷ answer 6 place
-      ∷ answer 7 place
-      ∷ answer 8 place
-      ∷ answer 9 place
-      ∷ answer 10 place
-      ∷ []
+      map (λ (r : Refusal). answerOf (Refused r))
+      (Text place ∷ WordCount place ∷ WordRange place ∷ SpanTooLong place ∷ NoPlan
+      ∷ ShortBuffer place ∷ GivenPlan place ∷ CoreOverloaded place ∷ GivenTable place ∷ JobSlots place ∷ [])
+      ≡ answer 1 place ∷ answer 2 place ∷ answer 3 place ∷ answer 4 place ∷ answer 5 0
+      ∷ answer 6 place ∷ answer 7 place ∷ answer 8 place ∷ answer 9 place ∷ answer 10 place ∷ []
   pub no-other-refusals : (r : Refusal) → List·Memᴰ r (refusalsAt (placeOf r))
   -- "Turning text into words: 1, then 6."
   pub text : (text words : List ℕ) → let o = wordsOutcome text words in TextEnds text words (o .answer) (o .words)
