@@ -23,7 +23,7 @@ unread-if : (t : Bool) (place : ℕ) (words : List ℕ) →
 unread-if true place words = unread (List·Memᴰ·head refl)
 unread-if false place words = read words
 
-text-refuses-1 : (text : List ℕ) → UnreadOnly (1 ∷ []) (wordsOf text)
+pub text-refuses-1 : (text : List ℕ) → UnreadOnly (1 ∷ []) (wordsOf text)
 unfolding wordsOf
 text-refuses-1 text = unread-if (ltb (firstFault false _) (length text)) _ _
 

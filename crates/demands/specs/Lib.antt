@@ -1,0 +1,3 @@
+pub mod TextCalls
+pub mod TextCallLaws
+pub mod TextDemands

@@ -1,0 +1,81 @@
+-- What is promised of the calls that are given text: planning and the check from C, and the listing. "In any other call that
+-- is given text, 1 comes before all the rest."
+use Prim.Native.Nat.{ℕ}
+use mathlib.Core.List.{List, [], _∷_}
+use mathlib.Core.Logic.{_↔_}
+use mathlib.Core.Path.{_≡_}
+use Rattle.instance.specs.Endings.{lent, Ends, readThen, neededFor}
+use Rattle.instance.specs.Node.{Problem, taskCount}
+use Rattle.instance.specs.Refusals.{Answer, answer, accepted, room, _andThen_}
+use Rattle.instance.specs.SiteFile.{problemOf}
+use Rattle.instance.specs.declared.Refusal.{Refusal}
+use Rattle.instance.specs.declared.Verdict.{Verdict}
+use Rattle.instance.specs.declared.Verdict.the-variants.{Refused}
+use Rattle.text.specs.Text.{wordsOf}
+use Rattle.schedule.specs.Checks.{slotsPass, jobsPass}
+use Rattle.schedule.specs.Outcomes.{priceVerdict}
+use Rattle.schedule.specs.Plans.{choicesPass}
+use Rattle.schedule.specs.Quantities.{priceOf}
+use Rattle.schedule.specs.Tables.{tableOf, tableSize}
+use Rattle.schedule.specs.declared.prices.Priced.{Priced}
+use Rattle.schedule.specs.declared.prices.Priced.the-variants as Priced
+use Rattle.planner.specs.Endings.{planFound}
+use Rattle.planner.specs.Planned.{NoDrawing, BestDrawing}
+use Rattle.planner.specs.Planning.{bestPlan}
+use Rattle.desk.specs.DeskOutcomes.{plannedOf}
+use Rattle.desk.specs.declared.answers.Checked.{Checked}
+use Rattle.desk.specs.declared.answers.Planned.{Planned}
+use Rattle.listings.specs.Listing.{refusalLine, planLines}
+
+-- the text is one of the instance p
+pub record WritesProblem (text : List ℕ) (p : Problem) : Type 0 where
+  pub words : List ℕ
+  pub words-of-text : wordsOf text ≡ accepted words
+  pub problem-of-words : problemOf words ≡ accepted p
+
+-- tests of the instance that a text is: those of the text first, then those of its words
+abbrev pub textThen : List ℕ → (Problem → Verdict) → Verdict
+textThen text tests = readThen (wordsOf text) (λ words. readThen (problemOf words) tests)
+
+-- what a result needs of a buffer, where the text is that of an instance
+abbrev pub neededForText : (Problem → ℕ) → List ℕ → ℕ
+neededForText size text = neededFor (λ words. neededFor size (problemOf words)) (wordsOf text)
+
+-- 1; 2, 3, 4; then 6, the plan's before the table's; then 5
+abbrev pub TextPlanningEnds : List ℕ → List ℕ → List ℕ → Priced → List ℕ → List ℕ → Type 0
+TextPlanningEnds text plan table given planAfter tableAfter =
+    Ends
+    (textThen text (λ p. (room (taskCount p) plan andThen room (tableSize p) table) andThen planFound (bestPlan p)))
+    (1 ∷ 2 ∷ 3 ∷ 4 ∷ 6 ∷ 5 ∷ [])
+    (lent (neededForText taskCount text) plan planAfter ∷ lent (neededForText tableSize text) table tableAfter ∷ [])
+    (priceVerdict given)
+
+-- 1; 2, 3, 4; then 7, 9 and 10
+abbrev pub TextCheckingEnds : List ℕ → List ℕ → List ℕ → Verdict → Type 0
+TextCheckingEnds text plan table =
+    Ends
+    (textThen text (λ p. choicesPass p plan andThen slotsPass p plan table andThen jobsPass p plan table))
+    (1 ∷ 2 ∷ 3 ∷ 4 ∷ 7 ∷ 9 ∷ 10 ∷ [])
+    []
+
+-- number and place in what the C entries return
+abbrev pub answerPlanned : Planned → Answer
+answerPlanned r = answer (r .refusal) (r .place)
+
+abbrev pub answerChecked : Checked → Answer
+answerChecked r = answer (r .refusal) (r .place)
+
+-- Demand 3 of the numbers that planning from C returns, and of the plan and the table that were written with them
+pub record OptimalNumbers (p : Problem) (returned : Planned) (plan table : List ℕ) : Type 0 where
+  -- 5 exactly where there is no drawing
+  pub no-plan : (returned .refusal ≡ 5) ↔ NoDrawing p
+  -- else nothing is refused, and energy, penalty and cost are those of the plan
+  pub otherwise : (returned .refusal ≡ 5 → ⊥) →
+      (returned ≡ plannedOf (Priced.Cost (priceOf p plan))) × BestDrawing p plan table
+
+-- What is printed for a text: "A refusal prints one line", that of the first test that fails, 1, then 2, 3, 4, then 5; else the
+-- lines of a plan that no drawing beats, with its table
+pub data Prints (text : List ℕ) : List ℕ → Type 0 where
+  refusal : (r : Refusal) → textThen text (λ p. planFound (bestPlan p)) ≡ Refused r → Prints text (refusalLine r)
+  plan : (p : Problem) (best : List ℕ) → WritesProblem text p → BestDrawing p best (tableOf p best) →
+      Prints text (planLines p best (tableOf p best))

@@ -1,0 +1,66 @@
+-- The demands of the calls that are given text: `towhepamu_plan` and `towhepamu_check`, which a program in C calls, and
+-- `list_site`, whose bytes the listing program prints. Their contracts equate what they return and write with the outcomes
+-- named here.
+use Prim.Native.Nat.{ℕ, _≤_}
+use mathlib.Core.List.{List}
+use mathlib.Core.Logic.{_↔_}
+use mathlib.Core.Path.{_≡_}
+use lib.ListN.{length, take}
+use Rattle.instance.specs.Node.{Problem, taskCount}
+use Rattle.instance.specs.Refusals.{answerOf}
+use Rattle.schedule.specs.Drawings.{Drawing}
+use Rattle.schedule.specs.Outcomes.{priceVerdict}
+use Rattle.schedule.specs.Tables.{tableSize}
+use Rattle.planner.specs.Demands.{demand-3}
+use Rattle.desk.specs.DeskOutcomes.{plannedOf, checkedOf, textPlanOutcome, textCheckOutcome}
+use Rattle.listings.specs.Listing.{listingOf}
+use Rattle.demands.specs.TextCallLaws.{text-planning-ends, text-checking-ends, planning-returns, checking-returns, optimal-numbers, listing-prints, planned-as-words, checked-as-words, passes-iff}
+use Rattle.demands.specs.TextCalls.{WritesProblem, TextPlanningEnds, TextCheckingEnds, answerPlanned, answerChecked, OptimalNumbers, Prints}
+
+-- Demand 1. Whatever text, plan and table it is given, each of these calls does its work or returns the number and place of
+-- the first refusal that document 01 has for that input, 1 before all the rest; and then every lent buffer is as before.
+pub record TextRefusalsExact : Type 0 where
+  -- planning from C: 1; 2, 3, 4; 6; 5
+  pub planning : (text plan table : List ℕ) →
+      let o = textPlanOutcome text plan table in TextPlanningEnds text plan table (o .answer) (o .plan) (o .table)
+  -- number and place in the struct that it returns are the verdict's, 0 and 0 where there is a plan
+  pub planning-numbers : (text plan table : List ℕ) →
+      let o = textPlanOutcome text plan table in answerPlanned (plannedOf (o .answer)) ≡ answerOf (priceVerdict (o .answer))
+  -- the check from C: 1; 2, 3, 4; 7; 9; 10
+  pub checking : (text plan table : List ℕ) → TextCheckingEnds text plan table (textCheckOutcome text plan table)
+  pub checking-numbers : (text plan table : List ℕ) →
+      let v = textCheckOutcome text plan table in answerChecked (checkedOf v) ≡ answerOf v
+  -- the listing of every text: 1; 2, 3, 4; 5; else the best plan
+  pub listing : (text : List ℕ) → Prints text (listingOf text)
+
+pub demand-1-of-text : TextRefusalsExact
+demand-1-of-text =
+    record {
+      planning = text-planning-ends;
+      planning-numbers = λ text plan table. planning-returns (textPlanOutcome text plan table .answer);
+      checking = text-checking-ends;
+      checking-numbers = λ text plan table. checking-returns (textCheckOutcome text plan table);
+      listing = listing-prints;
+    }
+
+-- Demand 3, with the check of demand 2, of what a program in C is given: for every text of an instance, and buffers that are
+-- long enough, planning returns 5 exactly where there is no drawing; else the plan and the table at the fronts of the buffers
+-- are a drawing, the numbers returned are its price, and no drawing costs less. The check returns 0 exactly for drawings.
+pub record TextPlanningOptimal (text : List ℕ) (p : Problem) : Type 0 where
+  pub planning : (plan table : List ℕ) → taskCount p ≤ length plan → tableSize p ≤ length table →
+      let o = textPlanOutcome text plan table in
+      OptimalNumbers p (plannedOf (o .answer)) (take (taskCount p) (o .plan)) (take (tableSize p) (o .table))
+  pub drawings-pass-the-check : (plan table : List ℕ) →
+      (checkedOf (textCheckOutcome text plan table) .refusal ≡ 0) ↔ Drawing p plan table
+
+pub demand-3-of-text : (text : List ℕ) (p : Problem) → WritesProblem text p → TextPlanningOptimal text p
+demand-3-of-text text p writes =
+    let of-words = demand-3 (writes .words) p (writes .problem-of-words) in
+    record {
+      planning = λ plan table plan-room table-room.
+          rw (planned-as-words text p writes plan table)
+          (optimal-numbers p _ _ _ (of-words .planning plan table plan-room table-room));
+      drawings-pass-the-check = λ plan table.
+          rw (checked-as-words text p writes plan table)
+          (passes-iff _ (of-words .drawings-pass-the-check plan table));
+    }
