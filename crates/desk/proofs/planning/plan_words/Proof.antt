@@ -11,13 +11,13 @@ enum-known-verdict : tie.Need-enum-known-verdict
 enum-known-verdict c = search needs
 
 returns : tie.Need-returns
-returns c = refused-words-outcome _ _ _ (refused-read-refuses-words _ _ (c .before .before .before .read-instance .ensures) (c .before .verdict .given .1))
+returns c = refused-words-outcome _ _ _ (refused-read-refuses-words _ _ (c .before .before .before .read-instance .ensures .0) (c .before .verdict .given .1))
 
 enum-told : tie.Need-enum-told
 enum-told c = search needs
 
 holds-problem : (c : tie.After-enum-told) → HoldsProblemOf (c .before .before .before .before .before .before .args .words .now) (c .before .before .read-instance .result .instance)
-holds-problem c = accepted-read-holds-problem _ _ (c .before .before .read-instance .ensures) (c .enum-told .given .1)
+holds-problem c = accepted-read-holds-problem _ _ (c .before .before .read-instance .ensures .0) (c .enum-told .given .1)
 
 returns-2 : tie.Need-returns-2
 returns-2 c = short-plan-outcome _ _ (holds-problem (c .before)) _ _ (c .if1 .taken)
