@@ -26,15 +26,14 @@ pub ends-as-tested : {v : Verdict} {others : List ℕ} (first : List ℕ) → Re
 ends-as-tested first accepts = serves tt
 ends-as-tested first (refuses m) = turns-down (Memᴰ·append-right first m) tt
 
-number-leaves : {numbers : List ℕ} {buffers : List Lent} {a : Answer} →
+number-above-zero-leaves : {numbers : List ℕ} {buffers : List Lent} {a : Answer} →
     ServedOrRefused numbers buffers a → 0 < a .number → Every Unchanged buffers
-number-leaves (served written) above = absurd (omega arith)
-number-leaves (refused listed same) above = same
+number-above-zero-leaves (served written) above = absurd (omega arith)
+number-above-zero-leaves (refused listed same) above = same
 
 pub refused-leaves : {numbers : List ℕ} {buffers : List Lent} {v : Verdict} {r : Refusal} →
     ServedOrRefused numbers buffers (answerOf v) → v ≡ Refused r → Every Unchanged buffers
-refused-leaves {r = r} ending e =
-    number-leaves ending (rw e (number-above-zero r))
+refused-leaves {r = r} ending e = number-above-zero-leaves ending (rw e (number-above-zero r))
 
 unchanged-is-front-written : (buffers : List Lent) → Every Unchanged buffers → Every FrontWritten buffers
 unchanged-is-front-written [] same = tt

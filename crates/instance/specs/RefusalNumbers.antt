@@ -7,7 +7,7 @@ use native.Mathlib.Omega.{arith}
 use lib.Dec.{leb, ltb, eqb}
 use lib.ListN.{length, getD}
 use Rattle.laws.specs.Search.{first}
-use Rattle.instance.specs.Refusals.{Reading, Answer, numberOf, placeOf, refusalsAt, answer, answerOf, room, _andThen_}
+use Rattle.instance.specs.Refusals.{Reading, numberOf, placeOf, refusalsAt, answer, answerOf, room, _andThen_}
 use Rattle.instance.specs.declared.Refusal.{Refusal}
 use Rattle.instance.specs.declared.Refusal.the-variants.{Text, WordCount, WordRange, SpanTooLong, NoPlan, ShortBuffer, GivenPlan, CoreOverloaded, GivenTable, JobSlots}
 use Rattle.instance.specs.declared.Verdict.{Verdict}

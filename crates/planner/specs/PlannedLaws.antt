@@ -8,11 +8,10 @@ use native.Mathlib.Omega.{arith}
 use lib.ListN.{take}
 use Rattle.instance.specs.EndingLaws.{refused-leaves, front-at-most}
 use Rattle.instance.specs.Node.{Problem, taskCount}
-use Rattle.instance.specs.Refusals.{refused, accepted, room, _andThen_}
+use Rattle.instance.specs.Refusals.{accepted, room, _andThen_}
 use Rattle.instance.specs.RoomLaws.{enough-room, no-room, front-of-onto}
 use Rattle.instance.specs.SiteFile.{problemOf}
 use Rattle.instance.specs.SiteFileLaws.{accepted-is-valid}
-use Rattle.instance.specs.declared.Refusal.{Refusal}
 use Rattle.instance.specs.declared.Refusal.the-variants.{NoPlan, ShortBuffer}
 use Rattle.instance.specs.declared.Verdict.{Verdict}
 use Rattle.instance.specs.declared.Verdict.the-variants.{Accepted, Refused}
