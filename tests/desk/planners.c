@@ -1,7 +1,7 @@
-/* Two planners that share nothing but the prices: rows over subsets, and trying every plan. */
+/* Two planners that share nothing but the prices: knapsacks over subsets, and trying every plan. */
 #include "reference.h"
 
-/* ---- Rows over subsets ----
+/* ---- Knapsacks over subsets ----
  *
  * A value is a cost and, of the plan that has it, the choices as digits in base 33, task 1 first.
  * Ordered by cost and then key, the least value is the plan that the paper asks for. Values of
@@ -23,7 +23,7 @@ typedef struct {
     uint64_t digit[MOST_TASKS];             /* what 1 as a task's choice adds to a key */
     uint64_t load[MOST_TASKS][MOST_LEVELS]; /* jobs x ticks */
     value option[MOST_TASKS][MOST_LEVELS];  /* of a task kept at a level of core 1 */
-    value row[MOST_SETS];                   /* the least of running just that set on core 1 */
+    value knapsack[MOST_SETS];                   /* the least of running just that set on core 1 */
     value best[MOST_SETS];                  /* the same on all cores so far */
 } search;
 
@@ -54,14 +54,14 @@ static void list_options(search *s) {
  * within[w] is the least value of running the tasks of `set` on one core with load at most w. Each
  * of the first `open` tasks is left out and then put in, until all are decided.
  */
-static void fill_rows(search *s, size_t open, size_t set, const value *within) {
+static void fill_knapsacks(search *s, size_t open, size_t set, const value *within) {
     size_t span = s->in->span;
     if (open == 0) {
-        s->row[set] = within[span];
+        s->knapsack[set] = within[span];
         return;
     }
     size_t task = open - 1;
-    fill_rows(s, task, set, within);
+    fill_knapsacks(s, task, set, within);
 
     value with[MOST_SPAN + 1];
     size_t first = task == 0 ? span : 0; /* after the last task only the whole span is asked for */
@@ -72,7 +72,7 @@ static void fill_rows(search *s, size_t open, size_t set, const value *within) {
         for (size_t w = load > first ? load : first; w <= span; w++)
             keep_lesser(&with[w], plus(within[w - load], s->option[task][l]));
     }
-    fill_rows(s, task, set | (size_t)1 << task, with);
+    fill_knapsacks(s, task, set | (size_t)1 << task, with);
 }
 
 /* Adds one more core: each set's tasks are parted between it and the cores so far. */
@@ -89,7 +89,7 @@ static void add_core(search *s, size_t core) {
     for (size_t set = (size_t)1 << s->in->tasks; set-- > 0;) {
         value least = s->best[set];
         for (size_t part = set; part != 0; part = (part - 1) & set) {
-            value here = {s->row[part].cost, s->row[part].key + moved[part]};
+            value here = {s->knapsack[part].cost, s->knapsack[part].key + moved[part]};
             keep_lesser(&least, plus(here, s->best[set ^ part]));
         }
         s->best[set] = least;
@@ -125,10 +125,10 @@ bool reference_best(const reference_instance *in, uint8_t plan[MOST_TASKS]) {
     value within[MOST_SPAN + 1];
     for (size_t w = 0; w <= in->span; w++)
         within[w] = nothing;
-    fill_rows(&s, in->tasks, 0, within);
+    fill_knapsacks(&s, in->tasks, 0, within);
 
     for (size_t set = 0; set < (size_t)1 << in->tasks; set++)
-        s.best[set] = s.row[set];
+        s.best[set] = s.knapsack[set];
     for (size_t core = 1; core < in->cores; core++)
         add_core(&s, core);
 

@@ -57,7 +57,7 @@ towhepamu_checked reference_tabulate(const reference_instance *instance, const u
 towhepamu_checked reference_check_table(const reference_instance *instance, const uint8_t *plan,
                                         size_t plan_len, const uint8_t *table, size_t table_len);
 
-/* The best plan, by rows over subsets and by trying every plan; false where there is none. */
+/* The best plan, by knapsacks over subsets and by trying every plan; false where there is none. */
 bool reference_best(const reference_instance *instance, uint8_t plan[MOST_TASKS]);
 bool reference_best_exhaustive(const reference_instance *instance, uint8_t plan[MOST_TASKS]);
 
