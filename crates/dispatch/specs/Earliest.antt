@@ -1,5 +1,5 @@
 -- What `earliest` chooses, as a relation: the earliest due of the tasks that have ticks left, of equal ones the lowest.
-use Prim.Native.Nat.{ℕ, zero, suc, pred, _≤_, _<_}
+use Prim.Native.Nat.{ℕ, zero, suc, pred, _≤_, _<_, zero-le}
 use mathlib.Core.Bool.{Bool, true, false, cond}
 use mathlib.Core.Logic.{⊎-elim}
 use mathlib.Core.Path.{_≡_, refl, sym, _∙_}
@@ -107,6 +107,10 @@ choice-among-same {due} {left} {due₂} {left₂} to from (Choice.runs k l has f
     (rw (there .1) at has)
     (λ i m some. let back = from i m some in omega (arith, first i (back .0) (rw (back .1) at some)))
     (λ i m some. let back = from i (omega arith) some in omega (arith, lower i m (rw (back .1) at some)))
+
+pub chosen-le-size : {due left : ℕ → ℕ} {n number : ℕ} → Choice due left n number → number ≤ n
+chosen-le-size (Choice.idle all) = zero-le
+chosen-le-size (Choice.runs k l has first lower) = l
 
 pub chosen-has-left : {due left : ℕ → ℕ} {n number : ℕ} (k : ℕ) → Choice due left n number → number ≡ suc k → 0 < left k
 chosen-has-left k (Choice.idle all) e = absurd (omega arith)

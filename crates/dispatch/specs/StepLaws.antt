@@ -1,5 +1,5 @@
 -- One tick of the code is one tick of the definition: the turns of its loops, and then the whole.
-use Prim.Native.Nat.{ℕ, suc, pred, _+_, _-_, _≤_, _<_, zero-le}
+use Prim.Native.Nat.{ℕ, suc, pred, _+_, _-_, _≤_, _<_}
 use mathlib.Core.Bool.{Bool, true, false, cond}
 use mathlib.Core.Path.{_≡_, refl, ap, sym, _∙_}
 use mathlib.Core.Logic.{_⊎_, inl, inr}
@@ -16,7 +16,7 @@ use Rattle.laws.specs.Lists.{listOf, onto}
 use Rattle.laws.specs.OntoLaws.{length-onto, getD-onto-listOf, getD-onto-listOf-next, set-onto-listOf}
 use Rattle.dispatch.specs.Dispatching.{Stepped, readyOf, tasksOf}
 use Rattle.dispatch.specs.DispatchLaws.{afterRun-other}
-use Rattle.dispatch.specs.Earliest.{Choice, earliest-cong, earliest-is-choice}
+use Rattle.dispatch.specs.Earliest.{chosen-le-size, earliest-cong, earliest-is-choice}
 use Rattle.dispatch.specs.Rows.{dueAt, afterRelease, afterRun, chosen, earliest, step}
 use Rattle.dispatch.specs.declared.Core.{Core}
 use Rattle.dispatch.specs.declared.State.{State}
@@ -70,10 +70,6 @@ module _ (due left : ℕ → ℕ) (i best best-due : ℕ) (picked : Picked due l
       go (inr earlier) false e =
           let earlier-than-best : due i < due (pred best) = omega (arith, picked .is-due (eqb-false best 0 e)) in
           rw (e, lt-ltb (due i) (due (pred best)) earlier-than-best)
-
-pub chosen-le-size : {due left : ℕ → ℕ} {n number : ℕ} → Choice due left n number → number ≤ n
-chosen-le-size (Choice.idle all) = zero-le
-chosen-le-size (Choice.runs k l has first lower) = l
 
 -- from the ticks left of each task to those after a tick in which task `number` ran
 pub data Ran (ready : List ℕ) : ℕ → List ℕ → Type 0 where

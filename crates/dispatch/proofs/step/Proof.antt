@@ -6,9 +6,9 @@ use native.Mathlib.Omega.{arith}
 use borrow.Author.Needs.{needs}
 use lib.ListN.{getD}
 use Rattle.dispatch.specs.Dispatching.{tasksOf}
-use Rattle.dispatch.specs.Earliest.{Choice, earliest-is-choice, chosen-has-left}
+use Rattle.dispatch.specs.Earliest.{Choice, earliest-is-choice, chosen-has-left, chosen-le-size}
 use Rattle.dispatch.specs.Rows.{dueAt}
-use Rattle.dispatch.specs.StepLaws.{Ran, chosen-le-size, is-stepped}
+use Rattle.dispatch.specs.StepLaws.{Ran, is-stepped}
 use Rattle.dispatch.proofs.step.Statement.{statement}
 use Rattle.dispatch.proofs.step.Tie as tie
 
