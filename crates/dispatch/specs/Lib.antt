@@ -3,6 +3,7 @@ pub mod Earliest
 pub mod DispatchLaws
 pub mod Runs
 pub mod SelectedTasks
-pub mod Dispatching
-pub mod StepLaws
-pub mod DispatchingLaws
+pub mod Columns
+pub mod EarliestSoFar
+pub mod ReleaseLaws
+pub mod RowLaws

@@ -22,7 +22,7 @@ pub record Uninterrupted (core : CoreTasks) (t r : ℕ) : Type 0 where
 unfoldable pub afterTicks : (number r i left : ℕ) → ℕ
 afterTicks number r i left = cond (eqb (suc i) number) (left - r) left
 
-pub afterTicks-self : (i r left : ℕ) → afterTicks (suc i) r i left ≡ left - r
+afterTicks-self : (i r left : ℕ) → afterTicks (suc i) r i left ≡ left - r
 unfolding afterTicks
 afterTicks-self i r left = rw (eq-eqb (suc i) (suc i) refl)
 

@@ -1,8 +1,8 @@
 -- "A row depends on .. that core's kept tasks only": with nothing but these, in their order, a core has the same row, but for
 -- the tasks' numbers.
-use Prim.Native.Nat.{ℕ, zero, suc, _≤_, _<_}
+use Prim.Native.Nat.{ℕ, zero, suc, _-_, _≤_, _<_}
 use mathlib.Core.Logic.{⊎-elim}
-use mathlib.Core.Path.{_≡_, refl, sym, ap, _∙_}
+use mathlib.Core.Path.{_≡_, sym, ap, _∙_}
 use native.Mathlib.Nat.{eq-zero-or-pos, eq-or-lt-of-le, lt-of-lt-of-le}
 use native.Mathlib.Omega.{arith}
 use Rattle.laws.specs.Below.{lt-or-le}
@@ -14,6 +14,11 @@ use Rattle.dispatch.specs.Rows.{CoreTasks, dueAt, afterRelease, afterRun
 unfoldable pub numbered : (number : ℕ → ℕ) → ℕ → ℕ
 numbered number zero = 0
 numbered number (suc j) = number j
+
+pub numbered-task : (number : ℕ → ℕ) (slot : ℕ) → 0 < slot → numbered number slot ≡ number (slot - 1)
+unfolding numbered
+numbered-task number zero some = absurd (omega arith)
+numbered-task number (suc j) some = let place : j ≡ suc j - 1 = omega arith in ap number place
 
 -- tasks of a core, in ascending order: the j-th is task `place j` of the core. No task with ticks is left out.
 pub record Selected (core kept : CoreTasks) (place : ℕ → ℕ) : Type 0 where
