@@ -38,7 +38,7 @@ module _ (periods ticks : List ℕ) (tick : ℕ) where
       ap (λ (l : List ℕ). getD l i 0) so-far ∙ getD-onto-listOf-next (readyIn periods ticks tick left₀) left₀ i 0 within in
       next-onto-listOf (readyIn periods ticks tick left₀) left₀ i v left within so-far (rw before at this)
 
-  pub length-released : (left₀ left : List ℕ) (n : ℕ) → n ≤ length left₀ → left ≡ releasedSoFar left₀ n → length left ≡ length left₀
+  length-released : (left₀ left : List ℕ) (n : ℕ) → n ≤ length left₀ → left ≡ releasedSoFar left₀ n → length left ≡ length left₀
   unfolding releasedSoFar
   length-released left₀ left n room so-far = rw so-far (length-onto _ left₀ (rw length-listOf room))
 

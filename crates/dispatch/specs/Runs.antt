@@ -8,7 +8,8 @@ use native.Mathlib.Omega.{arith}
 use lib.Dec.{eqb}
 use borrow.Author.Tests.{eq-eqb, ne-eqb}
 use Rattle.laws.specs.DivisionLaws.{suc-div-of-other}
-use Rattle.dispatch.specs.DispatchLaws.{leftAt, readyAt, afterRelease-between, afterRun-self, afterRun-other, afterRun-le, slot-is-choice, left-after-run}
+use Rattle.dispatch.specs.DispatchLaws.{leftAt, readyAt, slot-is-choice, left-after-run}
+use Rattle.dispatch.specs.DispatchLaws.{afterRelease-between, afterRun-self, afterRun-other, afterRun-le}
 use Rattle.dispatch.specs.Earliest.{Choice, choice-unique, chosen-le-size}
 use Rattle.dispatch.specs.Rows.{CoreTasks, dueAt, afterRun, slotOf}
 
@@ -82,7 +83,8 @@ module _ (core : CoreTasks) (t r : ℕ) (run : Uninterrupted core t r) where
     same-slot : slotOf core (t + x) ≡ slotOf core t
     ready : (i : ℕ) → i < core .size → readyAt core (t + x) i ≡ afterTicks (slotOf core t) x i (readyAt core t i)
 
-  left-after : (x : ℕ) → InRun x → (i : ℕ) → i < core .size → leftAt core (suc (t + x)) i ≡ afterTicks (slotOf core t) (suc x) i (readyAt core t i)
+  left-after : (x : ℕ) → InRun x → (i : ℕ) → i < core .size →
+      leftAt core (suc (t + x)) i ≡ afterTicks (slotOf core t) (suc x) i (readyAt core t i)
   left-after x so-far i l =
       left-after-run core (t + x) i l
       ∙ ap₂ (λ (slot left : ℕ). afterRun slot i left) (so-far .same-slot) (so-far .ready i l)

@@ -2,13 +2,16 @@
 -- the tasks' numbers.
 use Prim.Native.Nat.{ℕ, zero, suc, _-_, _≤_, _<_}
 use mathlib.Core.Logic.{⊎-elim}
-use mathlib.Core.Path.{_≡_, sym, ap, _∙_}
+use mathlib.Core.Path.{_≡_, refl, sym, ap, _∙_}
 use native.Mathlib.Nat.{eq-zero-or-pos, eq-or-lt-of-le, lt-of-lt-of-le}
 use native.Mathlib.Omega.{arith}
 use Rattle.laws.specs.Below.{lt-or-le}
-use Rattle.dispatch.specs.DispatchLaws.{leftAt, readyAt, afterRun-self, afterRun-other, slot-is-choice, left-at-start, left-after-run, ready-le-ticks}
+use Rattle.laws.specs.JoinedLaws.{listOf-same}
+use Rattle.laws.specs.Lists.{listOf}
+use Rattle.dispatch.specs.DispatchLaws.{leftAt, readyAt, slot-is-choice, left-at-start, left-after-run, ready-le-ticks}
+use Rattle.dispatch.specs.DispatchLaws.{afterRun-self, afterRun-other}
 use Rattle.dispatch.specs.Earliest.{Choice, choice-unique, chosen-le-size}
-use Rattle.dispatch.specs.Rows.{CoreTasks, dueAt, afterRelease, afterRun, slotOf}
+use Rattle.dispatch.specs.Rows.{CoreTasks, dueAt, afterRelease, afterRun, slotOf, row}
 
 -- what a slot of the selected tasks shows, by the tasks' own numbers
 unfoldable pub numbered : (number : ℕ → ℕ) → ℕ → ℕ
@@ -19,6 +22,12 @@ pub numbered-task : (number : ℕ → ℕ) (slot : ℕ) → 0 < slot → numbere
 unfolding numbered
 numbered-task number zero some = absurd (omega arith)
 numbered-task number (suc j) some = let place : j ≡ suc j - 1 = omega arith in ap number place
+
+numbered-same : (number number₂ : ℕ → ℕ) (n : ℕ) → ((j : ℕ) → j < n → number j ≡ number₂ j) →
+    (slot : ℕ) → slot ≤ n → numbered number slot ≡ numbered number₂ slot
+unfolding numbered
+numbered-same number number₂ n same zero l = refl
+numbered-same number number₂ n same (suc j) l = same j l
 
 -- tasks of a core, in ascending order: the j-th is task `place j` of the core. No task with ticks is left out.
 pub record Selected (core kept : CoreTasks) (place : ℕ → ℕ) : Type 0 where
@@ -102,7 +111,8 @@ module _ (core kept : CoreTasks) (place : ℕ → ℕ) (selected : Selected core
       (eq-or-lt-of-le from))
       (lt-or-le j k)
     where
-      other : (suc j ≡ suc k → ⊥) → (suc (place j) ≡ suc (place k) → ⊥) → afterRun (suc k) j left ≡ afterRun (suc (place k)) (place j) left
+      other : (suc j ≡ suc k → ⊥) → (suc (place j) ≡ suc (place k) → ⊥) →
+          afterRun (suc k) j left ≡ afterRun (suc (place k)) (place j) left
       other differs there = afterRun-other (suc k) j left differs ∙ sym (afterRun-other (suc (place k)) (place j) left there)
 
   same-left : (t : ℕ) → SameLeft t
@@ -115,5 +125,12 @@ module _ (core kept : CoreTasks) (place : ℕ → ℕ) (selected : Selected core
       ∙ ap (λ (slot : ℕ). afterRun slot (place j) (readyAt core t (place j))) (sym (same-slot t left))
       ∙ sym (left-after-run core t (place j) (selected .is-task j l))
 
-  pub slots-of-selected : (t : ℕ) → slotOf core t ≡ numbered number (slotOf kept t)
+  slots-of-selected : (t : ℕ) → slotOf core t ≡ numbered number (slotOf kept t)
   slots-of-selected t = same-slot t (same-left t)
+
+  pub row-of-selected : (its : ℕ → ℕ) → ((j : ℕ) → j < kept .size → its j ≡ suc (place j)) →
+      (n : ℕ) → listOf (λ t. numbered its (slotOf kept t)) n ≡ row core n
+  unfolding row
+  row-of-selected its same n =
+      listOf-same _ (slotOf core) n
+      (λ t l. numbered-same its number (kept .size) same (slotOf kept t) (chosen-le-size (slot-is-choice kept t)) ∙ sym (slots-of-selected t))

@@ -6,7 +6,8 @@ ghost use Prim.Native.Nat.{ℕ, _+_, _-_, _*_, _/_, _%_, _≤_, _<_};
 ghost use lib.Dec.{eqb};
 ghost use lib.ListN.{length, getD};
 ghost use Rattle.ranges.specs.Limits.{mostPeriod, mostSpan, mostWord};
-ghost use Rattle.dispatch.specs.Columns.{ColumnsOk, DuesOk, Filled, NextRelease, NoRelease, PeriodsOk, RanEarliest, RanFor, Released, RunsUntil, columnRow, dueIn};
+ghost use Rattle.dispatch.specs.Columns.{ColumnsOk, DuesOk, PeriodsOk, columnRow, dueIn};
+ghost use Rattle.dispatch.specs.Columns.{Filled, NextRelease, NoRelease, RanEarliest, RanFor, Released, RunsUntil};
 ghost use Rattle.dispatch.specs.Rows as rows;
 ghost use Rattle.dispatch.specs.SelectedTasks.{numbered};
 
@@ -105,7 +106,8 @@ fn earliest(periods: &[u32], windows: &[u32], tick: u32, left: &[u32]) -> usize
     requires { ⌜ DuesOk (now periods) (now windows) ⌝ }
     requires { ⌜ tick + mostPeriod ≤ mostWord ⌝ }
     requires { ⌜ length (now periods) ≤ length (now left) ⌝ }
-    ensures { λ r. ⌜ r ≡ rows.earliest (dueIn (now (periods .entry)) (now (windows .entry)) tick) (λ i. getD (now (left .entry)) i 0) (length (now (periods .entry))) ⌝ }
+    ensures { λ r. ⌜ r ≡ rows.earliest (dueIn (now (periods .entry)) (now (windows .entry)) tick) (λ i. getD (now (left .entry)) i 0)
+        (length (now (periods .entry))) ⌝ }
 {
     let mut best = 0;
     let mut best_due = 0;
@@ -210,7 +212,8 @@ fn write_row(
     requires { ⌜ length (now periods) ≤ length (now left) ⌝ }
     requires { ⌜ ((i : ℕ) → i < length (now periods) → getD (now left) i 0 ≡ 0) ⌝ }
     requires { ⌜ length (now slots) ≤ mostSpan ⌝ }
-    ensures { λ _. ⌜ now (slots .exit) ≡ columnRow (now (numbers .entry)) (now (periods .entry)) (now (windows .entry)) (now (ticks .entry)) (length (now (slots .entry))) ⌝ }
+    ensures { λ _. ⌜ now (slots .exit) ≡ columnRow (now (numbers .entry)) (now (periods .entry)) (now (windows .entry)) (now (ticks .entry))
+        (length (now (slots .entry))) ⌝ }
 {
     let end = slots.len() as u32;
     let mut tick = 0;
@@ -233,7 +236,8 @@ pub fn fill_row(
 )
     requires { ⌜ ColumnsOk (now numbers) (now periods) (now windows) (now ticks) ⌝ }
     requires { ⌜ length (now slots) ≤ mostSpan ⌝ }
-    ensures { λ _. ⌜ now (slots .exit) ≡ columnRow (now (numbers .entry)) (now (periods .entry)) (now (windows .entry)) (now (ticks .entry)) (length (now (slots .entry))) ⌝ }
+    ensures { λ _. ⌜ now (slots .exit) ≡ columnRow (now (numbers .entry)) (now (periods .entry)) (now (windows .entry)) (now (ticks .entry))
+        (length (now (slots .entry))) ⌝ }
 {
     let mut left = [0; 12];
     write_row(numbers, periods, windows, ticks, &mut left, slots);

@@ -1,3 +1,4 @@
+-- `earliest` picks as the definition does, one task a turn.
 use Prim.Native.Nat.{_-_, _≤_}
 use mathlib.Core.Path.{_≡_, refl, _∙_}
 use native.Mathlib.Omega.{arith}

@@ -1,3 +1,4 @@
+-- `fill` has filled the slots that it has passed.
 use Prim.Native.Nat.{_-_, _≤_}
 use mathlib.Core.Path.{_≡_}
 use native.Mathlib.Omega.{arith}

@@ -1,3 +1,4 @@
+-- `fill_row` begins with nothing left.
 use native.Mathlib.Omega.{arith}
 use borrow.Author.Needs.{needs}
 use lib.ListN.{getD-replicate}

@@ -1,3 +1,4 @@
+-- `release` has released the jobs of the tasks that it has passed.
 use Prim.Native.Nat.{_-_, _≤_}
 use mathlib.Core.Path.{_≡_, refl, _∙_}
 use native.Mathlib.Omega.{arith}
@@ -8,7 +9,8 @@ use Rattle.dispatch.proofs.release.Statement.{statement}
 use Rattle.dispatch.proofs.release.Tie as tie
 
 abbrev Inv-loop : tie.InvT-loop
-Inv-loop periods ticks tick left₀ i₀ left i = (i ≤ length periods) × (length left ≡ length left₀) × (left ≡ releasedSoFar periods ticks tick left₀ i)
+Inv-loop periods ticks tick left₀ i₀ left i =
+    (i ≤ length periods) × (length left ≡ length left₀) × (left ≡ releasedSoFar periods ticks tick left₀ i)
 
 abbrev μ-loop : tie.MeasureT-loop
 μ-loop periods ticks tick left₀ i₀ left i = length periods - i
@@ -36,7 +38,8 @@ slice-read-after-release c = search needs
 
 after-release-requires : tie.Need-after-release-requires Inv-loop μ-loop
 after-release-requires c κs =
-    c .before .before .before .before .before .before .before .before .pre .0 .above-0 (c .before .before .before .before .loop .i) (c .before .before .before .loop-test .taken)
+    let ok = c .before .before .before .before .before .before .before .before .pre .0 in
+    ok .above-0 (c .before .before .before .before .loop .i) (c .before .before .before .loop-test .taken)
 
 mul-left : tie.Need-mul-left Inv-loop μ-loop
 mul-left c = search needs
@@ -53,14 +56,19 @@ loop-less c = search needs
 loop-again : tie.Need-loop-again Inv-loop μ-loop
 loop-again c =
     let at = c .before .before .before .before .before .loop in
-    (search needs, length-set (at .left) (at .i) _ ∙ at .inv .1, release-next _ _ _ _ (at .left) (at .i) _ (omega (arith, c .before .before .before .before .before .before .before .before .before .pre .1 .1)) (at .inv .2) (c .after-release .ensures))
+    let room = c .before .before .before .before .before .before .before .before .before .pre .1 .1 in (
+      search needs,
+      length-set (at .left) (at .i) _ ∙ at .inv .1,
+      release-next _ _ _ _ (at .left) (at .i) _ (omega (arith, room)) (at .inv .2) (c .after-release .ensures),
+    )
 
 same-length : tie.Need-same-length Inv-loop μ-loop
 same-length c = search needs
 
 returns : tie.Need-returns Inv-loop μ-loop
 returns c =
-    all-released _ _ _ _ _ (c .before .loop .i) (omega arith) (omega (arith, c .before .before .before .before .before .pre .1 .1)) (c .before .loop .inv .2)
+    let at = c .before .loop in
+    all-released _ _ _ _ _ (at .i) (omega arith) (omega (arith, c .before .before .before .before .before .pre .1 .1)) (at .inv .2)
 
 pub release-spec : {M : Type 1} → statement M
 release-spec =

@@ -1,3 +1,4 @@
+-- Before the soonest release comes there is nothing to release, and it stays the next one.
 use borrow.Author.Needs.{needs}
 use Rattle.dispatch.specs.ReleaseLaws.{next-is-to-come, nothing-released}
 use Rattle.dispatch.proofs.release_due.Statement.{statement}
@@ -6,7 +7,8 @@ use Rattle.dispatch.proofs.release_due.Tie as tie
 returns : tie.Need-returns
 returns c =
     let asked = c .before .before .before .before .pre .1 .1 .1 in
-    (nothing-released _ _ _ _ _ (asked .1) (c .if1 .taken), next-is-to-come (asked .1) (c .if1 .taken) (asked .0 .1))
+    let ahead = c .if1 .taken in
+    (nothing-released _ _ _ _ _ (asked .1) ahead, next-is-to-come (asked .1) ahead (asked .0 .1))
 
 release-requires : tie.Need-release-requires
 release-requires c κs = search needs

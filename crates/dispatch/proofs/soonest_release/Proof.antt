@@ -1,3 +1,4 @@
+-- `soonest_release` has the next release of the tasks that it has passed.
 use Prim.Native.Nat.{_-_, _≤_}
 use mathlib.Core.Path.{_≡_}
 use native.Mathlib.Omega.{arith}
@@ -25,7 +26,8 @@ shared-slice-read-next-release c = search needs
 
 next-release-requires : tie.Need-next-release-requires Inv-loop μ-loop
 next-release-requires c κs =
-    (c .before .before .before .before .pre .0 .above-0 (c .before .before .loop .i) (c .before .loop-test .taken), c .before .before .loop .inv .1 .later)
+    let ok = c .before .before .before .before .pre .0 in
+    (ok .above-0 (c .before .before .loop .i) (c .before .loop-test .taken), c .before .before .loop .inv .1 .later)
 
 add-i : tie.Need-add-i Inv-loop μ-loop
 add-i c = search needs
@@ -35,8 +37,9 @@ loop-less c = search needs
 
 loop-again : tie.Need-loop-again Inv-loop μ-loop
 loop-again c =
+    let at = c .before .before .before .loop in
     let next = c .next-release .ensures in
-    (search needs, next-of-one-more _ _ _ (c .before .before .before .loop .i) (c .before .before .before .loop .soonest) _ (c .before .before .before .loop .inv .1) (next .0) (next .1 .0) (next .1 .1))
+    (search needs, next-of-one-more _ _ _ (at .i) (at .soonest) _ (at .inv .1) (next .0) (next .1 .0) (next .1 .1))
 
 returns : tie.Need-returns Inv-loop μ-loop
 returns c =
