@@ -1,13 +1,11 @@
 -- A core's tasks in columns, as the code holds them, and what each function makes of the ticks left and of the slots.
-use Prim.Native.Nat.{ℕ, suc, _+_, _-_, _*_, _/_, _%_, _≤_, _<_}
-use mathlib.Core.Bool.{cond}
-use mathlib.Core.List.{List}
+use Prim.Native.Nat.{ℕ, suc, _+_, _-_, _%_, _≤_, _<_}
+use mathlib.Core.List.{List, []}
 use mathlib.Core.Path.{_≡_}
-use lib.Dec.{eqb}
 use lib.ListN.{length, getD}
 use Rattle.ranges.specs.Limits.{mostPeriod, mostTasks}
 use Rattle.laws.specs.Lists.{listOf}
-use Rattle.dispatch.specs.Rows.{CoreTasks, earliest, slotOf}
+use Rattle.dispatch.specs.Rows.{CoreTasks, afterRelease, dueAt, earliest, slotOf}
 use Rattle.dispatch.specs.Runs.{afterTicks}
 use Rattle.dispatch.specs.SelectedTasks.{numbered}
 use Rattle.dispatch.specs.declared.Run.{Run}
@@ -25,12 +23,12 @@ columnTasks periods windows ticks =
 unfoldable pub columnRow : (numbers periods windows ticks : List ℕ) → ℕ → List ℕ
 columnRow numbers periods windows ticks n = listOf (λ t. numbered (λ j. getD numbers j 0) (slotOf (columnTasks periods windows ticks) t)) n
 
--- `Rows.dueAt` and `Rows.afterRelease`, from the columns that they need
+-- a due tick needs no ticks of a job, and a release no window
 abbrev pub dueIn : (periods windows : List ℕ) → ℕ → ℕ → ℕ
-dueIn periods windows tick i = tick / getD periods i 0 * getD periods i 0 + getD windows i 0
+dueIn periods windows = dueAt (columnTasks periods windows [])
 
 abbrev pub readyIn : (periods ticks : List ℕ) → ℕ → List ℕ → ℕ → ℕ
-readyIn periods ticks tick left i = cond (eqb (tick % getD periods i 0) 0) (getD ticks i 0) (getD left i 0)
+readyIn periods ticks tick left i = afterRelease (columnTasks periods [] ticks) tick i (getD left i 0)
 
 pub record PeriodsOk (periods : List ℕ) : Type 0 where
   pub above-0 : (i : ℕ) → i < length periods → 0 < getD periods i 0

@@ -1,17 +1,15 @@
 -- Releases: what a loop has released so far, and how long there is none.
 use Prim.Native.Nat.{ℕ, _+_, _-_, _*_, _/_, _%_, _≤_, _<_}
-use mathlib.Core.Bool.{cond}
 use mathlib.Core.List.{List}
-use mathlib.Core.Path.{_≡_, refl, ap, _∙_}
+use mathlib.Core.Path.{_≡_, refl, sym, ap, _∙_}
 use native.Mathlib.Nat.{div-add-mod', div-lt-iff-lt-mul, le-refl, mod-lt, mul-le-mul-right}
 use native.Mathlib.Omega.{arith}
-use lib.Dec.{eqb}
 use lib.ListN.{length, getD, set}
-use borrow.Author.Tests.{ne-eqb}
 use Rattle.laws.specs.Below.{below-suc}
 use Rattle.laws.specs.JoinedLaws.{length-listOf}
 use Rattle.laws.specs.Lists.{listOf, onto}
 use Rattle.laws.specs.OntoLaws.{length-onto, getD-onto-listOf, getD-onto-listOf-next, next-onto-listOf}
+use Rattle.dispatch.specs.DispatchLaws.{afterRelease-between}
 use Rattle.dispatch.specs.Columns.{NextRelease, NoRelease, Released, readyIn}
 
 -- the next multiple of p after t is a whole period after the one before
@@ -31,7 +29,7 @@ module _ (periods ticks : List ℕ) (tick : ℕ) where
   none-released left = refl
 
   pub release-next : (left₀ left : List ℕ) (i v : ℕ) → i < length left₀ → left ≡ releasedSoFar left₀ i →
-      v ≡ cond (eqb (tick % getD periods i 0) 0) (getD ticks i 0) (getD left i 0) → set left i v ≡ releasedSoFar left₀ (i + 1)
+      v ≡ readyIn periods ticks tick left i → set left i v ≡ releasedSoFar left₀ (i + 1)
   unfolding releasedSoFar
   release-next left₀ left i v within so-far this =
       let before : getD left i 0 ≡ getD left₀ i 0 =
@@ -53,9 +51,9 @@ module _ (periods ticks : List ℕ) (tick : ℕ) where
   -- in a tick without a release nothing changes
   pub nothing-released : (left : List ℕ) (to : ℕ) → NoRelease periods (length periods) tick to → tick < to →
       Released periods ticks tick left left
-  nothing-released left to quiet before = record {
+  nothing-released left to ahead before = record {
     same-length = refl;
-    ready = λ i l. rw (ne-eqb (tick % getD periods i 0) 0 (quiet .none i tick l (le-refl tick) before));
+    ready = λ i l. sym (afterRelease-between _ tick i (getD left i 0) (ahead .none i tick l (le-refl tick) before));
   }
 
 module _ (periods : List ℕ) (tick end : ℕ) where

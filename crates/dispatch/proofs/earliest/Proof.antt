@@ -8,7 +8,7 @@ use mathlib.Core.Logic.{inl, inr, ⊎-elim}
 use borrow.Author.Tests.{ltb-true, ltb-false}
 use Rattle.dispatch.specs.Columns.{dueIn}
 use Rattle.dispatch.specs.EarliestSoFar.{Picked, pick-passes-idle, pick-keeps, pick-takes}
-use Rattle.dispatch.specs.Rows.{earliest}
+use Rattle.dispatch.specs.Rows.{dueAt, earliest}
 use Rattle.dispatch.proofs.earliest.Statement.{statement}
 use Rattle.dispatch.proofs.earliest.Tie as tie
 
@@ -57,6 +57,7 @@ loop-less : tie.Need-loop-less Inv-loop μ-loop
 loop-less c = search needs
 
 loop-again : tie.Need-loop-again Inv-loop μ-loop
+unfolding dueAt
 loop-again c =
     let at = c .before .before .before .loop in
     let picked = at .inv .1 in (

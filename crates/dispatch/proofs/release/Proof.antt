@@ -4,6 +4,7 @@ use mathlib.Core.Path.{_≡_, refl, _∙_}
 use native.Mathlib.Omega.{arith}
 use borrow.Author.Needs.{needs}
 use lib.ListN.{length, length-set}
+use Rattle.dispatch.specs.Rows.{afterRelease}
 use Rattle.dispatch.specs.ReleaseLaws.{releasedSoFar, none-released, release-next, all-released}
 use Rattle.dispatch.proofs.release.Statement.{statement}
 use Rattle.dispatch.proofs.release.Tie as tie
@@ -54,6 +55,7 @@ loop-less : tie.Need-loop-less Inv-loop μ-loop
 loop-less c = search needs
 
 loop-again : tie.Need-loop-again Inv-loop μ-loop
+unfolding afterRelease
 loop-again c =
     let at = c .before .before .before .before .before .loop in
     let room = c .before .before .before .before .before .before .before .before .before .pre .1 .1 in (
