@@ -1,8 +1,8 @@
 -- What `earliest` chooses, as a relation: the earliest due of the tasks that have ticks left, of equal ones the lowest.
-use Prim.Native.Nat.{ℕ, zero, suc, pred, _≤_, _<_}
+use Prim.Native.Nat.{ℕ, zero, suc, pred, _≤_, _<_, zero-le}
 use mathlib.Core.Bool.{Bool, true, false, cond}
 use mathlib.Core.Logic.{⊎-elim}
-use mathlib.Core.Path.{_≡_, refl, sym, _∙_}
+use mathlib.Core.Path.{_≡_, refl}
 use native.Mathlib.Nat.{le-step, le-refl, le-of-lt, pos-of-ne-zero, eq-zero-or-pos}
 use native.Mathlib.Omega.{arith}
 use lib.Dec.{eqb, ltb}
@@ -77,18 +77,6 @@ choice-unique (Choice.runs k l has first lower) (Choice.runs m l₂ has₂ first
     (lt-or-le m k))
     (lt-or-le k m)
 
--- it depends on what is left below n
-pub choice-same : {due left left₂ : ℕ → ℕ} {n number : ℕ} → ((i : ℕ) → i < n → left i ≡ left₂ i) →
-    Choice due left n number → Choice due left₂ n number
-choice-same same (Choice.idle all) = Choice.idle (λ i l. sym (same i l) ∙ all i l)
-choice-same same (Choice.runs k l has first lower) =
-    Choice.runs
-    k
-    l
-    (rw (same k l) at has)
-    (λ i m h. first i m (rw (same i m) h))
-    (λ i m h. lower i m (rw (same i (omega arith)) h))
-
 -- each of the n tasks that has ticks left is among the n₂, with as many left and due at the same tick
 abbrev pub SameReady : (due left : ℕ → ℕ) → ℕ → (due₂ left₂ : ℕ → ℕ) → ℕ → Type 0
 SameReady due left n due₂ left₂ n₂ = (i : ℕ) → i < n → 0 < left i → (i < n₂) × (left i ≡ left₂ i) × (due i ≡ due₂ i)
@@ -107,6 +95,10 @@ choice-among-same {due} {left} {due₂} {left₂} to from (Choice.runs k l has f
     (rw (there .1) at has)
     (λ i m some. let back = from i m some in omega (arith, first i (back .0) (rw (back .1) at some)))
     (λ i m some. let back = from i (omega arith) some in omega (arith, lower i m (rw (back .1) at some)))
+
+pub chosen-le-size : {due left : ℕ → ℕ} {n number : ℕ} → Choice due left n number → number ≤ n
+chosen-le-size (Choice.idle all) = zero-le
+chosen-le-size (Choice.runs k l has first lower) = l
 
 pub chosen-has-left : {due left : ℕ → ℕ} {n number : ℕ} (k : ℕ) → Choice due left n number → number ≡ suc k → 0 < left k
 chosen-has-left k (Choice.idle all) e = absurd (omega arith)

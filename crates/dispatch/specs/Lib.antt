@@ -1,6 +1,9 @@
 pub mod Rows
 pub mod Earliest
 pub mod DispatchLaws
-pub mod Dispatching
-pub mod StepLaws
-pub mod DispatchingLaws
+pub mod Runs
+pub mod SelectedTasks
+pub mod Columns
+pub mod EarliestSoFar
+pub mod ReleaseLaws
+pub mod RowLaws

@@ -41,5 +41,7 @@ pub mod PriceBounds
 pub mod HeldPrices
 pub mod HeldSlots
 pub mod HeldJobs
+pub mod KeptColumns
+pub mod KeptColumnLaws
 pub mod HeldTables
 pub mod OutcomeLaws

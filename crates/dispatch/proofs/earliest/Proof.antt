@@ -1,23 +1,23 @@
 -- `earliest` picks as the definition does, one task a turn.
-use Prim.Native.Nat.{_≤_, _-_}
-use mathlib.Core.Logic.{inl, inr, ⊎-elim}
+use Prim.Native.Nat.{_-_, _≤_}
 use mathlib.Core.Path.{_≡_, refl, _∙_}
 use native.Mathlib.Omega.{arith}
-use borrow.Author.Tests.{ltb-true, ltb-false}
-use lib.ListN.{getD}
-use Rattle.dispatch.specs.Dispatching.{tasksOf}
-use Rattle.dispatch.specs.StepLaws.{Picked, pick-passes-idle, pick-keeps, pick-takes}
-use Rattle.dispatch.specs.Rows.{dueAt, earliest}
 use borrow.Author.Needs.{needs}
+use lib.ListN.{length, getD}
+use mathlib.Core.Logic.{inl, inr, ⊎-elim}
+use borrow.Author.Tests.{ltb-true, ltb-false}
+use Rattle.dispatch.specs.Columns.{dueIn}
+use Rattle.dispatch.specs.EarliestSoFar.{Picked, pick-passes-idle, pick-keeps, pick-takes}
+use Rattle.dispatch.specs.Rows.{dueAt, earliest}
 use Rattle.dispatch.proofs.earliest.Statement.{statement}
 use Rattle.dispatch.proofs.earliest.Tie as tie
 
 abbrev Inv-loop : tie.InvT-loop
-Inv-loop tick core left best₀ best-due₀ i₀ best best-due i =
-    (i ≤ core .size) × Picked (dueAt (tasksOf core) tick) (λ k. getD left k 0) i best best-due
+Inv-loop periods windows tick left best₀ best-due₀ i₀ best best-due i =
+    (i ≤ length periods) × Picked (dueIn periods windows tick) (λ k. getD left k 0) i best best-due
 
 abbrev μ-loop : tie.MeasureT-loop
-μ-loop tick core left best₀ best-due₀ i₀ best best-due i = core .size - i
+μ-loop periods windows tick left best₀ best-due₀ i₀ best best-due i = length periods - i
 
 loop-holds : tie.Need-loop-holds Inv-loop μ-loop
 unfolding earliest
@@ -26,29 +26,26 @@ loop-holds c = (search needs, record { number = refl; is-due = λ some. absurd (
 mul-if1 : tie.Need-mul-if1 Inv-loop μ-loop
 mul-if1 c = search needs
 
-array-read-if1 : tie.Need-array-read-if1 Inv-loop μ-loop
-array-read-if1 c = search needs
+shared-slice-read-if1 : tie.Need-shared-slice-read-if1 Inv-loop μ-loop
+shared-slice-read-if1 c = search needs
 
 mul-due-at : tie.Need-mul-due-at Inv-loop μ-loop
 mul-due-at c = search needs
 
-element-copy-out-due-at : tie.Need-element-copy-out-due-at Inv-loop μ-loop
-element-copy-out-due-at c = search needs
+shared-slice-read-due-at : tie.Need-shared-slice-read-due-at Inv-loop μ-loop
+shared-slice-read-due-at c = search needs
 
 mul-due-at-2 : tie.Need-mul-due-at-2 Inv-loop μ-loop
 mul-due-at-2 c = search needs
 
-element-copy-out-due-at-2 : tie.Need-element-copy-out-due-at-2 Inv-loop μ-loop
-element-copy-out-due-at-2 c = search needs
+shared-slice-read-due-at-2 : tie.Need-shared-slice-read-due-at-2 Inv-loop μ-loop
+shared-slice-read-due-at-2 c = search needs
 
 due-at-requires : tie.Need-due-at-requires Inv-loop μ-loop
 due-at-requires c κs =
-    let start = c .before .before .before .before .before in
-    let below = c .before .before .before .loop-test .taken in
-    (start .pre .0 .tasks-ok _ below .period-above-0, omega (arith, start .pre .0 .tasks-ok _ below .window-bounded, start .pre .1))
-
-cast-best : tie.Need-cast-best Inv-loop μ-loop
-cast-best c = search needs
+    let start = c .before .before .before .before .before .before .before .before .before in
+    let below = c .before .before .before .before .loop-test .taken in
+    (start .pre .0 .periods-ok .above-0 _ below, omega (arith, start .pre .0 .window-bounded _ below, start .pre .1 .0))
 
 add-best : tie.Need-add-best Inv-loop μ-loop
 add-best c = search needs
@@ -62,7 +59,7 @@ loop-less c = search needs
 loop-again : tie.Need-loop-again Inv-loop μ-loop
 unfolding dueAt
 loop-again c =
-    let at = c .before .before .loop in
+    let at = c .before .before .before .loop in
     let picked = at .inv .1 in (
       search needs,
       ⊎-elim
@@ -87,8 +84,7 @@ loop-again c =
 returns : tie.Need-returns Inv-loop μ-loop
 returns c =
     let at = c .before .loop in
-    let a = c .before .before .args in
-    let all : at .i ≡ a .t1 .size = omega arith in
+    let all : at .i ≡ length (c .before .before .before .before .before .args .periods .now) = omega arith in
     rw all at (at .inv .1 .number)
 
 pub earliest-spec : {M : Type 1} → statement M
@@ -99,13 +95,12 @@ earliest-spec =
     μ-loop
     loop-holds
     mul-if1
-    array-read-if1
+    shared-slice-read-if1
     mul-due-at
-    element-copy-out-due-at
+    shared-slice-read-due-at
     mul-due-at-2
-    element-copy-out-due-at-2
+    shared-slice-read-due-at-2
     due-at-requires
-    cast-best
     add-best
     add-i
     loop-less

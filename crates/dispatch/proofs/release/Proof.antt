@@ -1,51 +1,52 @@
--- `release` writes `readyOf` to the places of the tasks, one a turn.
-use Prim.Native.Nat.{_≤_, _-_}
-use mathlib.Core.Path.{_≡_, refl}
+-- `release` has released the jobs of the tasks that it has passed.
+use Prim.Native.Nat.{_-_, _≤_}
+use mathlib.Core.Path.{_≡_, refl, _∙_}
 use native.Mathlib.Omega.{arith}
-use Rattle.laws.specs.Lists.{listOf, onto}
-use Rattle.dispatch.specs.Dispatching.{readyOf}
-use Rattle.dispatch.specs.Rows.{afterRelease}
-use Rattle.dispatch.specs.StepLaws.{release-next}
 use borrow.Author.Needs.{needs}
+use lib.ListN.{length, length-set}
+use Rattle.dispatch.specs.Rows.{afterRelease}
+use Rattle.dispatch.specs.ReleaseLaws.{releasedSoFar, none-released, release-next, all-released}
 use Rattle.dispatch.proofs.release.Statement.{statement}
 use Rattle.dispatch.proofs.release.Tie as tie
 
 abbrev Inv-loop : tie.InvT-loop
-Inv-loop s core left₀ i₀ left i = (i ≤ core .size) × (left ≡ onto (listOf (readyOf core s) i) left₀)
+Inv-loop periods ticks tick left₀ i₀ left i =
+    (i ≤ length periods) × (length left ≡ length left₀) × (left ≡ releasedSoFar periods ticks tick left₀ i)
 
 abbrev μ-loop : tie.MeasureT-loop
-μ-loop s core left₀ i₀ left i = core .size - i
+μ-loop periods ticks tick left₀ i₀ left i = length periods - i
 
 loop-holds : tie.Need-loop-holds Inv-loop μ-loop
-unfolding onto listOf
-loop-holds c = (search needs, refl)
+loop-holds c = (search needs, refl, none-released _ _ _ _)
 
 mul-after-release : tie.Need-mul-after-release Inv-loop μ-loop
 mul-after-release c = search needs
 
-element-copy-out-after-release : tie.Need-element-copy-out-after-release Inv-loop μ-loop
-element-copy-out-after-release c = search needs
+shared-slice-read-after-release : tie.Need-shared-slice-read-after-release Inv-loop μ-loop
+shared-slice-read-after-release c = search needs
 
 mul-after-release-2 : tie.Need-mul-after-release-2 Inv-loop μ-loop
 mul-after-release-2 c = search needs
 
-element-copy-out-after-release-2 : tie.Need-element-copy-out-after-release-2 Inv-loop μ-loop
-element-copy-out-after-release-2 c = search needs
+shared-slice-read-after-release-2 : tie.Need-shared-slice-read-after-release-2 Inv-loop μ-loop
+shared-slice-read-after-release-2 c = search needs
 
 mul-after-release-3 : tie.Need-mul-after-release-3 Inv-loop μ-loop
 mul-after-release-3 c = search needs
 
-array-read-after-release : tie.Need-array-read-after-release Inv-loop μ-loop
-array-read-after-release c = search needs
+slice-read-after-release : tie.Need-slice-read-after-release Inv-loop μ-loop
+slice-read-after-release c = search needs
 
 after-release-requires : tie.Need-after-release-requires Inv-loop μ-loop
-after-release-requires c κs = c .before .before .before .before .before .pre .0 .tasks-ok (c .before .before .before .loop .i) (c .before .before .loop-test .taken) .period-above-0
+after-release-requires c κs =
+    let ok = c .before .before .before .before .before .before .before .before .pre .0 in
+    ok .above-0 (c .before .before .before .before .loop .i) (c .before .before .before .loop-test .taken)
 
 mul-left : tie.Need-mul-left Inv-loop μ-loop
 mul-left c = search needs
 
-array-write-left : tie.Need-array-write-left Inv-loop μ-loop
-array-write-left c = search needs
+slice-write-left : tie.Need-slice-write-left Inv-loop μ-loop
+slice-write-left c = search needs
 
 add-i : tie.Need-add-i Inv-loop μ-loop
 add-i c = search needs
@@ -56,16 +57,20 @@ loop-less c = search needs
 loop-again : tie.Need-loop-again Inv-loop μ-loop
 unfolding afterRelease
 loop-again c =
-    let at = c .before .before .before .before .loop in
-    let a = c .before .before .before .before .before .before .args in
-    (search needs, release-next (a .t1) (a .s) (at .i) _ (at .left) (search needs) (at .inv .1) (c .after-release .ensures))
+    let at = c .before .before .before .before .before .loop in
+    let room = c .before .before .before .before .before .before .before .before .before .pre .1 .1 in (
+      search needs,
+      length-set (at .left) (at .i) _ ∙ at .inv .1,
+      release-next _ _ _ _ (at .left) (at .i) _ (omega (arith, room)) (at .inv .2) (c .after-release .ensures),
+    )
+
+same-length : tie.Need-same-length Inv-loop μ-loop
+same-length c = search needs
 
 returns : tie.Need-returns Inv-loop μ-loop
 returns c =
     let at = c .before .loop in
-    let a = c .before .before .before .args in
-    let all : at .i ≡ a .t1 .size = omega arith in
-    rw all at (at .inv .1)
+    all-released _ _ _ _ _ (at .i) (omega arith) (omega (arith, c .before .before .before .before .before .pre .1 .1)) (at .inv .2)
 
 pub release-spec : {M : Type 1} → statement M
 release-spec =
@@ -75,15 +80,16 @@ release-spec =
     μ-loop
     loop-holds
     mul-after-release
-    element-copy-out-after-release
+    shared-slice-read-after-release
     mul-after-release-2
-    element-copy-out-after-release-2
+    shared-slice-read-after-release-2
     mul-after-release-3
-    array-read-after-release
+    slice-read-after-release
     after-release-requires
     mul-left
-    array-write-left
+    slice-write-left
     add-i
     loop-less
     loop-again
+    same-length
     returns)

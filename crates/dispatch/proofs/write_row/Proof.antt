@@ -1,68 +1,92 @@
--- `write_row` writes the row slot by slot, and its state is the core's dispatching after as many ticks.
-use Prim.Native.Nat.{_≤_, _-_}
-use mathlib.Core.Path.{_≡_, refl, _∙_}
+-- `write_row` has filled the slots before its tick, and what is left is what dispatching has left then.
+use Prim.Native.Nat.{_-_, _≤_}
+use mathlib.Core.Path.{_≡_, refl, ap, _∙_}
 use native.Mathlib.Omega.{arith}
-use denote.Ref.{now}
 use borrow.Author.Needs.{needs}
-use lib.ListN.{length, length-set}
-use Rattle.laws.specs.JoinedLaws.{length-listOf}
-use Rattle.laws.specs.Lists.{listOf, onto}
-use Rattle.laws.specs.OntoLaws.{onto-all, set-onto-listOf}
-use Rattle.dispatch.specs.Dispatching.{tasksOf}
-use Rattle.dispatch.specs.DispatchingLaws.{Reached, start-is-reached, next-is-reached, last-is-slot}
-use Rattle.dispatch.specs.Rows.{slotOf, row}
+use lib.ListN.{length}
+use Rattle.dispatch.specs.Columns.{columnRow}
+use Rattle.dispatch.specs.RowLaws.{RowSoFar, row-starts, row-goes-on, row-ends, ran-is-task}
 use Rattle.dispatch.proofs.write_row.Statement.{statement}
 use Rattle.dispatch.proofs.write_row.Tie as tie
 
 abbrev Inv-loop : tie.InvT-loop
-Inv-loop core slots₀ s₀ t₀ slots s t =
-    (length slots ≡ length slots₀) × (slots ≡ onto (listOf (slotOf (tasksOf core)) t) slots₀) × (t ≤ length slots₀) × Reached core t s
+Inv-loop numbers periods windows ticks left₀ slots₀ end tick₀ soonest₀ left slots tick soonest =
+    (tick ≤ end) × (soonest ≤ end) × (length left ≡ length left₀) × (length slots ≡ length slots₀)
+    × RowSoFar numbers periods windows ticks tick soonest left slots
 
 abbrev μ-loop : tie.MeasureT-loop
-μ-loop core slots₀ s₀ t₀ slots s t = length slots₀ - t
+μ-loop numbers periods windows ticks left₀ slots₀ end tick₀ soonest₀ left slots tick soonest = end - tick
+
+cast-end : tie.Need-cast-end Inv-loop μ-loop
+cast-end c = search needs
 
 loop-holds : tie.Need-loop-holds Inv-loop μ-loop
-unfolding onto listOf
-loop-holds c = (refl, refl, search needs, start-is-reached (c .before .args .core) (c .before .pre .0 .few-tasks))
+loop-holds c =
+    let pre = c .before .before .before .before .before .before .pre in
+    (search needs, search needs, refl, refl, row-starts _ _ _ _ (pre .0) _ _ (pre .1 .1 .0))
 
-step-requires : tie.Need-step-requires Inv-loop μ-loop
-step-requires c κs = (c .before .before .before .pre .0, record { places = c .before .loop .inv .3 .places; early = omega arith })
+release-due-requires : tie.Need-release-due-requires Inv-loop μ-loop
+release-due-requires c κs =
+    let pre = c .before .before .before .before .before .before .before .before .before .pre in
+    let ok = pre .0 in
+    let inv = c .before .before .loop .inv in (
+      ok .dues-ok .periods-ok,
+      (ok .one-job-each, (omega (arith, pre .1 .0, inv .2), ((c .before .loop-test .taken, inv .1), inv .4 .no-release))),
+    )
 
-cast-slots : tie.Need-cast-slots Inv-loop μ-loop
-cast-slots c = search needs
+run-earliest-requires : tie.Need-run-earliest-requires Inv-loop μ-loop
+run-earliest-requires c κs =
+    let pre = c .before .before .before .before .before .before .before .before .before .before .before .before .before .pre in
+    let released = c .before .before .before .release-due .ensures in (
+      pre .0 .dues-ok,
+      (
+        omega (arith, pre .1 .1 .1, c .before .before .before .before .before .loop-test .taken),
+        (omega (arith, released .0 .same-length, pre .1 .0, c .before .before .before .before .before .before .loop .inv .2), released .1 .later),
+      ),
+    )
 
-slice-write-slots : tie.Need-slice-write-slots Inv-loop μ-loop
-slice-write-slots c = search needs
+slot-of-requires : tie.Need-slot-of-requires Inv-loop μ-loop
+slot-of-requires c κs =
+    let ok = c .before .before .before .before .before .before .before .before .before .before .before .before .before .before .before .before .before .pre .0 in
+    omega (arith, ran-is-task (c .before .before .before .run-earliest .ensures), ok .one-number-each)
 
-add-t : tie.Need-add-t Inv-loop μ-loop
-add-t c = search needs
+fill-requires : tie.Need-fill-requires Inv-loop μ-loop
+fill-requires c κs =
+    let until = c .before .before .before .before .run-earliest .ensures .until in
+    let next = c .before .before .before .before .before .before .before .before .release-due .ensures .1 in
+    let at = c .before .before .before .before .before .before .before .before .before .before .before .loop in
+    (omega (arith, until .later), omega (arith, until .within, next .within, at .inv .3))
 
 loop-less : tie.Need-loop-less Inv-loop μ-loop
-loop-less c = search needs
+loop-less c =
+    let until = c .before .before .before .before .before .before .before .run-earliest .ensures .until in
+    omega (arith, until .later, c .before .before .before .before .before .before .before .before .before .before .before .before .before .loop-test .taken)
 
 loop-again : tie.Need-loop-again Inv-loop μ-loop
 loop-again c =
-    let at = c .before .before .before .loop in
-    let a = c .before .before .before .before .before .args in
-    let r = c .before .step .result in
-    let stepped = c .before .step .ensures in (
-      length-set (at .slots) (at .t) (r .last) ∙ at .inv .0,
-      rw (last-is-slot (a .core) (at .t) (at .s) r (at .inv .3) stepped, at .inv .1)
-          (set-onto-listOf (slotOf (tasksOf (a .core))) _ (at .t) (search needs)),
-      search needs,
-      next-is-reached (a .core) (at .t) (at .s) r (at .inv .3) stepped,
+    let ok = c .before .before .before .before .before .before .before .before .before .before .before .before .before .before .before .before .before .before .before .before .before .pre .0 in
+    let inv = c .before .before .before .before .before .before .before .before .before .before .before .before .before .before .loop .inv in
+    let released = c .before .before .before .before .before .before .before .before .before .before .before .release-due .ensures in
+    let ran = c .before .before .before .before .before .before .before .run-earliest .ensures in
+    let filled = c .before .before .fill .ensures in
+    let shows = rw (c .before .before .before .slot-of .ensures) at filled in (
+      omega (arith, ran .until .within, released .1 .within),
+      released .1 .within,
+      omega (arith, ran .ran .same-length, released .0 .same-length, inv .2),
+      filled .same-length ∙ inv .3,
+      row-goes-on _ _ _ _ ok _ _ _ _ _ _ _ _ _ _ (inv .4) (released .0) (released .1) ran shows,
     )
 
 same-length : tie.Need-same-length Inv-loop μ-loop
 same-length c = search needs
 
+same-length-2 : tie.Need-same-length-2 Inv-loop μ-loop
+same-length-2 c = search needs
+
 returns : tie.Need-returns Inv-loop μ-loop
-unfolding row
 returns c =
-    let at = c .before .loop in
-    let a = c .before .before .before .args in
-    let all : at .t ≡ length (now (a .slots)) = omega arith in
-    at .inv .1 ∙ rw all (onto-all (row (tasksOf (a .core)) (length (now (a .slots)))) (now (a .slots)) (length-listOf _ _))
+    let inv = c .before .loop .inv in
+    row-ends _ _ _ _ (c .before .loop .tick) _ _ _ (omega (arith, inv .3)) (inv .4) ∙ ap (columnRow _ _ _ _) (inv .3)
 
 pub write-row-spec : {M : Type 1} → statement M
 write-row-spec =
@@ -70,12 +94,14 @@ write-row-spec =
     (tie.spec
     Inv-loop
     μ-loop
+    cast-end
     loop-holds
-    step-requires
-    cast-slots
-    slice-write-slots
-    add-t
+    release-due-requires
+    run-earliest-requires
+    slot-of-requires
+    fill-requires
     loop-less
     loop-again
     same-length
+    same-length-2
     returns)

@@ -5,7 +5,6 @@ use native.Mathlib.Omega.{arith}
 use lib.ListN.{length}
 use borrow.Author.Needs.{needs}
 use Rattle.laws.specs.PartLaws.{length-part}
-use Rattle.dispatch.specs.DispatchingLaws.{row-written}
 use Rattle.instance.specs.Held.{problemIn, held-span}
 use Rattle.schedule.specs.HeldSlots.{row-within-table}
 use Rattle.schedule.specs.HeldTables.{rowsOnto, no-rows-onto, all-rows-onto, length-rows-onto, row-onto}
@@ -57,20 +56,21 @@ mul-from c = omega (arith, row-fits c, same-length-so-far (c .before))
 add-to : tie.Need-add-to Inv-loop μ-loop
 add-to c = omega (arith, row-fits c, same-length-so-far (c .before))
 
-core-tasks-requires : tie.Need-core-tasks-requires Inv-loop μ-loop
-core-tasks-requires c κs = let asked = c .before .before .before .before .before .before .pre in (asked .0, asked .1 .0)
+sub-fill-core : tie.Need-sub-fill-core Inv-loop μ-loop
+sub-fill-core c = omega arith
 
-sub-fill-row : tie.Need-sub-fill-row Inv-loop μ-loop
-sub-fill-row c = omega arith
+part-fill-core-start : tie.Need-part-fill-core-start Inv-loop μ-loop
+part-fill-core-start c = omega arith
 
-part-fill-row-start : tie.Need-part-fill-row-start Inv-loop μ-loop
-part-fill-row-start c = omega arith
+part-fill-core-end : tie.Need-part-fill-core-end Inv-loop μ-loop
+part-fill-core-end c = row-fits c
 
-part-fill-row-end : tie.Need-part-fill-row-end Inv-loop μ-loop
-part-fill-row-end c = row-fits (c .before)
-
-fill-row-requires : tie.Need-fill-row-requires Inv-loop μ-loop
-fill-row-requires c κs = search needs
+fill-core-requires : tie.Need-fill-core-requires Inv-loop μ-loop
+fill-core-requires c κs =
+    let start = c .before .before .before .before .before .before .before in
+    let at = c .before .before .loop in
+    let its-length = length-part (at .table) (at .k * start .args .inst .span) (start .args .inst .span) (row-fits (c .before)) in
+    (start .pre .0, (start .pre .1 .0, omega (arith, its-length, held-span _ (start .pre .0), start .pre .0 .valid .span-at-most)))
 
 add-k : tie.Need-add-k Inv-loop μ-loop
 add-k c = search needs
@@ -79,17 +79,11 @@ loop-less : tie.Need-loop-less Inv-loop μ-loop
 loop-less c = search needs
 
 loop-again : tie.Need-loop-again Inv-loop μ-loop
-loop-again c = let start = c .before .before .before .before .before .before .before .before .before .before .before in
-    let at = c .before .before .before .before .before .before .loop in
-    let core = c .before .before .before .before .core-tasks .ensures in
-    let span = start .args .inst .span in
-    let fits = row-fits (c .before .before .before .before .before) in
-    let its-length = length-part (at .table) (at .k * span) span fits in
-    let written =
-    row-written _ _ _ (c .before .before .fill-row .result)
-    record { core-ok = core .is-ok; within-span = omega (arith, its-length, held-span _ (start .pre .0), start .pre .0 .valid .span-at-most) }
-    (c .before .before .fill-row .ensures) in
-    (search needs, row-onto _ _ _ _ _ _ _ _ (held-span _ (start .pre .0)) core (at .inv .1) fits written)
+loop-again c =
+    let start = c .before .before .before .before .before .before .before .before .before .before in
+    let at = c .before .before .before .before .before .loop in
+    let fits = row-fits (c .before .before .before .before) in
+    (search needs, row-onto _ _ _ _ _ _ _ (held-span _ (start .pre .0)) (at .inv .1) fits (c .before .before .fill-core .ensures))
 
 same-length : tie.Need-same-length Inv-loop μ-loop
 same-length c = same-length-so-far (c .before)
@@ -108,11 +102,10 @@ fill-table-spec =
     loop-holds
     mul-from
     add-to
-    core-tasks-requires
-    sub-fill-row
-    part-fill-row-start
-    part-fill-row-end
-    fill-row-requires
+    sub-fill-core
+    part-fill-core-start
+    part-fill-core-end
+    fill-core-requires
     add-k
     loop-less
     loop-again
