@@ -12,14 +12,14 @@ use Rattle.instance.specs.declared.Verdict.the-variants.{Accepted}
 use Rattle.schedule.specs.CheckLaws.{choices-pass}
 use Rattle.schedule.specs.CheckTheorem.{check-accepts-exactly-drawings, tabulated-table-passes}
 use Rattle.schedule.specs.Checks.{check}
-use Rattle.schedule.specs.Demand.{WellFormed, WholePeriods, Demand, NamesTask, Serves, loadOf}
+use Rattle.edf.specs.Demand.{WellFormed, WholePeriods, Demand, NamesTask, Serves, loadOf}
 use Rattle.schedule.specs.DrawingLaws.{parts-of-drawing}
 use Rattle.schedule.specs.Drawings.{Drawing}
 use Rattle.schedule.specs.Periods.{Periodic, period-positive}
 use Rattle.schedule.specs.Plans.{choicesPass, fits, coresFit, planPasses}
 use Rattle.schedule.specs.Quantities.{jobs, loadOn, coreLoad}
 use Rattle.dispatch.specs.Rows.{slotOf}
-use Rattle.schedule.specs.SchedulingTheorems.{edf-serves-every-job, edf-slots-name-tasks-with-ticks, load-is-demand, served-meets-demand, served-load-is-within-span}
+use Rattle.edf.specs.SchedulingTheorems.{edf-serves-every-job, edf-slots-name-tasks-with-ticks, load-is-demand, served-meets-demand, served-load-is-within-span}
 use Rattle.schedule.specs.ServedRowLaws.{drawing-serves-cores}
 use Rattle.schedule.specs.ServedRows.{OwedSlot, RowServes}
 use Rattle.schedule.specs.Tables.{coreTasks, tableOf, slotAt}

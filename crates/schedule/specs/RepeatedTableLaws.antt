@@ -10,7 +10,7 @@ use Rattle.schedule.specs.FitLaws.{windows-well-formed, periods-whole, r
 use Rattle.schedule.specs.Periods.{Periodic}
 use Rattle.schedule.specs.Quantities.{coreOf, jobTicks}
 use Rattle.schedule.specs.RepeatedTables.{shownAt, ServesForEver}
-use Rattle.schedule.specs.SchedulingTheorems.{repeated-row-serves-for-ever}
+use Rattle.edf.specs.SchedulingTheorems.{repeated-row-serves-for-ever}
 use Rattle.schedule.specs.ServedRowLaws.{ticks-where-kept, core-of-kept, drawing-serves-cores}
 use Rattle.schedule.specs.Tables.{coreTasks, releaseOf, window, slotAt}
 

@@ -5,9 +5,9 @@ use mathlib.Core.Bool.{Bool, true}
 use mathlib.Core.List.{List}
 use mathlib.Core.Path.{_≡_, sym, _∙_}
 use Rattle.instance.specs.Node.{Problem, taskCount, taskAt, span}
-use Rattle.schedule.specs.Demand.{KeptAlsoBy}
+use Rattle.edf.specs.Demand.{KeptAlsoBy}
 use Rattle.schedule.specs.Quantities.{keeps, jobTicks, ticksOn}
-use Rattle.schedule.specs.SchedulingTheorems.{row-depends-on-kept-tasks}
+use Rattle.edf.specs.SchedulingTheorems.{row-depends-on-kept-tasks}
 use Rattle.schedule.specs.ServedRowLaws.{kept-where-ticks}
 use Rattle.schedule.specs.TableLaws.{slotAt-tableOf}
 use Rattle.schedule.specs.Tables.{coreTasks, tableOf, slotAt}

@@ -3,16 +3,11 @@
 use Prim.Native.Nat.{ℕ, suc, _*_, _≤_, _<_}
 use mathlib.Core.List.{List}
 use mathlib.Core.Path.{_≡_}
-use lib.Dec.{eqb}
 use lib.ListN.{length}
-use Rattle.laws.specs.Search.{count}
 use Rattle.instance.specs.Node.{Problem, taskCount, span}
+use Rattle.edf.specs.Demand.{slotsGiven}
 use Rattle.schedule.specs.Quantities.{ticksOn}
 use Rattle.schedule.specs.Tables.{releaseOf, dueOf, slotAt}
-
--- the slots with task i's number among the first t of a row
-unfoldable pub slotsGiven : (ℕ → ℕ) → ℕ → ℕ → ℕ
-slotsGiven slots i t = count (λ u. eqb (slots u) (suc i)) t
 
 -- job j of task i on core k at tick t: "released and not finished". It is finished once the row has given the task's jobs
 -- up to and with j all their ticks. A task that the plan does not keep on this core has no ticks there, so that no job of

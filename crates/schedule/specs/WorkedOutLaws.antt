@@ -12,9 +12,9 @@ use Rattle.instance.specs.declared.Verdict.the-variants.{Accepted}
 use Rattle.dispatch.specs.DispatchLaws.{readyAt, slot-is-choice}
 use Rattle.dispatch.specs.Earliest.{Choice, choice-unique}
 use Rattle.dispatch.specs.Rows.{slotOf, dueAt}
-use Rattle.schedule.specs.Demand.{Demand}
+use Rattle.edf.specs.Demand.{Demand}
 use Rattle.schedule.specs.FitLaws.{windows-well-formed, passing-core-meets-demand}
-use Rattle.schedule.specs.PendingJobLaws.{unfinished-is-latest, ready-is-unfinished}
+use Rattle.edf.specs.PendingJobLaws.{unfinished-is-latest, ready-is-unfinished}
 use Rattle.schedule.specs.Periods.{Periodic, row-of-index, tick-of-index, slot-of-index}
 use Rattle.schedule.specs.Plans.{planPasses}
 use Rattle.schedule.specs.TableLaws.{length-tableOf, slotAt-tableOf}

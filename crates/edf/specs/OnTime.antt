@@ -9,7 +9,7 @@ use lib.Dec.{leb}
 use borrow.Author.Tests.{le-leb, lt-leb}
 use Rattle.laws.specs.Sums.{sum}
 use Rattle.laws.specs.SumLaws.{sum-mono, term-le-sum}
-use Rattle.schedule.specs.Demand.{jobsDue}
+use Rattle.edf.specs.Demand.{jobsDue}
 use Rattle.dispatch.specs.Rows.{CoreTasks, dueAt}
 
 -- the ticks left of a job if it is due by tick b

@@ -4,7 +4,7 @@ use mathlib.Core.Path.{_≡_}
 use native.Mathlib.Nat.{le-trans, add-right-comm, add-mul-div-right, div-eq-of-lt, le-div-iff-mul-le}
 use native.Mathlib.Omega.{arith}
 use Rattle.laws.specs.DivisionLaws.{div-mono}
-use Rattle.schedule.specs.Demand.{WellFormed, jobsDue}
+use Rattle.edf.specs.Demand.{WellFormed, jobsDue}
 use Rattle.dispatch.specs.Rows.{CoreTasks}
 
 pub period-above-0 : {core : CoreTasks} → WellFormed core → (i : ℕ) → i < core .size → 0 < core .period i

@@ -6,7 +6,7 @@ use native.Mathlib.Omega.{arith}
 use lib.Arith.{digits-lt, digits-mod}
 use lib.Dec.{eqb}
 use Rattle.laws.specs.SearchFacts.{count-same}
-use Rattle.schedule.specs.Demand.{WellFormed, WholePeriods, slotsOfJob, repeated}
+use Rattle.edf.specs.Demand.{WellFormed, WholePeriods, slotsOfJob, repeated}
 use Rattle.dispatch.specs.Rows.{CoreTasks}
 
 -- a tick of job j, taken modulo the span

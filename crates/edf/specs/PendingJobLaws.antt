@@ -13,10 +13,9 @@ use Rattle.laws.specs.Search.{count}
 use Rattle.laws.specs.SearchFacts.{count-of-none, count-same}
 use Rattle.dispatch.specs.DispatchLaws.{readyAt, ready-le-ticks}
 use Rattle.dispatch.specs.Rows.{CoreTasks, slotOf}
-use Rattle.schedule.specs.Demand.{WellFormed, Demand}
-use Rattle.schedule.specs.EdfLaws.{slotsSoFar, accounted, job-served, no-slot-after-due}
-use Rattle.schedule.specs.JobsDueLaws.{period-above-0}
-use Rattle.schedule.specs.WorkedOut.{slotsGiven}
+use Rattle.edf.specs.Demand.{WellFormed, Demand, slotsGiven}
+use Rattle.edf.specs.EdfLaws.{slotsSoFar, accounted, job-served, no-slot-after-due}
+use Rattle.edf.specs.JobsDueLaws.{period-above-0}
 
 module _ (core : CoreTasks) (wf : WellFormed core) (demand : Demand core) (i : ℕ) (l : i < core .size) where
   -- a job has its ticks by the next release

@@ -40,6 +40,10 @@ pub record NamesTask (core : CoreTasks) (slot : ℕ) : Type 0 where
   pub its-number : slot ≡ suc task
   pub has-ticks : 0 < core .ticks task
 
+-- the slots with task i's number among the first t of a row
+unfoldable pub slotsGiven : (ℕ → ℕ) → ℕ → ℕ → ℕ
+slotsGiven slots i t = count (λ u. eqb (slots u) (suc i)) t
+
 -- the slots with the number of task i in the window of its job j
 abbrev pub slotsOfJob : (ℕ → ℕ) → CoreTasks → ℕ → ℕ → ℕ
 slotsOfJob slots core i j = count (λ x. eqb (slots (j * core .period i + x)) (suc i)) (core .window i)

@@ -4,14 +4,14 @@ use Prim.Native.Nat.{ℕ, _/_, _≤_, _<_}
 use mathlib.Core.Path.{_≡_, sym, _∙_}
 use mathlib.Core.Logic.{_⊎_}
 use Rattle.laws.specs.Sums.{sum}
-use Rattle.schedule.specs.Demand.{WellFormed, WholePeriods, Demand, Serves, NoSlotAfterDue, NamesTask, KeptAlsoBy}
-use Rattle.schedule.specs.Demand.{slotsOfJob, loadOf, repeated}
-use Rattle.schedule.specs.EdfLaws.{slot-names-task, job-served, no-slot-after-due}
-use Rattle.schedule.specs.KeptTaskLaws.{same-slots}
-use Rattle.schedule.specs.LoadLaws.{load-within-span-is-demand}
-use Rattle.schedule.specs.RepeatedRowLaws.{job-of-span, repeated-slot, repeated-slots-of-job}
+use Rattle.edf.specs.Demand.{WellFormed, WholePeriods, Demand, Serves, NoSlotAfterDue, NamesTask, KeptAlsoBy}
+use Rattle.edf.specs.Demand.{slotsOfJob, loadOf, repeated}
+use Rattle.edf.specs.EdfLaws.{slot-names-task, job-served, no-slot-after-due}
+use Rattle.edf.specs.KeptTaskLaws.{same-slots}
+use Rattle.edf.specs.LoadLaws.{load-within-span-is-demand}
+use Rattle.edf.specs.RepeatedRowLaws.{job-of-span, repeated-slot, repeated-slots-of-job}
 use Rattle.dispatch.specs.Rows.{CoreTasks, slotOf}
-use Rattle.schedule.specs.ServedLaws.{served-load-fits, served-demand}
+use Rattle.edf.specs.ServedLaws.{served-load-fits, served-demand}
 
 -- Where the demand condition holds, earliest deadline first gives every job, however late it is released, exactly its
 -- ticks in its window ..

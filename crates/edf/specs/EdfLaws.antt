@@ -10,12 +10,12 @@ use lib.Dec.{eqb}
 use borrow.Author.Tests.{eqb-true, eqb-false}
 use Rattle.laws.specs.CountLaws.{count-mono}
 use Rattle.laws.specs.Search.{count}
-use Rattle.schedule.specs.Demand.{WellFormed, Demand, NamesTask, NoSlotAfterDue, slotsOfJob}
+use Rattle.edf.specs.Demand.{WellFormed, Demand, NamesTask, NoSlotAfterDue, slotsOfJob}
 use Rattle.dispatch.specs.DispatchLaws.{leftAt, readyAt, slot-is-choice, left-after-run, ready-le-ticks}
 use Rattle.dispatch.specs.DispatchLaws.{afterRelease-at-release, afterRelease-between, afterRun-self, afterRun-other}
 use Rattle.dispatch.specs.Earliest.{Choice, chosen-has-left}
-use Rattle.schedule.specs.OnTime.{OnTime, done-when-due}
-use Rattle.schedule.specs.OnTimeSteps.{on-time-start, on-time-run, on-time-release}
+use Rattle.edf.specs.OnTime.{OnTime, done-when-due}
+use Rattle.edf.specs.OnTimeSteps.{on-time-start, on-time-run, on-time-release}
 use Rattle.dispatch.specs.Rows.{CoreTasks, dueAt, afterRun, slotOf}
 
 -- the slots of job j of task i among the first x ticks from its release

@@ -11,12 +11,12 @@ use borrow.Author.Tests.{eqb-true, eqb-false}
 use Rattle.laws.specs.Below.{lt-or-le}
 use Rattle.laws.specs.DivisionLaws.{suc-div-of-multiple, suc-div-of-other}
 use Rattle.laws.specs.SumLaws.{sum-mono, sum-falls}
-use Rattle.schedule.specs.Demand.{WellFormed, Demand, jobsDue, ticksDue}
+use Rattle.edf.specs.Demand.{WellFormed, Demand, jobsDue, ticksDue}
 use Rattle.dispatch.specs.DispatchLaws.{afterRelease-at-release, afterRelease-between, afterRun-le, afterRun-self}
 use Rattle.dispatch.specs.Earliest.{Choice}
-use Rattle.schedule.specs.JobsDueLaws.{period-above-0, counted-of-due, jobsDue-mono, jobsDue-later}
-use Rattle.schedule.specs.OnTime.{leftBy, laterJobs, owed, ahead, OnTime, leftBy-due, leftBy-later, leftBy-le, owed-mono}
-use Rattle.schedule.specs.OnTime.{on-time-owing-no-more, on-time-with-less-left}
+use Rattle.edf.specs.JobsDueLaws.{period-above-0, counted-of-due, jobsDue-mono, jobsDue-later}
+use Rattle.edf.specs.OnTime.{leftBy, laterJobs, owed, ahead, OnTime, leftBy-due, leftBy-later, leftBy-le, owed-mono}
+use Rattle.edf.specs.OnTime.{on-time-owing-no-more, on-time-with-less-left}
 use Rattle.dispatch.specs.Rows.{CoreTasks, dueAt, afterRelease, afterRun}
 
 module _ (core : CoreTasks) (wf : WellFormed core) where

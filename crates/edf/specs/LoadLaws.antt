@@ -5,7 +5,7 @@ use native.Mathlib.Nat.{div-mul-cancel, div-mul-le-self, le-of-mul-le-mul-left, 
 use native.Mathlib.Omega.{arith}
 use Rattle.laws.specs.Sums.{sum}
 use Rattle.laws.specs.SumLaws.{sum-mono, sum-scaled}
-use Rattle.schedule.specs.Demand.{WholePeriods, Demand, jobsDue, ticksDue, loadOf}
+use Rattle.edf.specs.Demand.{WholePeriods, Demand, jobsDue, ticksDue, loadOf}
 use Rattle.dispatch.specs.Rows.{CoreTasks}
 
 -- q whole periods within x ticks, out of n in a span

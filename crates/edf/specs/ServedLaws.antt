@@ -8,8 +8,8 @@ use Rattle.laws.specs.CountLaws.{windows-le-count, count-by-number}
 use Rattle.laws.specs.Search.{count}
 use Rattle.laws.specs.Sums.{sum}
 use Rattle.laws.specs.SumLaws.{sum-mono, sum-add, sum-scaled}
-use Rattle.schedule.specs.Demand.{WellFormed, WholePeriods, Demand, Serves, jobsDue, ticksDue, loadOf}
-use Rattle.schedule.specs.JobsDueLaws.{due-of-counted, jobsDue-mono, jobsDue-later, none-due-at-0}
+use Rattle.edf.specs.Demand.{WellFormed, WholePeriods, Demand, Serves, jobsDue, ticksDue, loadOf}
+use Rattle.edf.specs.JobsDueLaws.{due-of-counted, jobsDue-mono, jobsDue-later, none-due-at-0}
 use Rattle.dispatch.specs.Rows.{CoreTasks}
 
 module _ (core : CoreTasks) (wf : WellFormed core) (span : ℕ) (whole : WholePeriods core span) where

@@ -1,0 +1,11 @@
+pub mod Demand
+pub mod JobsDueLaws
+pub mod OnTime
+pub mod OnTimeSteps
+pub mod EdfLaws
+pub mod KeptTaskLaws
+pub mod LoadLaws
+pub mod ServedLaws
+pub mod RepeatedRowLaws
+pub mod SchedulingTheorems
+pub mod PendingJobLaws
