@@ -1,3 +1,6 @@
+pub mod ArithmeticLaws
+pub mod Demands
 pub mod TextCalls
 pub mod TextCallLaws
 pub mod TextDemands
+pub mod Cases

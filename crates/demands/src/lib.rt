@@ -1,2 +1,1 @@
-// The demands of the calls that are given text, over the outcomes that their contracts name. Theorems alone; they stand in
-// specs/.
+// The demands, over the outcomes that the contracts of the calls name, and K1 to K13. Theorems alone; they stand in specs/.

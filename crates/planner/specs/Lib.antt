@@ -1,6 +1,5 @@
 pub mod Planning
 pub mod Outcomes
-pub mod Cases
 pub mod OptionsOf
 pub mod ChoiceLaws
 pub mod OptionsLaws
@@ -14,8 +13,6 @@ pub mod EndingLaws
 pub mod Planned
 pub mod BestDrawingLaws
 pub mod PlannedLaws
-pub mod ArithmeticLaws
-pub mod Demands
 pub mod OfferedOptions
 pub mod HeldOptions
 pub mod BestChoices

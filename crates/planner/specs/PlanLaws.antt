@@ -21,7 +21,7 @@ use Rattle.schedule.specs.Tables.{tableSize}
 use Rattle.schedule.specs.declared.prices.Priced.{Priced}
 use Rattle.search.specs.declared.Found.the-variants as Found
 use Rattle.search.specs.declared.Found.{Found}
-use Rattle.planner.specs.ArithmeticLaws.{passing-plan-is-priced, passing-plan-is-tabled}
+use Rattle.schedule.specs.PassingPlanLaws.{passing-plan-is-priced, passing-plan-is-tabled}
 use Rattle.planner.specs.BestChoices.{foundOf, chosenOnto}
 use Rattle.planner.specs.BestPlanLaws.{best-plan-passes}
 use Rattle.planner.specs.EndingLaws.{best-plan-length}

@@ -34,3 +34,4 @@ pub mod KeptColumns
 pub mod KeptColumnLaws
 pub mod HeldTables
 pub mod OutcomeLaws
+pub mod PassingPlanLaws

@@ -34,6 +34,7 @@ use Rattle.schedule.specs.CheckTheorem.{check-accepts-exactly-drawings, check-a
 use Rattle.schedule.specs.Drawings.{DrawnTable, Drawing}
 use Rattle.schedule.specs.EndingLaws.{pricing-ends, tabling-ends, checking-ends}
 use Rattle.schedule.specs.Outcomes.{priceOutcome, tableOutcome, checkOutcome, PricingEnds, TablingEnds, CheckingEnds}
+use Rattle.schedule.specs.PassingPlanLaws.{passing-plan-is-priced, passing-plan-is-tabled}
 use Rattle.schedule.specs.Periods.{valid-is-periodic}
 use Rattle.schedule.specs.Plans.{choicesPass, planPasses}
 use Rattle.schedule.specs.Quantities.{isRefused, levelOf, ticks, jobTicks, jobs, priceOf}
@@ -41,14 +42,14 @@ use Rattle.schedule.specs.Tables.{tableOf, tableSize}
 use Rattle.schedule.specs.WorkedOut.{WorkedOut}
 use Rattle.schedule.specs.WorkedOutLaws.{worked-out-is-table}
 use Rattle.schedule.specs.declared.prices.Priced.the-variants as Priced
-use Rattle.planner.specs.ArithmeticLaws.{ticks-round-up, priced-energy, priced-penalty, priced-cost, passing-plan-is-priced, passing-plan-is-tabled, checked-as-defined, best-plan-is-written}
+use Rattle.demands.specs.ArithmeticLaws.{ticks-round-up, priced-energy, priced-penalty, priced-cost, checked-as-defined, best-plan-is-written}
 use Rattle.planner.specs.BestDrawingLaws.{no-plan-iff-no-drawing, answered-is-best-drawing}
 use Rattle.planner.specs.EndingLaws.{planning-ends}
 use Rattle.planner.specs.Endings.{PlanningEnds}
 use Rattle.planner.specs.Outcomes.{planOutcome}
 use Rattle.planner.specs.Planned.{NoDrawing, BestDrawing, Optimal}
 use Rattle.planner.specs.PlannedLaws.{planOutcome-is-planned}
 use Rattle.planner.specs.Planning.{bestPlan}
 
 -- Demand 1. Every call comes to an end, whatever text, words, plan or table it is given. It does its work, or it returns the
 -- number and the place of the refusal that document 01 has for that input, and then every buffer lent to it is as before.

@@ -1,5 +1,5 @@
--- What demand 2 needs: ticks round up, a price is document 01's sums, and pricing, tabling, the check and planning answer
--- for an instance that was read what the definitions say of it.
+-- What demand 2 needs: ticks round up, a price is document 01's sums, and the check and planning answer for an instance that
+-- was read what the definitions say of it.
 use Prim.Native.Nat.{ℕ, suc, _+_, _-_, _*_, _/_, _≤_, _<_}
 use mathlib.Core.Bool.{cond}
 use mathlib.Core.List.{List}
@@ -9,25 +9,22 @@ use mathlib.Core.Path.{_≡_, refl, ap, _∙_}
 use native.Mathlib.Nat.{div-lt-iff-lt-mul}
 use native.Mathlib.Omega.{arith}
 use lib.ListN.{length}
-use Rattle.laws.specs.Lists.{onto}
 use Rattle.laws.specs.Sums.{sum}
 use Rattle.instance.specs.Node.{Problem, taskCount, levelAt, taskAt}
-use Rattle.instance.specs.Refusals.{accepted, room}
+use Rattle.instance.specs.Refusals.{accepted}
 use Rattle.instance.specs.RoomLaws.{enough-room}
 use Rattle.instance.specs.SiteFile.{problemOf}
 use Rattle.instance.specs.declared.Verdict.the-variants.{Accepted}
 use Rattle.schedule.specs.CheckLaws.{choices-pass}
 use Rattle.schedule.specs.Checks.{check}
-use Rattle.schedule.specs.Outcomes.{priceOutcome, priceOutcomeOf, pricedIf, tableOutcome, tableOutcomeOf, tableWhere, checkOutcome, checkOutcomeOf}
-use Rattle.schedule.specs.Plans.{choicesPass, planPasses}
+use Rattle.schedule.specs.Outcomes.{checkOutcome, checkOutcomeOf}
+use Rattle.schedule.specs.Plans.{choicesPass}
 use Rattle.schedule.specs.Quantities.{isRefused, levelOf, ticks, jobTicks, jobs, penalty, cost, priceOf}
-use Rattle.schedule.specs.Tables.{tableOf, tableSize}
-use Rattle.schedule.specs.VerdictLaws.{andThen-accepts}
-use Rattle.schedule.specs.declared.prices.Priced.the-variants as Priced
+use Rattle.schedule.specs.Tables.{tableSize}
 use Rattle.planner.specs.CostLaws.{energy-of-kept-tasks}
 use Rattle.planner.specs.Outcomes.{planAnswered, planOutcome}
 use Rattle.planner.specs.PlannedLaws.{where-room}
 use Rattle.planner.specs.Planning.{bestPlan}
 
 -- the least number of ticks in which the cycles are done
 pub ticks-round-up : (cycles speed n : ℕ) → 0 < speed → (ticks cycles speed ≤ n) ↔ (cycles ≤ n * speed)
@@ -54,18 +51,6 @@ module _ (p : Problem) (plan : List ℕ) where
   priced-cost = refl
 
 module _ (words : List ℕ) (p : Problem) (read : problemOf words ≡ accepted p) where
-  pub passing-plan-is-priced : (plan : List ℕ) → planPasses p plan ≡ Accepted → priceOutcome words plan ≡ Priced.Cost (priceOf p plan)
-  unfolding priceOutcome
-  passing-plan-is-priced plan passes =
-      ap (λ r. priceOutcomeOf r plan) read ∙ ap (λ v. pricedIf v (priceOf p plan)) passes
-
-  pub passing-plan-is-tabled : (plan buffer : List ℕ) → planPasses p plan ≡ Accepted → tableSize p ≤ length buffer →
-      tableOutcome words plan buffer ≡ record { answer = Accepted; table = onto (tableOf p plan) buffer }
-  unfolding tableOutcome
-  passing-plan-is-tabled plan buffer passes enough =
-      let passes-all = andThen-accepts (room (tableSize p) buffer) (planPasses p plan) .1 (enough-room (tableSize p) buffer enough, passes) in
-      ap (λ r. tableOutcomeOf r plan buffer) read ∙ ap (λ v. tableWhere v (tableOf p plan) buffer) passes-all
-
   pub checked-as-defined : (plan table : List ℕ) → checkOutcome words plan table ≡ check p plan table
   unfolding checkOutcome
   checked-as-defined plan table = ap (λ r. checkOutcomeOf r plan table) read
