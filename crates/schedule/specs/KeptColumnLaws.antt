@@ -1,24 +1,19 @@
--- Columns of a core's kept tasks, task by task; and the row that they give.
-use Prim.Native.Nat.{ℕ, suc, _+_, _-_, _≤_, _<_}
+-- Columns of a core's kept tasks, task by task.
+use Prim.Native.Nat.{ℕ, suc, _+_, _-_, _<_}
 use mathlib.Core.Bool.{true, false}
 use mathlib.Core.List.{List}
-use mathlib.Core.Path.{_≡_, sym, _∙_}
+use mathlib.Core.Path.{_≡_, _∙_}
 use native.Mathlib.Numerals.{add-one}
 use native.Mathlib.Omega.{arith}
-use lib.ListN.{length, getD, set, take, length-set}
-use lib.Seq.{getD-set-same, getD-set-other, getD-take, length-take-le}
+use lib.ListN.{length, getD, set, length-set}
+use lib.Seq.{getD-set-same, getD-set-other}
 use Rattle.ranges.specs.Limits.{mostTasks}
 use Rattle.laws.specs.Below.{below-suc}
 use Rattle.laws.specs.Truth.{false-not-true}
-use Rattle.instance.specs.Node.{Problem, taskCount, taskAt}
-use Rattle.instance.specs.Valid.{Valid}
-use Rattle.dispatch.specs.Columns.{ColumnsOk, columnRow, columnTasks}
-use Rattle.dispatch.specs.Rows.{CoreTasks, row}
-use Rattle.dispatch.specs.SelectedTasks.{Selected, row-of-selected}
+use Rattle.instance.specs.Node.{Problem, taskAt}
 use Rattle.schedule.specs.KeptColumns.{HeldTask, KeptColumns, Places}
 use Rattle.schedule.specs.Quantities.{keeps, jobTicks, ticksOn}
-use Rattle.schedule.specs.ServedRowLaws.{kept-where-ticks}
-use Rattle.schedule.specs.Tables.{coreTasks, window}
+use Rattle.schedule.specs.Tables.{window}
 
 module _ (p : Problem) (plan : List ℕ) (k : ℕ) where
   pub no-tasks-yet : (numbers periods windows ticks : List ℕ) → Places numbers periods windows ticks →
@@ -116,63 +111,3 @@ module _ (p : Problem) (plan : List ℕ) (k : ℕ) where
             (λ i l is-kept. let at = columns .every-kept i l is-kept in (at .0, omega (arith, at .1), before numbers number (at .0) (at .1) ∙ at .2))
             (λ is-kept. (n, omega arith, number-at-end)) i (omega arith) is-kept;
       }
-
-module _ (p : Problem) (v : Valid p) (plan : List ℕ) (k n : ℕ) (numbers periods windows ticks : List ℕ)
-    (columns : KeptColumns p plan k (taskCount p) n numbers periods windows ticks) where
-  places-enough : n ≤ mostTasks
-  places-enough = omega (arith, columns .no-more, v .task-count)
-
-  pub length-front : (xs : List ℕ) → length xs ≡ mostTasks → length (take n xs) ≡ n
-  length-front xs long = length-take-le n xs (omega (arith, places-enough))
-
-  -- the columns that the row is given
-  abbrev rowColumns : CoreTasks
-  rowColumns = columnTasks (take n periods) (take n windows) (take n ticks)
-
-  is-held : (j : ℕ) → j < rowColumns .size → j < n
-  is-held j l = omega (arith, length-front ticks (columns .places .of-ticks))
-
-  is-task : (j : ℕ) → j < n → getD numbers j 0 - 1 < taskCount p
-  is-task j l = omega (arith, columns .held j l .above-0, columns .held j l .at-most)
-
-  pub columns-ok : ColumnsOk (take n numbers) (take n periods) (take n windows) (take n ticks)
-  columns-ok =
-      let of-periods = length-front periods (columns .places .of-periods) in
-      let period : (i : ℕ) → i < n → getD (take n periods) i 0 ≡ taskAt p (getD numbers i 0 - 1) .period =
-      λ i l. getD-take n periods i 0 l ∙ columns .held i l .same-period in
-      let its-window : (i : ℕ) → i < n → getD (take n windows) i 0 ≡ taskAt p (getD numbers i 0 - 1) .period =
-      λ i l. getD-take n windows i 0 l ∙ columns .held i l .same-window in
-      record {
-        few-tasks = omega (arith, of-periods, places-enough);
-        one-number-each = length-front numbers (columns .places .of-numbers) ∙ sym of-periods;
-        one-job-each = length-front ticks (columns .places .of-ticks) ∙ sym of-periods;
-        dues-ok = record {
-          one-window-each = length-front windows (columns .places .of-windows) ∙ sym of-periods;
-          periods-ok = record {
-            above-0 = λ i l. let j = rw of-periods at l in rw (period i j) (v .task (getD numbers i 0 - 1) (is-task i j) .period .at-least);
-          };
-          window-bounded = λ i l. let j = rw of-periods at l in rw (its-window i j) (v .task (getD numbers i 0 - 1) (is-task i j) .period .at-most);
-        };
-      }
-
-  kept-are-selected : Selected (coreTasks p plan k) rowColumns (λ j. getD numbers j 0 - 1)
-  unfolding coreTasks
-  kept-are-selected = record {
-    is-task = λ j l. is-task j (is-held j l);
-    ascending = λ i j before l.
-        let m = is-held j l in
-        omega (arith, columns .ascending i j before m, columns .held i (omega arith) .above-0, columns .held j m .above-0);
-    same-period = λ j l. getD-take n periods j 0 (is-held j l) ∙ columns .held j (is-held j l) .same-period;
-    same-window = λ j l. getD-take n windows j 0 (is-held j l) ∙ columns .held j (is-held j l) .same-window;
-    same-ticks = λ j l. getD-take n ticks j 0 (is-held j l) ∙ columns .held j (is-held j l) .same-ticks;
-    every-task = λ i l some.
-        let at = columns .every-kept i l (kept-where-ticks p plan k i some) in
-        (at .0, omega (arith, at .1, length-front ticks (columns .places .of-ticks)), omega (arith, at .2));
-  }
-
-  pub row-of-columns : (room : ℕ) →
-      columnRow (take n numbers) (take n periods) (take n windows) (take n ticks) room ≡ row (coreTasks p plan k) room
-  unfolding columnRow
-  row-of-columns room =
-      row-of-selected (coreTasks p plan k) rowColumns (λ j. getD numbers j 0 - 1) kept-are-selected (λ j. getD (take n numbers) j 0)
-      (λ j l. getD-take n numbers j 0 (is-held j l) ∙ omega (arith, columns .held j (is-held j l) .above-0)) room

@@ -32,6 +32,7 @@ pub mod HeldSlots
 pub mod HeldJobs
 pub mod KeptColumns
 pub mod KeptColumnLaws
+pub mod KeptRowLaws
 pub mod HeldTables
 pub mod OutcomeLaws
 pub mod PassingPlanLaws

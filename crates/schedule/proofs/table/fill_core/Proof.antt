@@ -1,7 +1,7 @@
 -- The columns are fit for a row, and their row is the core's.
 use mathlib.Core.Path.{sym, _∙_}
 use borrow.Author.Needs.{needs}
-use Rattle.schedule.specs.KeptColumnLaws.{columns-ok, length-front, row-of-columns}
+use Rattle.schedule.specs.KeptRowLaws.{columns-ok, length-front, row-of-columns}
 use Rattle.schedule.proofs.table.fill_core.Statement.{statement}
 use Rattle.schedule.proofs.table.fill_core.Tie as tie
 
