@@ -14,12 +14,7 @@ use Rattle.assignment.specs.Values.{Value, leastBelow, to-none}
 use Rattle.assignment.specs.ValueLaws.{lesser-is-first}
 use Rattle.assignment.specs.Words.{noCost, valueOf, words-none, words-pair, words-add, words-lesser-first, words-lesser-second}
 use Rattle.assignment.specs.Knapsacks.{keyBase, atLevel}
-
--- small enough for a knapsack of m items
-pub record Small (m cost key : ℕ) : Type 0 where
-  pub at-most-none : cost ≤ noCost
-  pub real : cost < noCost → cost ≤ m * mostCost
-  pub digits : key < keyBase ^ m
+use Rattle.values.specs.Worths.{Small}
 
 -- a knapsack of m items, up to the capacity
 pub record KnapsackHeld (m capacity : ℕ) (costs keys : List ℕ) : Type 0 where

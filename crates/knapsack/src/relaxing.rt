@@ -1,6 +1,4 @@
 // One knapsack: the least values of a set of items on one core, for each load up to the capacity.
-use crate::value::NO_COST;
-use crate::value::Worth;
 ghost use mathlib.Core.Path.{_≡_};
 ghost use Prim.Native.Nat.{ℕ, _≤_, _<_};
 ghost use lib.ListN.{length, getD};
@@ -13,26 +11,26 @@ ghost use Rattle.assignment.specs.Words.{noCost};
 pub const STRIDE: usize = 8;
 
 // One entry of a knapsack for each load up to the largest capacity.
-pub(crate) const ENTRIES: usize = 4097;
+pub const ENTRIES: usize = 4097;
 
 // A core's levels, and the most load that it takes.
-pub(crate) struct Core {
-    pub(crate) levels: usize,
-    pub(crate) capacity: usize,
+pub struct Core {
+    pub levels: usize,
+    pub capacity: usize,
 }
 
 // An item in front of `places` others, and its weight in a key.
-pub(crate) struct Front {
-    pub(crate) item: usize,
-    pub(crate) places: usize,
-    pub(crate) digit: u64,
+pub struct Front {
+    pub item: usize,
+    pub places: usize,
+    pub digit: u64,
 }
 
 // An item at a level: its load and cost there, and what it adds to a key.
-pub(crate) struct Choice {
-    pub(crate) load: usize,
-    pub(crate) cost: u64,
-    pub(crate) key: u64,
+pub struct Choice {
+    pub load: usize,
+    pub cost: u64,
+    pub key: u64,
 }
 
 // Each entry of a knapsack becomes that of the choice before another knapsack, where that is cheaper. Levels are taken in ascending
@@ -65,7 +63,7 @@ fn relax_level(
     }
 }
 
-pub(crate) fn choice_at(load: &[u64], cost: &[u64], front: Front, level: usize) -> Choice
+pub fn choice_at(load: &[u64], cost: &[u64], front: Front, level: usize) -> Choice
     requires { ⌜ ChoiceFits (now load) (now cost) front level ⌝ }
     ensures { λ r. ⌜ r ≡ choiceOf (now (load .entry)) (now (cost .entry)) front level ⌝ }
 {
@@ -78,7 +76,7 @@ pub(crate) fn choice_at(load: &[u64], cost: &[u64], front: Front, level: usize) 
 }
 
 // The knapsack of a set with the item, from a knapsack of none.
-pub(crate) fn relax(
+pub fn relax(
     core: Core,
     front: Front,
     load: &[u64],
@@ -105,15 +103,5 @@ pub(crate) fn relax(
             keys,
         );
         l += 1;
-    }
-}
-
-pub(crate) fn entry(knapsack_costs: &[u64], knapsack_keys: &[u64], w: usize) -> Worth
-    requires { ⌜ (w < length (now «knapsack_costs»)) × (w < length (now «knapsack_keys»)) ⌝ }
-    ensures { λ r. ⌜ (r .cost ≡ getD (now («knapsack_costs» .entry)) w 0) × (r .key ≡ getD (now («knapsack_keys» .entry)) w 0) ⌝ }
-{
-    Worth {
-        cost: knapsack_costs[w],
-        key: knapsack_keys[w],
     }
 }

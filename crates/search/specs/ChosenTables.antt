@@ -10,23 +10,23 @@ use Rattle.laws.specs.JoinedLaws.{length-listOf}
 use Rattle.assignment.specs.Assignment.{Item}
 use Rattle.assignment.specs.Values.{pair, add}
 use Rattle.assignment.specs.Knapsacks.{keyBase}
-use Rattle.knapsack.specs.KnapsackWords.{Small}
+use Rattle.values.specs.Worths.{Small}
 use Rattle.assignment.specs.SetLaws.{numbered}
 use Rattle.assignment.specs.Sets.{setNumber}
 use Rattle.assignment.specs.Partition.{weight, best}
 use Rattle.assignment.specs.Choice.{chosen}
-use Rattle.search.specs.Moves.{digitSum, WeightsBelow}
-use Rattle.search.specs.MoveLaws.{weight-is-digits}
-use Rattle.search.specs.CoreLaws.{leastSplit-same, room-for-sets}
+use Rattle.partition.specs.Moves.{digitSum, WeightsBelow}
+use Rattle.partition.specs.MoveLaws.{weight-is-digits}
+use Rattle.partition.specs.CoreLaws.{leastSplit-same, room-for-sets}
 use Rattle.assignment.specs.Halves.{moved}
 use Rattle.assignment.specs.Refusing.{every, refusing}
 use Rattle.assignment.specs.RefusingLaws.{refusing-same, chosen-on-one, chosen-in-halves}
-use Rattle.search.specs.HalvesTables.{SmallTable, OneReady, HalvesReady, keptBest, leastOnOne, leastOverHalves}
-use Rattle.search.specs.HalvesLaws.{every-length}
+use Rattle.partition.specs.HalvesTables.{SmallTable, OneReady, HalvesReady, keptBest, leastOnOne, leastOverHalves}
+use Rattle.partition.specs.HalvesLaws.{every-length}
 use Rattle.assignment.specs.Offered.{itemAt, itemsOf, offered}
-use Rattle.search.specs.OfferedLaws.{listFrom, listOf-from}
-use Rattle.search.specs.BestTables.{TableOf, Searchable, knapsacksOf, real-entry, best-is-small, best-of-one-core}
-use Rattle.search.specs.BestFilled.{KnapsacksTabled, BestReady}
+use Rattle.partition.specs.OfferedLaws.{listFrom, listOf-from}
+use Rattle.partition.specs.BestTables.{TableOf, Searchable, knapsacksOf, real-entry, best-is-small, best-of-one-core}
+use Rattle.partition.specs.BestFilled.{KnapsacksTabled, BestReady}
 use Rattle.search.specs.Found.{optionsOf}
 use Rattle.search.specs.FoundLaws.{searchable}
 use Rattle.search.specs.Limits.{OfferLimited}

@@ -16,16 +16,16 @@ use Rattle.assignment.specs.Keeping.{planKey, planWorth}
 use Rattle.assignment.specs.KeyLaws.{keeps-in-base, key-below}
 use Rattle.assignment.specs.SearchTheorem.{BestAnswers, search-finds-best}
 use Rattle.assignment.specs.Offered.{Affordable}
-use Rattle.search.specs.OfferedLaws.{offered-searchable}
-use Rattle.search.specs.BestTables.{Searchable}
-use Rattle.search.specs.CoreLaws.{room-for-sets}
-use Rattle.knapsack.specs.TabledKnapsacks.{KnapsacksFit}
+use Rattle.partition.specs.OfferedLaws.{offered-searchable}
+use Rattle.partition.specs.BestTables.{Searchable}
+use Rattle.partition.specs.CoreLaws.{room-for-sets}
+use Rattle.knapsack_tables.specs.TabledKnapsacks.{KnapsacksFit}
 use Rattle.search.specs.Limits.{WithinLimits}
 use Rattle.search.specs.Found.{optionsOf}
 use Rattle.search.specs.Light.{EncodesBest}
-use Rattle.knapsack.specs.Worths.{worthOf}
+use Rattle.values.specs.Worths.{worthOf}
 use Rattle.search.specs.declared.Shape.{Shape}
-use Rattle.knapsack.specs.declared.value.Worth.{Worth}
+use Rattle.values.specs.declared.value.Worth.{Worth}
 
 -- what a chosen pair of cost and key tells
 module _ (o : Options) (n : ℕ) (given : Searchable o n) (worth : Worth) (is : worthOf worth ≡ chosen o) where

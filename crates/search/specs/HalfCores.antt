@@ -11,10 +11,10 @@ use Rattle.assignment.specs.Assignment.{Options}
 use Rattle.assignment.specs.Knapsacks.{keyBase}
 use Rattle.assignment.specs.Partition.{best}
 use Rattle.assignment.specs.Choice.{chosen}
-use Rattle.search.specs.Moves.{WeightsBelow}
-use Rattle.search.specs.HalvesTables.{OneReady, HalvesReady, leastOnOne, leastOverHalves}
-use Rattle.search.specs.BestTables.{TableOf}
-use Rattle.search.specs.BestFilled.{KnapsacksTabled, BestReady}
+use Rattle.partition.specs.Moves.{WeightsBelow}
+use Rattle.partition.specs.HalvesTables.{OneReady, HalvesReady, leastOnOne, leastOverHalves}
+use Rattle.partition.specs.BestTables.{TableOf}
+use Rattle.partition.specs.BestFilled.{KnapsacksTabled, BestReady}
 use Rattle.search.specs.ChosenTables.{KnapsacksOffered, KnapsacksReady, knapsacks-tabled, best-ready, few-choices, small-table, one-ready, halves-ready, knapsacks-best, one-core-chosen, halves-chosen}
 use Rattle.search.specs.Found.{optionsOf}
 use Rattle.search.specs.declared.Shape.{Shape}

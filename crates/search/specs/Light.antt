@@ -13,7 +13,7 @@ use Rattle.assignment.specs.Offered.{mostCost, itemAt}
 use Rattle.assignment.specs.Knapsacks.{keyBase}
 use Rattle.assignment.specs.Words.{noCost}
 use Rattle.search.specs.declared.Shape.{Shape}
-use Rattle.knapsack.specs.declared.value.Worth.{Worth}
+use Rattle.values.specs.declared.value.Worth.{Worth}
 
 -- the key of the best plan of n items, and its cost
 pub record BestKey (o : Options) (n : ℕ) (worth : Worth) : Type 0 where

@@ -34,7 +34,7 @@ use Rattle.search.specs.Picks.{LowChoice, refusing, keeping, PickedBelow
 use Rattle.assignment.specs.Knapsacks.{keyBase}
 use Rattle.search.specs.declared.Shape.{Shape}
 use Rattle.search.specs.declared.light.Pick.{Pick}
-use Rattle.knapsack.specs.declared.value.Worth.{Worth}
+use Rattle.values.specs.declared.value.Worth.{Worth}
 
 module _ (o : Options) {item : Item} where
   low-possible : {c w v : ℕ} → 0 < o .cores → c ≤ o .levels → LowChoice item c w v → w ≤ o .capacity → Possible o item c

@@ -1,15 +1,13 @@
 // The exact search for the cheapest plan. It knows nothing of text, words or tables: only of loads, costs and a capacity.
 mod best;
-mod keeping;
 mod light;
 mod limits;
-mod partition;
-mod powers;
+mod plan;
 
 use best::best_plan;
-use keeping::write_plan;
-use knapsack::NO_COST;
 use limits::within_limits;
+use plan::write_plan;
+use values::NO_COST;
 ghost use Rattle.search.specs.Found.{Searched};
 
 // How many items there are, how many cores and levels for each, and the most load that a core takes.

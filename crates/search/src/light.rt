@@ -1,9 +1,9 @@
 // Light sites: where core 0 takes what each item would choose alone, that is the best plan, and no table is filled.
 use crate::Shape;
-use knapsack::KEY_BASE;
-use knapsack::NO_COST;
 use knapsack::STRIDE;
-use knapsack::Worth;
+use values::KEY_BASE;
+use values::NO_COST;
+use values::Worth;
 ghost use mathlib.Core.Path.{_≡_};
 ghost use Prim.Native.Nat.{_+_, _*_, _≤_, _<_};
 ghost use lib.ListN.{length};

@@ -1,17 +1,20 @@
 // Whether the numbers are within the limits of the search.
 use crate::Shape;
-use knapsack::MOST_CAPACITY;
-use knapsack::MOST_COST;
-use knapsack::MOST_ITEMS;
 use knapsack::STRIDE;
-use knapsack::affordable;
-ghost use Prim.Native.Nat.{ℕ, _≤_, _<_};
+ghost use Prim.Native.Nat.{ℕ, _+_, _*_, _≤_, _<_};
 ghost use lib.ListN.{length, getD};
 ghost use Rattle.search.specs.Limits.{LongEnough, ShapeLimited, WithinLimits};
-ghost use Rattle.assignment.specs.Offered.{mostCost};
+ghost use Rattle.assignment.specs.Offered.{mostCost, CheapAt};
 ghost use Rattle.laws.specs.Tests.{Decides};
 
+const MOST_ITEMS: usize = 12;
+
 const MOST_CORES: usize = 4;
+
+const MOST_CAPACITY: usize = 4096;
+
+// 2^55
+const MOST_COST: u64 = 0x80_0000_0000_0000;
 
 fn shape_within(shape: Shape) -> bool
     ensures { λ r. ⌜ Decides r (ShapeLimited shape) ⌝ }
@@ -67,6 +70,43 @@ fn long_enough(
     true
 }
 
+// No level of item i that fits costs too much.
+fn item_within(i: usize, levels: usize, capacity: usize, load: &[u64], cost: &[u64]) -> bool
+    requires { ⌜ levels ≤ 8 ⌝ }
+    requires { ⌜ i * 8 + 8 ≤ length (now load) ⌝ }
+    requires { ⌜ i * 8 + 8 ≤ length (now cost) ⌝ }
+    ensures { λ r. ⌜ Decides r (CheapAt levels capacity (now (load .entry)) (now (cost .entry)) i) ⌝ }
+{
+    let mut l = 0;
+    while l < levels {
+        let at = i * STRIDE + l;
+        if load[at] <= capacity as u64 {
+            if MOST_COST < cost[at] {
+                return false;
+            }
+        }
+        l += 1;
+    }
+    true
+}
+
+fn items_within(items: usize, levels: usize, capacity: usize, load: &[u64], cost: &[u64]) -> bool
+    requires { ⌜ levels ≤ 8 ⌝ }
+    requires { ⌜ items * 8 ≤ length (now load) ⌝ }
+    requires { ⌜ items * 8 ≤ length (now cost) ⌝ }
+    ensures { λ r. ⌜ Decides r ((i : ℕ) → i < items →
+        CheapAt levels capacity (now (load .entry)) (now (cost .entry)) i) ⌝ }
+{
+    let mut i = 0;
+    while i < items {
+        if !item_within(i, levels, capacity, load, cost) {
+            return false;
+        }
+        i += 1;
+    }
+    true
+}
+
 fn refusals_within(items: usize, refusal: &[u64]) -> bool
     requires { ⌜ items ≤ length (now refusal) ⌝ }
     ensures { λ r. ⌜ Decides r ((i : ℕ) → i < items → getD (now (refusal .entry)) i 0 ≤ mostCost) ⌝ }
@@ -106,7 +146,7 @@ pub(crate) fn within_limits(
     ) {
         return false;
     }
-    if !affordable(items, shape.levels, shape.capacity, load, cost) {
+    if !items_within(items, shape.levels, shape.capacity, load, cost) {
         return false;
     }
     if !refusals_within(items, refusal) {

@@ -1,6 +1,6 @@
 -- `least_of_knapsacks` fills the table of the lower cores; the upper cores have the knapsacks, or the same table.
 use mathlib.Core.Path.{refl, _∙_}
-use Rattle.search.specs.CoreLaws.{room-for-sets}
+use Rattle.partition.specs.CoreLaws.{room-for-sets}
 use Rattle.search.specs.HalfCores.{lower-ready, shift-fits, alone-ready, knapsacks-above-ready, table-above-ready, alone-chosen, knapsacks-above-chosen, table-above-chosen}
 use borrow.Author.Needs.{needs}
 use Rattle.search.proofs.best.least_of_knapsacks.Statement.{statement}

@@ -4,7 +4,6 @@ use denote.Ref.{now}
 use Rattle.search.specs.Found.{optionsOf}
 use Rattle.search.specs.FoundLaws.{knapsacks-fit}
 use Rattle.assignment.specs.Offered.{offered}
-use Rattle.knapsack.specs.TabledKnapsacks.{knapsacks-filled}
 use borrow.Author.Needs.{needs}
 use Rattle.search.proofs.best.least_plan.Statement.{statement}
 use Rattle.search.proofs.best.least_plan.Tie as tie
@@ -16,7 +15,7 @@ slice-aggregate-fill-knapsacks-2 : tie.Need-slice-aggregate-fill-knapsacks-2
 slice-aggregate-fill-knapsacks-2 c = search needs
 
 fill-knapsacks-requires : tie.Need-fill-knapsacks-requires
-fill-knapsacks-requires c κs = search needs
+fill-knapsacks-requires c κs = knapsacks-fit (c .before .before .before .before .before .before .pre .limits) (le-refl 4096) (le-refl 4096)
 
 slice-aggregate-least-of-knapsacks : tie.Need-slice-aggregate-least-of-knapsacks
 slice-aggregate-least-of-knapsacks c = search needs
@@ -31,7 +30,7 @@ least-of-knapsacks-requires c κs =
     record {
       load = now (a .load);
       cost = now (a .cost);
-      knapsacks-offered = record { offer = c .before .before .before .before .before .before .before .before .before .before .before .pre; held = knapsacks-filled _ _ _ _ _ _ _ _ _ (c .before .before .before .before .fill-knapsacks .result) (knapsacks-fit (c .before .before .before .before .before .before .before .before .before .before .before .pre .limits) (le-refl 4096) (le-refl 4096)) (c .before .before .before .before .fill-knapsacks .ensures) .tabled (now (a .refusal)) (now (a .must)) };
+      knapsacks-offered = record { offer = c .before .before .before .before .before .before .before .before .before .before .before .pre; held = c .before .before .before .before .fill-knapsacks .ensures .tabled (now (a .refusal)) (now (a .must)) };
     }
 
 returns : tie.Need-returns
@@ -39,7 +38,7 @@ unfolding optionsOf offered
 returns c =
     let a = c .before .before .before .before .before .before .before .before .before .before .before .before .args in
     c .least-of-knapsacks .ensures (now (a .load)) (now (a .cost))
-    record { offer = c .before .before .before .before .before .before .before .before .before .before .before .before .pre; held = knapsacks-filled _ _ _ _ _ _ _ _ _ (c .before .before .before .before .before .fill-knapsacks .result) (knapsacks-fit (c .before .before .before .before .before .before .before .before .before .before .before .before .pre .limits) (le-refl 4096) (le-refl 4096)) (c .before .before .before .before .before .fill-knapsacks .ensures) .tabled (now (a .refusal)) (now (a .must)) }
+    record { offer = c .before .before .before .before .before .before .before .before .before .before .before .before .pre; held = c .before .before .before .before .before .fill-knapsacks .ensures .tabled (now (a .refusal)) (now (a .must)) }
 
 pub least-plan-spec : {M : Type 1} → statement M
 least-plan-spec =

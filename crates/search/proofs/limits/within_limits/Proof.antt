@@ -1,5 +1,4 @@
 -- `within_limits` answers for each of its four tests.
-use Rattle.search.specs.FoundLaws.{affordable}
 use borrow.Author.Needs.{needs}
 use Rattle.search.proofs.limits.within_limits.Statement.{statement}
 use Rattle.search.proofs.limits.within_limits.Tie as tie
@@ -17,11 +16,14 @@ long-enough-requires c κs = decides-yes (c .before .shape-within .result) (c .i
 returns-2 : tie.Need-returns-2
 returns-2 c = λ limits. decides-no (c .before .long-enough .result) (c .if2 .taken) (c .before .long-enough .ensures) (limits .long-enough)
 
-affordable-requires : tie.Need-affordable-requires
-affordable-requires c κs = search needs
+items-within-requires : tie.Need-items-within-requires
+items-within-requires c κs =
+    let limited = decides-yes (c .before .before .before .shape-within .result) (c .before .before .if1 .left) (c .before .before .before .shape-within .ensures) in
+    let long = decides-yes (c .before .long-enough .result) (c .if2 .left) (c .before .long-enough .ensures) in
+    (limited .levels, (long .loads-for-all, long .costs-for-all))
 
 returns-3 : tie.Need-returns-3
-returns-3 c = λ limits. decides-no (c .before .affordable .result) (c .if3 .taken) (c .before .affordable .ensures) (affordable limits)
+returns-3 c = λ limits. decides-no (c .before .items-within .result) (c .if3 .taken) (c .before .items-within .ensures) (limits .costs-limited)
 
 refusals-within-requires : tie.Need-refusals-within-requires
 refusals-within-requires c κs = decides-yes (c .before .before .before .long-enough .result) (c .before .before .if2 .left) (c .before .before .before .long-enough .ensures) .refusals-for-all
@@ -34,7 +36,7 @@ returns-5 c =
     record {
       shape-limited = decides-yes (c .before .before .before .before .before .before .before .shape-within .result) (c .before .before .before .before .before .before .if1 .left) (c .before .before .before .before .before .before .before .shape-within .ensures);
       long-enough = decides-yes (c .before .before .before .before .before .long-enough .result) (c .before .before .before .before .if2 .left) (c .before .before .before .before .before .long-enough .ensures);
-      costs-limited = λ i below l. decides-yes (c .before .before .before .affordable .result) (c .before .before .if3 .left) (c .before .before .before .affordable .ensures) .cheap i l below;
+      costs-limited = decides-yes (c .before .before .before .items-within .result) (c .before .before .if3 .left) (c .before .before .before .items-within .ensures);
       refusals-limited = decides-yes (c .before .refusals-within .result) (c .if4 .left) (c .before .refusals-within .ensures);
     }
 
@@ -46,7 +48,7 @@ within-limits-spec =
     returns
     long-enough-requires
     returns-2
-    affordable-requires
+    items-within-requires
     returns-3
     refusals-within-requires
     returns-4

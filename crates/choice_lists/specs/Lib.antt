@@ -1,0 +1,15 @@
+pub mod Listed
+pub mod Spread
+pub mod SpreadLaws
+pub mod SpreadLevels
+pub mod SpreadItems
+pub mod Sweep
+pub mod PointLaws
+pub mod SweepLaws
+pub mod ListedSets
+pub mod ListedSetLaws
+pub mod ListedSetSteps
+pub mod ListedFront
+pub mod Appended
+pub mod AppendLaws
+pub mod AppendItems

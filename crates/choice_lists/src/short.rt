@@ -1,0 +1,67 @@
+// Short lists of choices: those of one set more are written as they come.
+use crate::lists::point_at;
+use crate::lists::store_point;
+use knapsack::Choice;
+use knapsack::Core;
+use knapsack::Front;
+use knapsack::choice_at;
+use values::Worth;
+ghost use Rattle.choice_lists.specs.Appended.{ItemAppended, ItemRoom, LevelAppended, LevelRoom};
+
+// The choice with each point from `from` to `to` becomes a point, from the point `start` on, where the capacity takes both.
+// Answers where they end.
+fn append_level(
+    capacity: usize,
+    choice: Choice,
+    from: usize,
+    to: usize,
+    start: usize,
+    points: &mut [u64],
+) -> usize
+    requires { ⌜ LevelRoom capacity choice from to start (now points) ⌝ }
+    ensures { λ r. ⌜ LevelAppended capacity choice from to start (now (points .entry)) (now (points .exit)) r ⌝ }
+{
+    let mut end = start;
+    let mut p = from;
+    while p < to {
+        let point = point_at(points, p);
+        let load = choice.load + point.load;
+        if load <= capacity {
+            let worth = Worth {
+                cost: choice.cost + point.cost,
+                key: choice.key + point.key,
+            };
+            store_point(end, load, worth, points);
+            end += 1;
+        }
+        p += 1;
+    }
+    end
+}
+
+// The item at each level.
+pub(crate) fn append_item(
+    core: Core,
+    front: Front,
+    from: usize,
+    to: usize,
+    used: usize,
+    load: &[u64],
+    cost: &[u64],
+    points: &mut [u64],
+) -> usize
+    requires { ⌜ ItemRoom core front from to used (now load) (now cost) (now points) ⌝ }
+    ensures { λ r. ⌜ ItemAppended core front from to used (now (load .entry)) (now (cost .entry)) (now (points .entry))
+        (core .levels) (now (points .exit)) r ⌝ }
+{
+    let mut end = used;
+    let mut l = 0;
+    while l < core.levels {
+        let choice = choice_at(load, cost, front, l);
+        if choice.load <= core.capacity {
+            end = append_level(core.capacity, choice, from, to, end, points);
+        }
+        l += 1;
+    }
+    end
+}

@@ -1,0 +1,112 @@
+-- The branch of all sets: what filling it asks for, and that the filled tables hold the knapsack of every set.
+use Prim.Native.Nat.{ℕ, _-_, _^_, _≤_, _<_}
+use mathlib.Core.Path.{_≡_, refl, ap, _∙_}
+use mathlib.Core.Bool.{Bool}
+use mathlib.Core.List.{List}
+use native.Mathlib.Nat.{add-zero, mul-one}
+use native.Mathlib.Omega.{arith}
+use lib.ListN.{length, getD, replicate, length-replicate}
+use Rattle.knapsack_tables.specs.Branches.{BranchFits}
+use Rattle.knapsack_tables.specs.FallingLaws.{falling-flat}
+use Rattle.choice_lists.specs.Listed.{FrontListed}
+use Rattle.assignment.specs.Offered.{mostItems, Affordable, knapsackItem, itemsOf}
+use Rattle.knapsack_tables.specs.FilledTables.{Elsewhere, Holds, Filled, filled-same}
+use Rattle.knapsack.specs.RelaxedItems.{FlatKnapsack}
+use Rattle.assignment.specs.Knapsacks.{keyBase, knapsack}
+use Rattle.knapsack.specs.KnapsackSteps.{knapsackBefore}
+use Rattle.knapsack.specs.KnapsackWords.{knapsackOf}
+use Rattle.assignment.specs.SetLaws.{setNumber-below}
+use Rattle.knapsack.specs.SetNumberLaws.{knapsackBefore-set}
+use Rattle.assignment.specs.Sets.{setNumber, Tabled}
+use Rattle.assignment.specs.Values.{Value, pair}
+use Rattle.assignment.specs.Words.{words-pair}
+use Rattle.knapsack_tables.specs.declared.filling.Branch.{Branch}
+
+pub record KnapsacksFit (n levels capacity : ℕ) (load cost costs keys : List ℕ) : Type 0 where
+  pub items-limited : n ≤ mostItems
+  pub affordable : Affordable n levels capacity load cost
+  pub costs-for-all : 2 ^ n ≤ length costs
+  pub keys-for-all : 2 ^ n ≤ length keys
+
+-- the buffer is as long as before, and its entries from n on are as they were
+pub record SameFrom (n : ℕ) (before after : List ℕ) : Type 0 where
+  pub same-length : length after ≡ length before
+  pub as-before : (x : ℕ) → n ≤ x → getD after x 0 ≡ getD before x 0
+
+-- the tables have the knapsack of every set at the whole capacity, and nothing else is written
+pub record KnapsacksFilled (n levels capacity : ℕ) (load cost costs₀ keys₀ costs keys : List ℕ) : Type 0 where
+  pub tabled : (refusal : List ℕ) (must : List Bool) →
+      Tabled n (keyBase ^ n) (λ S. knapsack levels (itemsOf load cost refusal must n) S capacity) costs keys
+  pub other-costs : SameFrom (2 ^ n) costs₀ costs
+  pub other-keys : SameFrom (2 ^ n) keys₀ keys
+
+-- there is room for a choice where there is any
+pub some-room : (n : ℕ) → 3 ≤ n → 3 ≤ length {A = ℕ} (replicate n 0)
+some-room n some = rw (length-replicate {A = ℕ} n 0) some
+
+-- where nothing is settled yet
+abbrev pub allSets : (listed n : ℕ) → Branch
+allSets listed n = record { listed = listed; ahead = n; places = 0; bit = 1; digit = 1; index = 0 }
+
+module _ {n levels capacity : ℕ} {load cost costs₀ keys₀ emptyCosts emptyKeys : List ℕ}
+    (fit : KnapsacksFit n levels capacity load cost costs₀ keys₀) (empty : FlatKnapsack 0 0 capacity emptyCosts emptyKeys) where
+  -- at load u no item costs nothing
+  empty-knapsack : (u : ℕ) → u ≤ capacity → knapsackOf emptyCosts emptyKeys u ≡ pair 0 0
+  unfolding knapsackOf
+  empty-knapsack u le = rw (empty .each-cost u le, empty .each-key u le) (words-pair 0 0 (omega arith))
+
+  pub all-sets-fit : {listed : ℕ} {points starts : List ℕ} → listed ≤ n →
+      FrontListed record { levels = levels; capacity = capacity } load cost listed (n - listed) points starts →
+      BranchFits record { levels = levels; capacity = capacity } (allSets listed n) load cost points starts emptyCosts emptyKeys
+      costs₀ keys₀
+  unfolding keyBase
+  all-sets-fit le lists =
+      record {
+        items-limited = omega (arith, fit .items-limited);
+        affordable = fit .affordable;
+        bit-is = refl;
+        digit-is = refl;
+        index-below = omega arith;
+        knapsack-held =
+            record {
+              costs-to-capacity = empty .costs-to-capacity;
+              keys-to-capacity = empty .keys-to-capacity;
+              small = λ w le.
+                  rw (empty .each-cost w le, empty .each-key w le) record { at-most-none = omega arith; real = omega arith; digits = omega arith };
+            };
+        knapsack-falls = falling-flat (pair 0 0) empty-knapsack;
+        listed-ahead = le;
+        front-listed = rw add-zero lists;
+        costs-for-all = rw add-zero (fit .costs-for-all);
+        keys-for-all = rw add-zero (fit .keys-for-all);
+      }
+
+  module _ {costs keys : List ℕ}
+      (filled : Filled levels capacity (knapsackItem load cost) n 0 1 0 (knapsackOf emptyCosts emptyKeys) costs₀ keys₀ costs keys) where
+    entry-of : (x : ℕ) → x < 2 ^ n →
+        Holds n (knapsackBefore levels (knapsackItem load cost) n 0 x (λ w. pair 0 0) capacity) (getD costs x 0) (getD keys x 0)
+    entry-of x under =
+        let at-last = filled-same levels capacity (knapsackItem load cost) empty-knapsack filled in
+        rw (mul-one x, add-zero x, add-zero n) at (at-last .entries x under)
+
+    -- an entry that is no set's
+    no-set : {x : ℕ} → 2 ^ n ≤ x → Elsewhere (2 ^ n) 1 0 x
+    no-set over k under e = omega arith
+
+    pub all-sets-filled : length costs ≡ length costs₀ → length keys ≡ length keys₀ →
+        KnapsacksFilled n levels capacity load cost costs₀ keys₀ costs keys
+    all-sets-filled same-costs same-keys =
+        record {
+          tabled = λ refusal must.
+              record {
+                costs-for-all = rw same-costs (fit .costs-for-all);
+                marks-for-all = rw same-keys (fit .keys-for-all);
+                holds = λ S e.
+                    entry-of (setNumber n S) (setNumber-below n S) .is
+                    ∙ ap (λ (f : ℕ → Value). f capacity) (knapsackBefore-set levels load cost refusal must n S e);
+                cost-bound = λ x under. omega (arith, entry-of x under .small .at-most-none);
+                key-bound = λ x under. entry-of x under .small .digits;
+              };
+          other-costs = record { same-length = same-costs; as-before = λ x over. filled .other-costs x (no-set over) };
+          other-keys = record { same-length = same-keys; as-before = λ x over. filled .other-keys x (no-set over) };
+        }

@@ -1,0 +1,16 @@
+pub mod Splits
+pub mod SplitLaws
+pub mod Moves
+pub mod MoveLaws
+pub mod Cores
+pub mod CoreLaws
+pub mod BestTables
+pub mod BestFilled
+pub mod OfferedLaws
+pub mod PartedLaws
+pub mod RefusedTables
+pub mod RefusedLaws
+pub mod RefusingBounds
+pub mod RefuseSteps
+pub mod HalvesTables
+pub mod HalvesLaws

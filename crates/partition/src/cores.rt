@@ -1,0 +1,121 @@
+// The least values of all sets on several cores, one core after the other.
+use crate::splits::lower_splits;
+use values::KEY_BASE;
+use values::NO_COST;
+use values::sets_of;
+ghost use mathlib.Core.Path.{_≡_};
+ghost use Prim.Native.Nat.{pred, _^_, _≤_};
+ghost use lib.ListN.{length, getD};
+ghost use Rattle.laws.specs.Lists.{listOf, onto};
+ghost use Rattle.assignment.specs.Assignment.{Options};
+ghost use Rattle.assignment.specs.Partition.{best};
+ghost use Rattle.partition.specs.BestFilled.{BestReady, KnapsacksTabled};
+ghost use Rattle.partition.specs.BestTables.{TableOf};
+ghost use Rattle.partition.specs.Cores.{CoreReady, CoreAdded};
+ghost use Rattle.partition.specs.Moves.{WeightsBelow, MovesFit, movedKey};
+
+// The weight of each set: the key with a digit 1 for each of its items.
+pub fn fill_weights(items: usize, weights: &mut [u64])
+    requires { ⌜ items ≤ 12 ⌝ }
+    requires { ⌜ 2 ^ items ≤ length (now weights) ⌝ }
+    ensures { λ _. ⌜ WeightsBelow items (2 ^ items) (now (weights .exit)) ⌝ }
+{
+    let all = sets_of(items);
+    weights[0] = 0;
+    let mut x = 1;
+    while x < all {
+        weights[x] = weights[x / 2] * KEY_BASE + (x % 2) as u64;
+        x += 1;
+    }
+}
+
+// The keys of the knapsacks on another core, where each choice is larger by `shift`.
+pub(crate) fn move_keys(items: usize, shift: u64, weights: &[u64], keys: &[u64], moved: &mut [u64])
+    requires { ⌜ items ≤ 12 ⌝ }
+    requires { ⌜ MovesFit items shift (now weights) (now keys) ⌝ }
+    requires { ⌜ 2 ^ items ≤ length (now moved) ⌝ }
+    ensures { λ _. ⌜ now (moved .exit)
+        ≡ onto (listOf (movedKey shift (now (weights .entry)) (now (keys .entry))) (2 ^ items)) (now (moved .entry)) ⌝ }
+{
+    let all = sets_of(items);
+    let mut x = 0;
+    while x < all {
+        moved[x] = keys[x] + shift * weights[x];
+        x += 1;
+    }
+}
+
+// Copies the entries of all sets.
+fn copy_entries(items: usize, from: &[u64], to: &mut [u64])
+    requires { ⌜ items ≤ 12 ⌝ }
+    requires { ⌜ 2 ^ items ≤ length (now from) ⌝ }
+    requires { ⌜ 2 ^ items ≤ length (now to) ⌝ }
+    ensures { λ _. ⌜ now (to .exit) ≡ onto (listOf (λ x. getD (now (from .entry)) x 0) (2 ^ items)) (now (to .entry)) ⌝ }
+{
+    let all = sets_of(items);
+    let mut x = 0;
+    while x < all {
+        to[x] = from[x];
+        x += 1;
+    }
+}
+
+// One core more: the value of each set on some cores becomes that on these and one core, whose knapsacks are moved by `shift`.
+fn add_core(
+    items: usize,
+    shift: u64,
+    weights: &[u64],
+    knapsacks: &[u64],
+    knapsackkeys: &[u64],
+    costs: &mut [u64],
+    keys: &mut [u64],
+)
+    requires { ⌜ CoreReady items shift (now weights) (now knapsacks) (now knapsackkeys) (now costs) (now keys) ⌝ }
+    ensures { λ _. ⌜ CoreAdded items shift (now (knapsacks .entry)) (now (knapsackkeys .entry)) (now (costs .entry)) (now (keys .entry))
+        (now (costs .exit)) (now (keys .exit)) ⌝ }
+{
+    let mut moved = [0u64; 4096];
+    move_keys(items, shift, weights, knapsackkeys, &mut moved);
+    let mut next = [NO_COST; 4096];
+    let mut nextkeys = [0u64; 4096];
+    let all = sets_of(items);
+    lower_splits(
+        all,
+        0,
+        0,
+        0,
+        knapsacks,
+        &moved,
+        costs,
+        keys,
+        &mut next,
+        &mut nextkeys,
+    );
+    copy_entries(items, &next, costs);
+    copy_entries(items, &nextkeys, keys);
+}
+
+// From the knapsacks the value of every set on the first `cores` cores, in the entry of the set's number.
+pub fn fill_best(
+    items: usize,
+    levels: usize,
+    cores: usize,
+    weights: &[u64],
+    knapsacks: &[u64],
+    knapsackkeys: &[u64],
+    costs: &mut [u64],
+    keys: &mut [u64],
+)
+    requires { ⌜ BestReady items levels cores (now weights) (now knapsacks) (now knapsackkeys) (now costs) (now keys) ⌝ }
+    ensures { λ _. ⌜ ((o : Options) → KnapsacksTabled o items levels cores (now (knapsacks .entry)) (now (knapsackkeys .entry)) →
+        TableOf items (best o (pred cores)) (now (costs .exit)) (now (keys .exit))) ⌝ }
+{
+    copy_entries(items, knapsacks, costs);
+    copy_entries(items, knapsackkeys, keys);
+    let mut c = 1;
+    while c < cores {
+        let shift = (c * levels) as u64;
+        add_core(items, shift, weights, knapsacks, knapsackkeys, costs, keys);
+        c += 1;
+    }
+}
