@@ -7,7 +7,7 @@ use generator::tally;
 use generator::tally::add;
 use generator::tally::add_if;
 use generator::words_differ;
-use instance::Refusal;
+use refusals::Refusal;
 use schedule::Priced;
 
 // How many elements of each buffer are lent.
@@ -21,8 +21,8 @@ fn numbers_of(answer: Priced) -> [u64; 5] {
         Priced::Cost(price) => [0, 0, price.energy, price.penalty, price.cost],
         Priced::Refused(why) => {
             [
-                instance::refusal_number(why),
-                instance::refusal_place(why),
+                refusals::refusal_number(why),
+                refusals::refusal_place(why),
                 0,
                 0,
                 0,

@@ -11,10 +11,10 @@ use native.Mathlib.Omega.{arith}
 use lib.ListN.{length}
 use Rattle.laws.specs.Sums.{sum}
 use Rattle.instance.specs.Node.{Problem, taskCount, levelAt, taskAt}
-use Rattle.instance.specs.Refusals.{accepted}
+use Rattle.refusals.specs.Refusals.{accepted}
 use Rattle.instance.specs.RoomLaws.{enough-room}
 use Rattle.instance.specs.SiteFile.{problemOf}
-use Rattle.instance.specs.declared.Verdict.the-variants.{Accepted}
+use Rattle.refusals.specs.declared.Verdict.the-variants.{Accepted}
 use Rattle.schedule.specs.CheckLaws.{choices-pass}
 use Rattle.schedule.specs.Checks.{check}
 use Rattle.schedule.specs.Outcomes.{checkOutcome, checkOutcomeOf}

@@ -5,10 +5,10 @@ use mathlib.Core.List.{List, [], _∷_, _++_, map}
 use lib.ListN.{replicate}
 use Rattle.ranges.specs.Limits.{mayNotBeRefused}
 use Rattle.instance.specs.Node.{Problem, taskCount, span, spanFrom}
-use Rattle.instance.specs.Refusals.{Reading, refused, accepted, numberOf, placeOf, room}
+use Rattle.refusals.specs.Refusals.{Reading, refused, accepted, numberOf, placeOf, room}
 use Rattle.instance.specs.SiteFile.{problemOf, siteFile, settings, levels, tasks, period, isPenalty, between, word, end}
 use Rattle.text.specs.Text.{wordsOf, numbers, firstFault, faulty, begins, isDigit, isBlank, valueAfter}
-use Rattle.instance.specs.declared.Refusal.{Refusal}
+use Rattle.refusals.specs.declared.Refusal.{Refusal}
 use Rattle.laws.specs.Lists.{listOf, joined, onto}
 use Rattle.laws.specs.Multiples.{lcm}
 use Rattle.laws.specs.Search.{first}

@@ -19,16 +19,16 @@ use Rattle.instance.specs.Outcomes.{instanceOutcome, ReadingEnds}
 use Rattle.instance.specs.RefusalNumbers.{numbers-and-places, every-refusal-is-listed}
 use Rattle.text.specs.OutcomeLaws.{text-ends, words-are-handed-over}
 use Rattle.text.specs.Outcomes.{wordsOutcome, TextEnds}
-use Rattle.instance.specs.Refusals.{accepted, placeOf, refusalsAt, answer, answerOf}
+use Rattle.refusals.specs.Refusals.{accepted, placeOf, refusalsAt, answer, answerOf}
 use Rattle.instance.specs.SiteFile.{problemOf}
 use Rattle.instance.specs.SiteFileLaws.{accepted-is-valid, accepted-is-written, valid-is-accepted}
 use Rattle.instance.specs.SpanLaws.{period-divides-span, span-divides-common-multiple}
 use Rattle.text.specs.SpelledLaws.{AllWords, spelled-is-read-back}
 use Rattle.text.specs.Text.{wordsOf}
 use Rattle.instance.specs.Valid.{Valid, wordsOfProblem}
-use Rattle.instance.specs.declared.Refusal.{Refusal}
-use Rattle.instance.specs.declared.Refusal.the-variants.{Text, WordCount, WordRange, SpanTooLong, NoPlan, ShortBuffer, GivenPlan, CoreOverloaded, GivenTable, JobSlots}
-use Rattle.instance.specs.declared.Verdict.the-variants.{Accepted, Refused}
+use Rattle.refusals.specs.declared.Refusal.{Refusal}
+use Rattle.refusals.specs.declared.Refusal.the-variants.{Text, WordCount, WordRange, SpanTooLong, NoPlan, ShortBuffer, GivenPlan, CoreOverloaded, GivenTable, JobSlots}
+use Rattle.refusals.specs.declared.Verdict.the-variants.{Accepted, Refused}
 use Rattle.text.specs.declared.TextRead.the-variants as TextRead
 use Rattle.schedule.specs.CheckTheorem.{check-accepts-exactly-drawings, check-accepts-exactly-drawn-tables}
 use Rattle.schedule.specs.Drawings.{DrawnTable, Drawing}

@@ -10,13 +10,13 @@ use Rattle.instance.specs.EndingLaws.{unchanged, turns-down}
 use Rattle.instance.specs.Endings.{Lent, lent, ServedOrRefused, served, refused, Ends, readThen, neededFor}
 use Rattle.instance.specs.Node.{Problem, taskCount}
 use Rattle.instance.specs.RefusalNumbers.{UnreadOnly, read, unread, number-above-zero}
-use Rattle.instance.specs.Refusals.{Answer, numberOf, answerOf, Reading, room, _andThen_}
+use Rattle.refusals.specs.Refusals.{Answer, numberOf, answerOf, Reading, room, _andThen_}
 use Rattle.instance.specs.SiteFile.{problemOf}
 use Rattle.instance.specs.SiteFileLaws.{accepted-is-valid}
-use Rattle.instance.specs.declared.Refusal.{Refusal}
-use Rattle.instance.specs.declared.Refusal.the-variants.{Text, WordCount, WordRange, SpanTooLong, NoPlan, ShortBuffer, GivenPlan, CoreOverloaded, GivenTable, JobSlots}
-use Rattle.instance.specs.declared.Verdict.{Verdict}
-use Rattle.instance.specs.declared.Verdict.the-variants.{Accepted, Refused}
+use Rattle.refusals.specs.declared.Refusal.{Refusal}
+use Rattle.refusals.specs.declared.Refusal.the-variants.{Text, WordCount, WordRange, SpanTooLong, NoPlan, ShortBuffer, GivenPlan, CoreOverloaded, GivenTable, JobSlots}
+use Rattle.refusals.specs.declared.Verdict.{Verdict}
+use Rattle.refusals.specs.declared.Verdict.the-variants.{Accepted, Refused}
 use Rattle.text.specs.OutcomeLaws.{text-refuses-1}
 use Rattle.text.specs.Text.{wordsOf}
 use Rattle.schedule.specs.Checks.{slotsPass, jobsPass}

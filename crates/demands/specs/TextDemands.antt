@@ -7,7 +7,7 @@ use mathlib.Core.Logic.{_↔_}
 use mathlib.Core.Path.{_≡_}
 use lib.ListN.{length, take}
 use Rattle.instance.specs.Node.{Problem, taskCount}
-use Rattle.instance.specs.Refusals.{answerOf}
+use Rattle.refusals.specs.Refusals.{answerOf}
 use Rattle.schedule.specs.Drawings.{Drawing}
 use Rattle.schedule.specs.Outcomes.{priceVerdict}
 use Rattle.schedule.specs.Tables.{tableSize}

@@ -2,10 +2,10 @@
 -- afterwards. Plans and tables are the lists that the lent bytes are: "there a choice is one byte".
 use Prim.Native.Nat.{ℕ}
 use mathlib.Core.List.{List}
-use Rattle.instance.specs.Refusals.{Reading, refused, accepted, numberOf, placeOf}
+use Rattle.refusals.specs.Refusals.{Reading, refused, accepted, numberOf, placeOf}
 use Rattle.text.specs.Text.{wordsOf}
-use Rattle.instance.specs.declared.Verdict.{Verdict}
-use Rattle.instance.specs.declared.Verdict.the-variants.{Accepted, Refused}
+use Rattle.refusals.specs.declared.Verdict.{Verdict}
+use Rattle.refusals.specs.declared.Verdict.the-variants.{Accepted, Refused}
 use Rattle.schedule.specs.Outcomes.{checkOutcome}
 use Rattle.schedule.specs.declared.prices.Priced.{Priced}
 use Rattle.schedule.specs.declared.prices.Priced.the-variants as Priced

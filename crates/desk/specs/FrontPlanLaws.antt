@@ -11,11 +11,11 @@ use lib.Seq.{take-all, take-at, length-take-le}
 use Rattle.laws.specs.Lists.{onto}
 use Rattle.ranges.specs.Limits.{mostTasks}
 use Rattle.instance.specs.Node.{Problem, taskCount}
-use Rattle.instance.specs.Refusals.{Reading, refused, accepted}
+use Rattle.refusals.specs.Refusals.{Reading, refused, accepted}
 use Rattle.instance.specs.SiteFile.{problemOf}
 use Rattle.instance.specs.SiteFileLaws.{accepted-is-valid}
-use Rattle.instance.specs.declared.Refusal.the-variants.{GivenPlan}
-use Rattle.instance.specs.declared.Verdict.the-variants.{Refused}
+use Rattle.refusals.specs.declared.Refusal.the-variants.{GivenPlan}
+use Rattle.refusals.specs.declared.Verdict.the-variants.{Refused}
 use Rattle.schedule.specs.Checks.{check}
 use Rattle.schedule.specs.Outcomes.{checkOutcomeOf, checkOutcome}
 use Rattle.schedule.specs.Plans.{choicesPass}

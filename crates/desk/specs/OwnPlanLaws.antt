@@ -12,14 +12,14 @@ use Rattle.laws.specs.OntoLaws.{onto-all}
 use Rattle.ranges.specs.Limits.{mostTasks}
 use Rattle.instance.specs.Held.{problemIn, held-taskcount}
 use Rattle.instance.specs.Node.{Problem, taskCount}
-use Rattle.instance.specs.Refusals.{refused, accepted, room}
+use Rattle.refusals.specs.Refusals.{refused, accepted, room}
 use Rattle.instance.specs.SiteFile.{problemOf}
 use Rattle.instance.specs.SiteFileLaws.{accepted-is-valid}
 use Rattle.instance.specs.declared.Instance.{Instance}
-use Rattle.instance.specs.declared.Refusal.{Refusal}
-use Rattle.instance.specs.declared.Refusal.the-variants.{ShortBuffer}
-use Rattle.instance.specs.declared.Verdict.{Verdict}
-use Rattle.instance.specs.declared.Verdict.the-variants.{Accepted, Refused}
+use Rattle.refusals.specs.declared.Refusal.{Refusal}
+use Rattle.refusals.specs.declared.Refusal.the-variants.{ShortBuffer}
+use Rattle.refusals.specs.declared.Verdict.{Verdict}
+use Rattle.refusals.specs.declared.Verdict.the-variants.{Accepted, Refused}
 use Rattle.schedule.specs.ReadLaws.{HoldsProblemOf}
 use Rattle.schedule.specs.Tables.{tableSize}
 use Rattle.schedule.specs.declared.prices.Price.{Price}

@@ -1,7 +1,7 @@
 // What the calls return: the paper's numbers.
-use instance::Verdict;
-use instance::refusal_number;
-use instance::refusal_place;
+use refusals::Verdict;
+use refusals::refusal_number;
+use refusals::refusal_place;
 use schedule::Priced;
 ghost use mathlib.Core.Path.{_≡_};
 ghost use Rattle.desk.specs.DeskOutcomes.{plannedOf, checkedOf};

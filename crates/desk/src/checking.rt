@@ -2,7 +2,7 @@
 use crate::answers::Checked;
 use crate::answers::checked_of;
 use crate::choices::words_of_bytes;
-use instance::Verdict;
+use refusals::Verdict;
 use schedule::check_table;
 use text::TextRead;
 use text::words_of_text;

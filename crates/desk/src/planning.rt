@@ -2,8 +2,8 @@
 use crate::answers::Planned;
 use crate::answers::planned_of;
 use crate::choices::bytes_of_words;
-use instance::Refusal;
-use instance::Verdict;
+use refusals::Refusal;
+use refusals::Verdict;
 use instance::read_instance;
 use planner::plan;
 use schedule::Priced;

@@ -7,7 +7,7 @@ use crate::tried::none_tried;
 use crate::tried::refused;
 use crate::tried::with_cheaper;
 use crate::tried::with_other;
-use instance::Refusal;
+use refusals::Refusal;
 use schedule::Price;
 use schedule::Priced;
 

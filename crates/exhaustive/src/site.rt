@@ -1,6 +1,6 @@
 // What an instance's words say.
 use instance::Instance;
-use instance::Verdict;
+use refusals::Verdict;
 use instance::read_instance;
 
 // The number and place of the refusal of its words, 0 where they are accepted; and its sizes, which are 0 where they are
@@ -36,8 +36,8 @@ pub fn site_of(words: &[u32]) -> Site {
         Verdict::Refused(why) => {
             sizes_of(
                 read.instance,
-                instance::refusal_number(why),
-                instance::refusal_place(why),
+                refusals::refusal_number(why),
+                refusals::refusal_place(why),
             )
         }
     }

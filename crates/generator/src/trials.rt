@@ -6,7 +6,7 @@ use crate::other_tables::fill_table;
 use crate::tally;
 use crate::tally::add;
 use crate::tally::add_if;
-use instance::Verdict;
+use refusals::Verdict;
 use schedule::Priced;
 
 fn passes_check(words: &[u32], plan: &[u32], table: &[u8; 128], slots: usize) -> bool {

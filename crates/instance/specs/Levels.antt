@@ -10,8 +10,8 @@ use Rattle.instance.specs.Sections.{answered}
 use Rattle.instance.specs.SiteFile.{Taken, Take, _>>=_, done, word, between, levels}
 use Rattle.instance.specs.declared.levels.LevelsRead.{LevelsRead}
 use Rattle.instance.specs.declared.Level.{Level}
-use Rattle.instance.specs.declared.Refusal.{Refusal}
-use Rattle.instance.specs.declared.Verdict.the-variants.{Accepted, Refused}
+use Rattle.refusals.specs.declared.Refusal.{Refusal}
+use Rattle.refusals.specs.declared.Verdict.the-variants.{Accepted, Refused}
 
 -- the level after `before`
 unfoldable pub oneLevel : Level → Take Level

@@ -16,7 +16,7 @@ use Rattle.instance.specs.Sections.{answered, pair, pairRead}
 use Rattle.instance.specs.SiteFile.{Taken, refused, taken, continue, done, between, levels}
 use Rattle.instance.specs.TakenLaws.{Holds, KeepsPlace, continue-assoc, continue-holds, word-holds, done-holds, bind-keeps-place, done-keeps-place, word-keeps-place, between-holds}
 use Rattle.instance.specs.declared.Level.{Level}
-use Rattle.instance.specs.declared.Refusal.{Refusal}
+use Rattle.refusals.specs.declared.Refusal.{Refusal}
 use Rattle.instance.specs.declared.word.Pair.{Pair}
 use Rattle.instance.specs.declared.word.Pair.the-variants as Pair
 

@@ -1,4 +1,3 @@
-pub mod Refusals
 pub mod RefusalNumbers
 pub mod Endings
 pub mod EndingLaws

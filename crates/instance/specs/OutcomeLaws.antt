@@ -8,12 +8,12 @@ use Rattle.instance.specs.Held.{HoldsProblem, stored-holds-problem}
 use Rattle.instance.specs.Node.{Problem}
 use Rattle.instance.specs.Outcomes.{instanceReadOf, instanceOutcome, ReadingEnds}
 use Rattle.instance.specs.RefusalNumbers.{UnreadOnly, read, unread}
-use Rattle.instance.specs.Refusals.{Reading, accepted}
+use Rattle.refusals.specs.Refusals.{Reading, accepted}
 use Rattle.instance.specs.SiteFile.{problemOf}
 use Rattle.instance.specs.SiteFileLaws.{accepted-is-valid}
 use Rattle.instance.specs.SiteFileRefusals.{reading-refuses-2-3-4}
 use Rattle.instance.specs.declared.InstanceRead.{InstanceRead}
-use Rattle.instance.specs.declared.Verdict.the-variants.{Accepted}
+use Rattle.refusals.specs.declared.Verdict.the-variants.{Accepted}
 
 pub reading-ends : (words : List ℕ) → ReadingEnds words (instanceOutcome words .verdict)
 unfolding instanceOutcome

@@ -3,11 +3,11 @@ use Prim.Native.Nat.{ℕ}
 use mathlib.Core.List.{List, [], _∷_}
 use Rattle.instance.specs.Endings.{Ends, readThen}
 use Rattle.instance.specs.Node.{Problem, stored, noInstance}
-use Rattle.instance.specs.Refusals.{Reading, refused, accepted}
+use Rattle.refusals.specs.Refusals.{Reading, refused, accepted}
 use Rattle.instance.specs.SiteFile.{problemOf}
 use Rattle.instance.specs.declared.InstanceRead.{InstanceRead}
-use Rattle.instance.specs.declared.Verdict.{Verdict}
-use Rattle.instance.specs.declared.Verdict.the-variants.{Accepted, Refused}
+use Rattle.refusals.specs.declared.Verdict.{Verdict}
+use Rattle.refusals.specs.declared.Verdict.the-variants.{Accepted, Refused}
 
 abbrev pub instanceReadOf : Reading Problem → InstanceRead
 instanceReadOf (refused r) = record { verdict = Refused r; instance = noInstance }

@@ -8,8 +8,8 @@ use borrow.Author.Tests.{leb-true, leb-false, eq-eqb, ne-eqb}
 use lib.Dec.{eqb, leb}
 use Rattle.ranges.specs.Limits
 use Rattle.instance.specs.SiteFile.{refused, taken, word, between, isPenalty}
-use Rattle.instance.specs.declared.Refusal.{Refusal}
-use Rattle.instance.specs.declared.Refusal.the-variants.{WordRange}
+use Rattle.refusals.specs.declared.Refusal.{Refusal}
+use Rattle.refusals.specs.declared.Refusal.the-variants.{WordRange}
 
 -- a word that passes one test or another
 

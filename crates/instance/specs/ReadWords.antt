@@ -9,8 +9,8 @@ use lib.Dec.{leb}
 use borrow.Author.Tests.{leb-true, le-leb}
 use Rattle.instance.specs.SiteFile.{Taken, refused, taken, Take, continue, _>>=_, word, between}
 use Rattle.instance.specs.Valid.{InRange}
-use Rattle.instance.specs.declared.Refusal.{Refusal}
-use Rattle.instance.specs.declared.Refusal.the-variants.{WordRange}
+use Rattle.refusals.specs.declared.Refusal.{Refusal}
+use Rattle.refusals.specs.declared.Refusal.the-variants.{WordRange}
 
 pub between-true : {low high w : ℕ} → between low high w ≡ true → InRange low high w
 unfolding between

@@ -7,7 +7,7 @@ use lib.ListN.{length, drop, set}
 use Rattle.instance.specs.Sections.{answered}
 use Rattle.instance.specs.SiteFile.{Taken, refused, taken, Take, continue, _>>=_, done}
 use Rattle.instance.specs.TakenLaws.{Holds, Anything, anything-holds, done-holds, continue-holds, KeepsPlace, bind-keeps-place, done-keeps-place}
-use Rattle.instance.specs.declared.Refusal.{Refusal}
+use Rattle.refusals.specs.declared.Refusal.{Refusal}
 
 pub record Repeats {A S : Type 0} (one : S → Take A) (after : S → A → S) (many : ℕ → S → Take (List A)) : Type 0 where
   pub none : (s : S) (at : ℕ) (words : List ℕ) → many zero s at words ≡ taken [] at words

@@ -8,9 +8,9 @@ use lib.ListN.{drop}
 use Rattle.instance.specs.Sections.{answered, wordRead, pair, pairRead}
 use Rattle.instance.specs.SiteFile.{Taken, refused, taken, word}
 use Rattle.instance.specs.TakenLaws.{Holds, InPlace, KeepsPlace, bind-keeps-place, done-keeps-place, word-keeps-place}
-use Rattle.instance.specs.declared.Refusal.{Refusal}
-use Rattle.instance.specs.declared.Verdict.{Verdict}
-use Rattle.instance.specs.declared.Verdict.the-variants.{Accepted, Refused}
+use Rattle.refusals.specs.declared.Refusal.{Refusal}
+use Rattle.refusals.specs.declared.Verdict.{Verdict}
+use Rattle.refusals.specs.declared.Verdict.the-variants.{Accepted, Refused}
 use Rattle.instance.specs.declared.word.Pair.{Pair}
 use Rattle.instance.specs.declared.word.Pair.the-variants as Pair
 use Rattle.instance.specs.declared.word.Word.{Word}

@@ -2,7 +2,7 @@
 use Prim.Native.Nat.{ℕ}
 use mathlib.Core.Bool.{Bool}
 use Rattle.instance.specs.SiteFile.{Taken, refused, taken, Take, _>>=_, done, word}
-use Rattle.instance.specs.declared.Refusal.{Refusal}
+use Rattle.refusals.specs.declared.Refusal.{Refusal}
 use Rattle.instance.specs.declared.word.Pair.{Pair}
 use Rattle.instance.specs.declared.word.Pair.the-variants as Pair
 use Rattle.instance.specs.declared.word.Word.{Word}

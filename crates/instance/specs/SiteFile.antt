@@ -7,12 +7,12 @@ use lib.Dec.{leb, eqb}
 use Rattle.laws.specs.Multiples.{lcm}
 use Rattle.ranges.specs.Limits
 use Rattle.instance.specs.Node.{Problem}
-use Rattle.instance.specs.Refusals.{Reading}
+use Rattle.refusals.specs.Refusals.{Reading}
 use Rattle.instance.specs.declared.Level.{Level}
 use Rattle.instance.specs.declared.Task.{Task}
 use Rattle.instance.specs.declared.Weights.{Weights}
-use Rattle.instance.specs.declared.Refusal.{Refusal}
-use Rattle.instance.specs.declared.Refusal.the-variants.{WordCount, WordRange, SpanTooLong}
+use Rattle.refusals.specs.declared.Refusal.{Refusal}
+use Rattle.refusals.specs.declared.Refusal.the-variants.{WordCount, WordRange, SpanTooLong}
 
 -- what taking words from the front of a list gives: a refusal, or what they make, the index of the next word and the
 -- words from there on

@@ -6,7 +6,7 @@ use native.Mathlib.Omega.{arith}
 use Rattle.instance.specs.ReadLevels.{levels-read, levels-taken, rising-in-range, rising-rises, valid-speeds, valid-powers}
 use Rattle.ranges.specs.Limits
 use Rattle.instance.specs.Node.{Problem, taskCount, span}
-use Rattle.instance.specs.Refusals.{accepted}
+use Rattle.refusals.specs.Refusals.{accepted}
 use Rattle.instance.specs.ReadSettings.{settings-read}
 use Rattle.instance.specs.SiteFile.{Taken, taken, refused, end, word, settings, siteFile, readingOf, problemOf}
 use Rattle.instance.specs.ReadTasks.{tasks-read, tasks-taken}

@@ -12,11 +12,11 @@ use Rattle.laws.specs.Multiples.{lcm}
 use Rattle.ranges.specs.Limits
 use Rattle.instance.specs.Node.{Problem}
 use Rattle.instance.specs.RefusalNumbers.{UnreadOnly, read, unread}
-use Rattle.instance.specs.Refusals.{Reading, numberOf, placeOf}
+use Rattle.refusals.specs.Refusals.{Reading, numberOf, placeOf}
 use Rattle.instance.specs.SiteFile.{Taken, taken, refused, Take, continue, word, end, settings, levels, period, tasks, siteFile, readingOf, problemOf}
 use Rattle.instance.specs.Valid.{InRange}
-use Rattle.instance.specs.declared.Refusal.{Refusal}
-use Rattle.instance.specs.declared.Refusal.the-variants.{WordCount, WordRange, SpanTooLong}
+use Rattle.refusals.specs.declared.Refusal.{Refusal}
+use Rattle.refusals.specs.declared.Refusal.the-variants.{WordCount, WordRange, SpanTooLong}
 
 pub record ReadingRefusal (count : ℕ) (r : Refusal) : Type 0 where
   pub number : InRange 2 4 (numberOf r)

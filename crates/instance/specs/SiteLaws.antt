@@ -14,8 +14,8 @@ use Rattle.instance.specs.TakenLaws.{continue-assoc, continue-same}
 use Rattle.instance.specs.Tasks.{tasksSection, noTasks, theseTasks, tasksRead}
 use Rattle.instance.specs.TasksLaws.{tasks-section-keeps-place}
 use Rattle.instance.specs.declared.levels.LevelsRead.{LevelsRead}
-use Rattle.instance.specs.declared.Refusal.{Refusal}
-use Rattle.instance.specs.declared.Verdict.the-variants.{Accepted, Refused}
+use Rattle.refusals.specs.declared.Refusal.{Refusal}
+use Rattle.refusals.specs.declared.Verdict.the-variants.{Accepted, Refused}
 use Rattle.instance.specs.declared.tasks.TasksRead.{TasksRead}
 
 site-file-after-settings : (at : ℕ) (words : List ℕ) → siteFile at words ≡ continue (settings at words) (λ s. afterSettings (s .weights) (s .cores))

@@ -7,7 +7,7 @@ use Rattle.instance.specs.SiteFile.{Taken, Take, _>>=_, done, end, readi
 use Rattle.instance.specs.Tasks.{tasksSection}
 use Rattle.instance.specs.declared.levels.LevelsRead.{LevelsRead}
 use Rattle.instance.specs.declared.InstanceRead.{InstanceRead}
-use Rattle.instance.specs.declared.Verdict.the-variants.{Accepted}
+use Rattle.refusals.specs.declared.Verdict.the-variants.{Accepted}
 use Rattle.instance.specs.declared.Weights.{Weights}
 use Rattle.instance.specs.declared.tasks.TasksRead.{TasksRead}
 

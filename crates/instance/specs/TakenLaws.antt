@@ -9,8 +9,8 @@ use lib.Dec.{leb}
 use lib.ListN.{length, getD, drop, drop-of-length-le}
 use lib.Seq.{drop-cons, drop-drop}
 use Rattle.instance.specs.SiteFile.{Taken, refused, taken, Take, continue, _>>=_, done, word, end, between}
-use Rattle.instance.specs.declared.Refusal.{Refusal}
-use Rattle.instance.specs.declared.Refusal.the-variants.{WordCount, WordRange}
+use Rattle.refusals.specs.declared.Refusal.{Refusal}
+use Rattle.refusals.specs.declared.Refusal.the-variants.{WordCount, WordRange}
 
 pub between-passes : (low high w : ℕ) → low ≤ w → w ≤ high → between low high w ≡ true
 unfolding between

@@ -10,8 +10,8 @@ use Rattle.instance.specs.Node.{noTask, spanFrom}
 use Rattle.instance.specs.Sections.{answered}
 use Rattle.instance.specs.SiteFile.{Taken, Take, _>>=_, done, word, between, isPenalty, period, tasks}
 use Rattle.instance.specs.declared.Task.{Task}
-use Rattle.instance.specs.declared.Refusal.{Refusal}
-use Rattle.instance.specs.declared.Verdict.the-variants.{Accepted, Refused}
+use Rattle.refusals.specs.declared.Refusal.{Refusal}
+use Rattle.refusals.specs.declared.Verdict.the-variants.{Accepted, Refused}
 use Rattle.instance.specs.declared.tasks.TaskRead.{TaskRead}
 use Rattle.instance.specs.declared.tasks.TaskRead.the-variants as TaskRead
 use Rattle.instance.specs.declared.tasks.TasksRead.{TasksRead}

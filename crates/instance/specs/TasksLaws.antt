@@ -20,8 +20,8 @@ use Rattle.instance.specs.SiteFile.{Taken, refused, taken, word, between
 use Rattle.instance.specs.TakenLaws.{Holds, Anything, InPlace, KeepsPlace, between-holds, continue-assoc, anything-holds, done-holds, tested-holds, continue-holds, word-holds, bind-keeps-place, done-keeps-place, word-keeps-place}
 use Rattle.instance.specs.Tasks.{oneTask, spanWith, SpanWithinLimits, tasksSection, taskRead, noTasks, tasksRead, tasksWith}
 use Rattle.instance.specs.declared.Task.{Task}
-use Rattle.instance.specs.declared.Refusal.{Refusal}
-use Rattle.instance.specs.declared.Refusal.the-variants.{SpanTooLong}
+use Rattle.refusals.specs.declared.Refusal.{Refusal}
+use Rattle.refusals.specs.declared.Refusal.the-variants.{SpanTooLong}
 use Rattle.instance.specs.declared.tasks.TaskRead.{TaskRead}
 use Rattle.instance.specs.declared.tasks.TaskRead.the-variants as TaskRead
 

@@ -1,7 +1,7 @@
 // The levels section of a site file: levels that each have more speed and more power than the one before.
 use crate::Level;
-use crate::Refusal;
-use crate::Verdict;
+use refusals::Refusal;
+use refusals::Verdict;
 use crate::word::Pair;
 use crate::word::Word;
 use crate::word::pair_at;

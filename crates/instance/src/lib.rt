@@ -1,13 +1,11 @@
-// What the words of a site's file say: an instance, or a refusal; and the refusals 1 to 10 of document 01.
+// What the words of a site's file say: an instance, or a refusal.
 mod levels;
 mod multiples;
-mod refusals;
 mod site;
 mod tasks;
 mod word;
 
-pub use refusals::refusal_number;
-pub use refusals::refusal_place;
+use refusals::Verdict;
 pub use site::read_instance;
 
 // A clock level: cycles run in a tick, and power drawn in a busy tick.
@@ -37,25 +35,6 @@ pub struct Instance {
     pub taskcount: usize,
     pub tasks: [Task; 12],
     pub span: u32,
-}
-
-// Why an input is turned down, a case for each row of the paper's table of refusals, with its place.
-pub enum Refusal {
-    Text(usize),
-    WordCount(usize),
-    WordRange(usize),
-    SpanTooLong(usize),
-    NoPlan,
-    ShortBuffer(usize),
-    GivenPlan(usize),
-    CoreOverloaded(usize),
-    GivenTable(usize),
-    JobSlots(usize),
-}
-
-pub enum Verdict {
-    Accepted,
-    Refused(Refusal),
 }
 
 // The instance that a list of words is; all zero where the list is refused.

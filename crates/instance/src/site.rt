@@ -2,9 +2,9 @@
 use crate::Instance;
 use crate::InstanceRead;
 use crate::Level;
-use crate::Refusal;
+use refusals::Refusal;
 use crate::Task;
-use crate::Verdict;
+use refusals::Verdict;
 use crate::Weights;
 use crate::levels::levels_at;
 use crate::tasks::tasks_at;

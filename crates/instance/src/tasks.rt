@@ -1,7 +1,7 @@
 // The tasks section of a site file, and the span of the tasks.
-use crate::Refusal;
+use refusals::Refusal;
 use crate::Task;
-use crate::Verdict;
+use refusals::Verdict;
 use crate::multiples::least_common_multiple;
 use crate::word::Word;
 use crate::word::word_at;

@@ -1,5 +1,5 @@
 // Words of the list, each tested as it is taken.
-use crate::Refusal;
+use refusals::Refusal;
 ghost use mathlib.Core.Path.{_≡_};
 ghost use lib.ListN.{drop};
 ghost use Rattle.instance.specs.Sections.{wordRead, pair, pairRead};

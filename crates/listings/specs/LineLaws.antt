@@ -8,8 +8,8 @@ use lib.ListN.{length, getD, take}
 use lib.Seq.{take-suc, take-length}
 use Rattle.laws.specs.Lists.{joined}
 use Rattle.text.specs.Decimal.{decimal, spaced}
-use Rattle.instance.specs.Refusals.{numberOf, placeOf}
-use Rattle.instance.specs.declared.Refusal.{Refusal}
+use Rattle.refusals.specs.Refusals.{numberOf, placeOf}
+use Rattle.refusals.specs.declared.Refusal.{Refusal}
 use Rattle.listings.specs.Lines.{bytes, ended, line}
 use Rattle.listings.specs.Listing.{numbersLine, refusalLine}
 

@@ -7,11 +7,11 @@ use mathlib.Core.Option.{Option, none, some}
 use Rattle.laws.specs.Lists.{listOf, joined}
 use Rattle.text.specs.Decimal.{decimal}
 use Rattle.instance.specs.Node.{Problem, taskCount, span}
-use Rattle.instance.specs.Refusals.{Reading, refused, accepted, numberOf, placeOf}
+use Rattle.refusals.specs.Refusals.{Reading, refused, accepted, numberOf, placeOf}
 use Rattle.instance.specs.SiteFile.{problemOf}
 use Rattle.text.specs.Text.{wordsOf}
-use Rattle.instance.specs.declared.Refusal.{Refusal}
-use Rattle.instance.specs.declared.Refusal.the-variants.{NoPlan}
+use Rattle.refusals.specs.declared.Refusal.{Refusal}
+use Rattle.refusals.specs.declared.Refusal.the-variants.{NoPlan}
 use Rattle.schedule.specs.Quantities.{isRefused, coreOf, levelOf, jobTicks, priceOf}
 use Rattle.schedule.specs.Tables.{tableOf, slotAt}
 use Rattle.schedule.specs.declared.prices.Price.{Price}

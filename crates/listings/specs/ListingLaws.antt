@@ -8,12 +8,12 @@ use lib.ListN.{length, take, length-take}
 use Rattle.instance.specs.Held.{problemIn, held-taskcount}
 use Rattle.ranges.specs.Limits.{mostCores, mostSpan, mostTasks}
 use Rattle.instance.specs.Node.{taskCount}
-use Rattle.instance.specs.Refusals.{refused, accepted}
+use Rattle.refusals.specs.Refusals.{refused, accepted}
 use Rattle.instance.specs.SiteFile.{problemOf}
 use Rattle.text.specs.Text.{wordsOf}
 use Rattle.instance.specs.declared.Instance.{Instance}
-use Rattle.instance.specs.declared.Refusal.{Refusal}
-use Rattle.instance.specs.declared.Verdict.the-variants.{Accepted}
+use Rattle.refusals.specs.declared.Refusal.{Refusal}
+use Rattle.refusals.specs.declared.Verdict.the-variants.{Accepted}
 use Rattle.schedule.specs.HeldSlots.{held-table-size, table-size-at-most}
 use Rattle.schedule.specs.Quantities.{priceOf}
 use Rattle.schedule.specs.ReadLaws.{HoldsProblemOf}

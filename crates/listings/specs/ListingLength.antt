@@ -13,16 +13,16 @@ use Rattle.laws.specs.OntoLaws.{length-onto}
 use Rattle.ranges.specs.Limits.{mostCores, mostLevels, mostSpan, mostTasks}
 use Rattle.instance.specs.Node.{Problem, levelCount, taskCount, span}
 use Rattle.text.specs.NumberCountLaws.{mostTextWords, read-words-at-most}
-use Rattle.instance.specs.Refusals.{Reading, refused, accepted, numberOf, placeOf}
+use Rattle.refusals.specs.Refusals.{Reading, refused, accepted, numberOf, placeOf}
 use Rattle.instance.specs.SiteFile.{problemOf}
 use Rattle.instance.specs.SiteFileLaws.{accepted-is-valid}
 use Rattle.instance.specs.SiteFileRefusals.{reading-refusal}
 use Rattle.text.specs.Text.{wordsOf}
 use Rattle.text.specs.TextRefusals.{text-refusal-place}
 use Rattle.instance.specs.Valid.{Valid}
-use Rattle.instance.specs.declared.Refusal.{Refusal}
-use Rattle.instance.specs.declared.Refusal.the-variants.{Text, WordCount, WordRange, SpanTooLong, NoPlan, ShortBuffer, GivenPlan, CoreOverloaded, GivenTable, JobSlots}
-use Rattle.instance.specs.declared.Verdict.the-variants.{Accepted}
+use Rattle.refusals.specs.declared.Refusal.{Refusal}
+use Rattle.refusals.specs.declared.Refusal.the-variants.{Text, WordCount, WordRange, SpanTooLong, NoPlan, ShortBuffer, GivenPlan, CoreOverloaded, GivenTable, JobSlots}
+use Rattle.refusals.specs.declared.Verdict.the-variants.{Accepted}
 use Rattle.dispatch.specs.DispatchLaws.{slot-is-choice}
 use Rattle.dispatch.specs.Earliest.{Choice}
 use Rattle.schedule.specs.PlanLaws.{PassingPlan, passing-plan}

@@ -2,9 +2,9 @@
 use crate::bytes::put_byte;
 use crate::bytes::put_bytes;
 use crate::bytes::put_field;
-use instance::Refusal;
-use instance::refusal_number;
-use instance::refusal_place;
+use refusals::Refusal;
+use refusals::refusal_number;
+use refusals::refusal_place;
 use schedule::Price;
 ghost use mathlib.Core.List.{[], _∷_, _++_};
 ghost use Rattle.text.specs.Decimal.{decimal};

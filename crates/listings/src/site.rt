@@ -2,7 +2,7 @@
 use crate::lines::put_refusal;
 use crate::plans::put_plan;
 use instance::Instance;
-use instance::Verdict;
+use refusals::Verdict;
 use instance::read_instance;
 use planner::plan;
 use schedule::Priced;

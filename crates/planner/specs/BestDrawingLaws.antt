@@ -6,7 +6,7 @@ use mathlib.Core.Option.{none, some}
 use mathlib.Core.Path.{_≡_, refl}
 use native.Mathlib.Omega.{arith}
 use Rattle.instance.specs.Node.{Problem}
-use Rattle.instance.specs.declared.Verdict.the-variants.{Accepted}
+use Rattle.refusals.specs.declared.Verdict.the-variants.{Accepted}
 use Rattle.schedule.specs.Drawings.{Drawing}
 use Rattle.schedule.specs.FitLaws.{passing-table-passes, drawn-plan-passes, passing-plan-is-drawn}
 use Rattle.schedule.specs.Periods.{Periodic}

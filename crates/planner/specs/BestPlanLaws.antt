@@ -8,8 +8,8 @@ use mathlib.Core.Path.{_≡_, refl, ap}
 use lib.ListN.{length}
 use Rattle.laws.specs.Truth.{false-not-true}
 use Rattle.instance.specs.Node.{Problem, taskCount}
-use Rattle.instance.specs.declared.Verdict.{Verdict}
-use Rattle.instance.specs.declared.Verdict.the-variants.{Accepted, Refused}
+use Rattle.refusals.specs.declared.Verdict.{Verdict}
+use Rattle.refusals.specs.declared.Verdict.the-variants.{Accepted, Refused}
 use Rattle.schedule.specs.Plans.{mostChoice, planPasses}
 use Rattle.assignment.specs.Assignment.{Item, Options, ChoicesAllowed, Allowed, NoWorse, Best}
 use Rattle.assignment.specs.SearchTheorem.{best-unique}

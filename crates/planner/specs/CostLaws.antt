@@ -13,7 +13,7 @@ use Rattle.laws.specs.SumLaws.{sum-cong, sum-zero, sum-add, sum-scaled}
 use Rattle.laws.specs.SumOrderLaws.{sum-exchange, sum-of-one-term}
 use Rattle.laws.specs.Sums.{sum}
 use Rattle.instance.specs.Node.{Problem, levelCount, taskCount, levelAt, taskAt}
-use Rattle.instance.specs.declared.Verdict.the-variants.{Accepted}
+use Rattle.refusals.specs.declared.Verdict.the-variants.{Accepted}
 use Rattle.schedule.specs.Drawings.{AllowedPlan}
 use Rattle.schedule.specs.Plans.{planPasses}
 use Rattle.schedule.specs.Quantities.{choiceAt, isRefused, levelOf, keeps, jobs, jobTicks, ticksOn, loadOn, coreEnergy, energy, penalty, cost}

@@ -8,11 +8,11 @@ use Rattle.instance.specs.EndingLaws.{unchanged, serves, turns-down}
 use Rattle.instance.specs.Endings.{lent, Ends, readThen, neededFor}
 use Rattle.instance.specs.Node.{Problem, taskCount}
 use Rattle.instance.specs.RefusalNumbers.{RefusesOnly, accepts, refuses, UnreadOnly, read, unread, both-refuse, room-refuses-6}
-use Rattle.instance.specs.Refusals.{Reading, room, _andThen_}
+use Rattle.refusals.specs.Refusals.{Reading, room, _andThen_}
 use Rattle.instance.specs.RoomLaws.{room-accepts, front-written}
 use Rattle.instance.specs.SiteFileRefusals.{reading-refuses-2-3-4}
-use Rattle.instance.specs.declared.Verdict.{Verdict}
-use Rattle.instance.specs.declared.Verdict.the-variants.{Accepted}
+use Rattle.refusals.specs.declared.Verdict.{Verdict}
+use Rattle.refusals.specs.declared.Verdict.the-variants.{Accepted}
 use Rattle.schedule.specs.Outcomes.{priceVerdict}
 use Rattle.schedule.specs.TableLaws.{length-tableOf}
 use Rattle.schedule.specs.Tables.{tableOf, tableSize}

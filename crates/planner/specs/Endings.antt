@@ -4,11 +4,11 @@ use mathlib.Core.List.{List, [], _∷_}
 use mathlib.Core.Option.{Option, none, some}
 use Rattle.instance.specs.Endings.{lent, Ends, readThen, neededFor}
 use Rattle.instance.specs.Node.{taskCount}
-use Rattle.instance.specs.Refusals.{room, _andThen_}
+use Rattle.refusals.specs.Refusals.{room, _andThen_}
 use Rattle.instance.specs.SiteFile.{problemOf}
-use Rattle.instance.specs.declared.Refusal.the-variants.{NoPlan}
-use Rattle.instance.specs.declared.Verdict.{Verdict}
-use Rattle.instance.specs.declared.Verdict.the-variants.{Accepted, Refused}
+use Rattle.refusals.specs.declared.Refusal.the-variants.{NoPlan}
+use Rattle.refusals.specs.declared.Verdict.{Verdict}
+use Rattle.refusals.specs.declared.Verdict.the-variants.{Accepted, Refused}
 use Rattle.schedule.specs.Outcomes.{priceVerdict}
 use Rattle.schedule.specs.Tables.{tableSize}
 use Rattle.schedule.specs.declared.prices.Priced.{Priced}

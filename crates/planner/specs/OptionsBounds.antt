@@ -15,7 +15,7 @@ use Rattle.ranges.specs.Limits.{mostWeight, mostPower, mostCycles, mostPenalty,
 use Rattle.instance.specs.Node.{Problem, levelCount, taskCount, levelAt, taskAt, span}
 use Rattle.instance.specs.Valid.{InRange, Valid}
 use Rattle.instance.specs.declared.Task.{Task}
-use Rattle.instance.specs.declared.Verdict.the-variants.{Accepted}
+use Rattle.refusals.specs.declared.Verdict.the-variants.{Accepted}
 use Rattle.schedule.specs.Plans.{mostChoice, planPasses}
 use Rattle.schedule.specs.PriceBounds.{job-penalty-at-most}
 use Rattle.schedule.specs.QuantityBounds.{ticks-at-most, jobs-at-most}

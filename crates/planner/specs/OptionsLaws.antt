@@ -13,7 +13,7 @@ use Rattle.laws.specs.Sums.{sum}
 use Rattle.ranges.specs.Limits.{mayNotBeRefused}
 use Rattle.instance.specs.Node.{Problem, levelCount, taskCount, taskAt, noTask, span}
 use Rattle.instance.specs.declared.Task.{Task}
-use Rattle.instance.specs.declared.Verdict.the-variants.{Accepted}
+use Rattle.refusals.specs.declared.Verdict.the-variants.{Accepted}
 use Rattle.schedule.specs.CheckLaws.{choices-pass}
 use Rattle.schedule.specs.Drawings.{AllowedPlan}
 use Rattle.schedule.specs.Plans.{mostChoice, choicesPass, fits, coresFit, planPasses}

@@ -5,12 +5,12 @@ use mathlib.Core.List.{List}
 use mathlib.Core.Option.{Option, none, some}
 use Rattle.laws.specs.Lists.{onto}
 use Rattle.instance.specs.Node.{Problem, taskCount}
-use Rattle.instance.specs.Refusals.{Reading, refused, accepted, room, _andThen_}
+use Rattle.refusals.specs.Refusals.{Reading, refused, accepted, room, _andThen_}
 use Rattle.instance.specs.SiteFile.{problemOf}
-use Rattle.instance.specs.declared.Refusal.{Refusal}
-use Rattle.instance.specs.declared.Refusal.the-variants.{NoPlan}
-use Rattle.instance.specs.declared.Verdict.{Verdict}
-use Rattle.instance.specs.declared.Verdict.the-variants.{Accepted, Refused}
+use Rattle.refusals.specs.declared.Refusal.{Refusal}
+use Rattle.refusals.specs.declared.Refusal.the-variants.{NoPlan}
+use Rattle.refusals.specs.declared.Verdict.{Verdict}
+use Rattle.refusals.specs.declared.Verdict.the-variants.{Accepted, Refused}
 use Rattle.schedule.specs.Quantities.{priceOf}
 use Rattle.schedule.specs.Tables.{tableOf, tableSize}
 use Rattle.schedule.specs.declared.prices.Priced.{Priced}

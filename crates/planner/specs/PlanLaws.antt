@@ -7,13 +7,13 @@ use native.Mathlib.Omega.{arith}
 use lib.ListN.{length, take}
 use Rattle.instance.specs.Held.{problemIn, held-taskcount}
 use Rattle.instance.specs.Node.{taskCount}
-use Rattle.instance.specs.Refusals.{refused, room}
+use Rattle.refusals.specs.Refusals.{refused, room}
 use Rattle.instance.specs.RoomLaws.{enough-room, no-room, front-of-onto}
 use Rattle.instance.specs.SiteFile.{problemOf}
 use Rattle.instance.specs.declared.Instance.{Instance}
-use Rattle.instance.specs.declared.Refusal.the-variants as Refusal
-use Rattle.instance.specs.declared.Refusal.{Refusal}
-use Rattle.instance.specs.declared.Verdict.the-variants.{Accepted, Refused}
+use Rattle.refusals.specs.declared.Refusal.the-variants as Refusal
+use Rattle.refusals.specs.declared.Refusal.{Refusal}
+use Rattle.refusals.specs.declared.Verdict.the-variants.{Accepted, Refused}
 use Rattle.schedule.specs.HeldSlots.{held-table-size}
 use Rattle.schedule.specs.Outcomes.{priceOutcome, tableOutcome}
 use Rattle.schedule.specs.ReadLaws.{HoldsProblemOf}

@@ -6,11 +6,11 @@ use mathlib.Core.Logic.{_↔_, _⊎_}
 use mathlib.Core.Path.{_≡_}
 use lib.ListN.{length, take, drop}
 use Rattle.instance.specs.Node.{Problem, taskCount}
-use Rattle.instance.specs.Refusals.{refused, accepted}
+use Rattle.refusals.specs.Refusals.{refused, accepted}
 use Rattle.instance.specs.SiteFile.{problemOf}
-use Rattle.instance.specs.declared.Refusal.{Refusal}
-use Rattle.instance.specs.declared.Refusal.the-variants.{NoPlan, ShortBuffer}
-use Rattle.instance.specs.declared.Verdict.the-variants.{Accepted}
+use Rattle.refusals.specs.declared.Refusal.{Refusal}
+use Rattle.refusals.specs.declared.Refusal.the-variants.{NoPlan, ShortBuffer}
+use Rattle.refusals.specs.declared.Verdict.the-variants.{Accepted}
 use Rattle.schedule.specs.Checks.{check}
 use Rattle.schedule.specs.Drawings.{Drawing}
 use Rattle.schedule.specs.Quantities.{cost, priceOf}

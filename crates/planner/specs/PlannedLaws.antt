@@ -8,13 +8,13 @@ use native.Mathlib.Omega.{arith}
 use lib.ListN.{take}
 use Rattle.instance.specs.EndingLaws.{refused-leaves, front-at-most}
 use Rattle.instance.specs.Node.{Problem, taskCount}
-use Rattle.instance.specs.Refusals.{accepted, room, _andThen_}
+use Rattle.refusals.specs.Refusals.{accepted, room, _andThen_}
 use Rattle.instance.specs.RoomLaws.{enough-room, no-room, front-of-onto}
 use Rattle.instance.specs.SiteFile.{problemOf}
 use Rattle.instance.specs.SiteFileLaws.{accepted-is-valid}
-use Rattle.instance.specs.declared.Refusal.the-variants.{NoPlan, ShortBuffer}
-use Rattle.instance.specs.declared.Verdict.{Verdict}
-use Rattle.instance.specs.declared.Verdict.the-variants.{Accepted, Refused}
+use Rattle.refusals.specs.declared.Refusal.the-variants.{NoPlan, ShortBuffer}
+use Rattle.refusals.specs.declared.Verdict.{Verdict}
+use Rattle.refusals.specs.declared.Verdict.the-variants.{Accepted, Refused}
 use Rattle.schedule.specs.Outcomes.{priceVerdict}
 use Rattle.schedule.specs.Periods.{Periodic, valid-is-periodic}
 use Rattle.schedule.specs.Quantities.{priceOf}

@@ -1,8 +1,8 @@
 // Planning an instance that is lent as words.
 use crate::best::best_choices;
 use instance::Instance;
-use instance::Refusal;
-use instance::Verdict;
+use refusals::Refusal;
+use refusals::Verdict;
 use instance::read_instance;
 use schedule::Priced;
 use schedule::price;

@@ -1,14 +1,14 @@
 // Prints a line for each example: what is read, or the refusal's number and place.
 use instance::Instance;
-use instance::Refusal;
-use instance::Verdict;
+use refusals::Refusal;
+use refusals::Verdict;
 use printing::print;
 use printing::print_field;
 use printing::print_filled;
 use text::TextRead;
 
 fn print_refusal(r: Refusal) {
-    let numbers = [instance::refusal_number(r), instance::refusal_place(r)];
+    let numbers = [refusals::refusal_number(r), refusals::refusal_place(r)];
     print_filled(b"refused # #\n", &numbers);
 }
 

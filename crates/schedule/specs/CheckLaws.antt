@@ -12,7 +12,7 @@ use Rattle.laws.specs.SearchFacts.{every-iff}
 use Rattle.laws.specs.Truth.{false-not-true, not-true-is-false, and-is-true, or-is-true, or-is-false}
 use Rattle.ranges.specs.Limits.{mayNotBeRefused}
 use Rattle.instance.specs.Node.{Problem, levelCount, taskCount, taskAt, span}
-use Rattle.instance.specs.declared.Verdict.the-variants.{Accepted}
+use Rattle.refusals.specs.declared.Verdict.the-variants.{Accepted}
 use Rattle.schedule.specs.Checks.{check, strayValue, straySlot, slotsPass, jobSlots, isServed, jobsPass}
 use Rattle.schedule.specs.Drawings.{AllowedPlan}
 use Rattle.schedule.specs.Periods.{Periodic, row-of-index, tick-of-index, slot-of-index}

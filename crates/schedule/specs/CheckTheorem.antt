@@ -4,7 +4,7 @@ use mathlib.Core.List.{List}
 use mathlib.Core.Logic.{_↔_, Iff·trans}
 use mathlib.Core.Path.{_≡_, sym}
 use Rattle.instance.specs.Node.{Problem}
-use Rattle.instance.specs.declared.Verdict.the-variants.{Accepted}
+use Rattle.refusals.specs.declared.Verdict.the-variants.{Accepted}
 use Rattle.schedule.specs.CheckLaws.{choices-pass, check-accepts}
 use Rattle.schedule.specs.Checks.{check}
 use Rattle.schedule.specs.DrawingLaws.{drawing-of-parts, parts-of-drawing}

@@ -6,10 +6,10 @@ use lib.Dec.{ltb, eqb}
 use lib.ListN.{length, getD}
 use Rattle.laws.specs.Search.{first, every, count}
 use Rattle.instance.specs.Node.{Problem, taskCount, taskAt, span}
-use Rattle.instance.specs.Refusals.{_andThen_}
-use Rattle.instance.specs.declared.Refusal.the-variants.{GivenTable, JobSlots}
-use Rattle.instance.specs.declared.Verdict.{Verdict}
-use Rattle.instance.specs.declared.Verdict.the-variants.{Accepted, Refused}
+use Rattle.refusals.specs.Refusals.{_andThen_}
+use Rattle.refusals.specs.declared.Refusal.the-variants.{GivenTable, JobSlots}
+use Rattle.refusals.specs.declared.Verdict.{Verdict}
+use Rattle.refusals.specs.declared.Verdict.the-variants.{Accepted, Refused}
 use Rattle.schedule.specs.Plans.{choicesPass}
 use Rattle.schedule.specs.Quantities.{isRefused, coreOf, keeps, jobs, jobTicks}
 use Rattle.schedule.specs.Tables.{releaseOf, window, tableSize, slotAt}

@@ -7,11 +7,11 @@ use Rattle.instance.specs.EndingLaws.{unchanged, serves, turns-down, ends-as-te
 use Rattle.instance.specs.Endings.{lent, Ends, readThen, neededFor}
 use Rattle.instance.specs.Node.{Problem}
 use Rattle.instance.specs.RefusalNumbers.{RefusesOnly, accepts, refuses, UnreadOnly, read, unread, andThen-refuses, room-refuses-6}
-use Rattle.instance.specs.Refusals.{Reading, room, _andThen_}
+use Rattle.refusals.specs.Refusals.{Reading, room, _andThen_}
 use Rattle.instance.specs.RoomLaws.{room-accepts, front-written}
 use Rattle.instance.specs.SiteFileRefusals.{reading-refuses-2-3-4}
-use Rattle.instance.specs.declared.Verdict.{Verdict}
-use Rattle.instance.specs.declared.Verdict.the-variants.{Accepted}
+use Rattle.refusals.specs.declared.Verdict.{Verdict}
+use Rattle.refusals.specs.declared.Verdict.the-variants.{Accepted}
 use Rattle.schedule.specs.Checks.{check}
 use Rattle.schedule.specs.Outcomes.{priceOutcome, priceOutcomeOf, pricedIf, TableOutcome, tableOutcome, tableOutcomeOf, tableWhere, checkOutcome, checkOutcomeOf, priceVerdict, PricingEnds, TablingEnds, CheckingEnds}
 use Rattle.schedule.specs.Plans.{planPasses}

@@ -8,7 +8,7 @@ use native.Mathlib.Nat.{le-refl}
 use borrow.Author.Tests.{leb-true, le-leb, not-false}
 use Rattle.laws.specs.Sums.{sum}
 use Rattle.instance.specs.Node.{Problem, span}
-use Rattle.instance.specs.declared.Verdict.the-variants.{Accepted}
+use Rattle.refusals.specs.declared.Verdict.the-variants.{Accepted}
 use Rattle.schedule.specs.CheckLaws.{choices-pass}
 use Rattle.schedule.specs.CheckTheorem.{check-accepts-exactly-drawings, tabulated-table-passes}
 use Rattle.schedule.specs.Checks.{check}

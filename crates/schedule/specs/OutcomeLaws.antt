@@ -6,11 +6,11 @@ use lib.ListN.{length}
 use borrow.Author.Tests.{le-leb, lt-leb}
 use Rattle.laws.specs.Lists.{onto}
 use Rattle.instance.specs.Node.{Problem}
-use Rattle.instance.specs.Refusals.{accepted, room}
-use Rattle.instance.specs.declared.Refusal.{Refusal}
-use Rattle.instance.specs.declared.Refusal.the-variants.{ShortBuffer}
-use Rattle.instance.specs.declared.Verdict.{Verdict}
-use Rattle.instance.specs.declared.Verdict.the-variants.{Accepted, Refused}
+use Rattle.refusals.specs.Refusals.{accepted, room}
+use Rattle.refusals.specs.declared.Refusal.{Refusal}
+use Rattle.refusals.specs.declared.Refusal.the-variants.{ShortBuffer}
+use Rattle.refusals.specs.declared.Verdict.{Verdict}
+use Rattle.refusals.specs.declared.Verdict.the-variants.{Accepted, Refused}
 use Rattle.schedule.specs.Outcomes.{TableOutcome, tableOutcomeOf}
 use Rattle.schedule.specs.Plans.{planPasses}
 use Rattle.schedule.specs.Tables.{tableOf, tableSize}

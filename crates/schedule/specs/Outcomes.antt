@@ -6,10 +6,10 @@ use mathlib.Core.List.{List, [], _∷_}
 use Rattle.laws.specs.Lists.{onto}
 use Rattle.instance.specs.Endings.{lent, Ends, readThen, neededFor}
 use Rattle.instance.specs.Node.{Problem}
-use Rattle.instance.specs.Refusals.{Reading, refused, accepted, room, _andThen_}
+use Rattle.refusals.specs.Refusals.{Reading, refused, accepted, room, _andThen_}
 use Rattle.instance.specs.SiteFile.{problemOf}
-use Rattle.instance.specs.declared.Verdict.{Verdict}
-use Rattle.instance.specs.declared.Verdict.the-variants.{Accepted, Refused}
+use Rattle.refusals.specs.declared.Verdict.{Verdict}
+use Rattle.refusals.specs.declared.Verdict.the-variants.{Accepted, Refused}
 use Rattle.schedule.specs.Checks.{slotsPass, jobsPass, check}
 use Rattle.schedule.specs.Plans.{choicesPass, coresFit, planPasses}
 use Rattle.schedule.specs.Quantities.{priceOf}

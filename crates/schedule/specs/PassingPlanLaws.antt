@@ -5,10 +5,10 @@ use mathlib.Core.Path.{_≡_, ap, _∙_}
 use lib.ListN.{length}
 use Rattle.laws.specs.Lists.{onto}
 use Rattle.instance.specs.Node.{Problem}
-use Rattle.instance.specs.Refusals.{accepted, room}
+use Rattle.refusals.specs.Refusals.{accepted, room}
 use Rattle.instance.specs.RoomLaws.{enough-room}
 use Rattle.instance.specs.SiteFile.{problemOf}
-use Rattle.instance.specs.declared.Verdict.the-variants.{Accepted}
+use Rattle.refusals.specs.declared.Verdict.the-variants.{Accepted}
 use Rattle.schedule.specs.Outcomes.{priceOutcome, priceOutcomeOf, pricedIf, tableOutcome, tableOutcomeOf, tableWhere}
 use Rattle.schedule.specs.Plans.{planPasses}
 use Rattle.schedule.specs.Quantities.{priceOf}

@@ -7,7 +7,7 @@ use native.Mathlib.Omega.{arith}
 use lib.Arith.{digits-div, digits-mod}
 use borrow.Author.Tests.{leb-true, not-false}
 use Rattle.instance.specs.Node.{Problem, levelCount, span}
-use Rattle.instance.specs.declared.Verdict.the-variants.{Accepted}
+use Rattle.refusals.specs.declared.Verdict.the-variants.{Accepted}
 use Rattle.schedule.specs.CheckLaws.{choices-pass}
 use Rattle.schedule.specs.Drawings.{AllowedPlan}
 use Rattle.schedule.specs.Plans.{mostChoice, fits, coresFit, planPasses}

@@ -7,10 +7,10 @@ use lib.ListN.{length}
 use Rattle.laws.specs.Search.{first}
 use Rattle.ranges.specs.Limits.{mayNotBeRefused}
 use Rattle.instance.specs.Node.{Problem, levelCount, taskCount, taskAt, span}
-use Rattle.instance.specs.Refusals.{_andThen_}
-use Rattle.instance.specs.declared.Refusal.the-variants.{GivenPlan, CoreOverloaded}
-use Rattle.instance.specs.declared.Verdict.{Verdict}
-use Rattle.instance.specs.declared.Verdict.the-variants.{Accepted, Refused}
+use Rattle.refusals.specs.Refusals.{_andThen_}
+use Rattle.refusals.specs.declared.Refusal.the-variants.{GivenPlan, CoreOverloaded}
+use Rattle.refusals.specs.declared.Verdict.{Verdict}
+use Rattle.refusals.specs.declared.Verdict.the-variants.{Accepted, Refused}
 use Rattle.schedule.specs.Quantities.{choiceAt, isRefused, coreLoad}
 
 -- "a task that may not be refused"

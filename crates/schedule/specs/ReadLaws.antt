@@ -6,13 +6,13 @@ use native.Mathlib.Omega.{arith}
 use Rattle.instance.specs.Held.{problemIn, Sound, problem-in-stored, stored-is-sound}
 use Rattle.instance.specs.Node.{Problem}
 use Rattle.instance.specs.Outcomes.{instanceReadOf, instanceOutcome}
-use Rattle.instance.specs.Refusals.{Reading, refused, accepted}
+use Rattle.refusals.specs.Refusals.{Reading, refused, accepted}
 use Rattle.instance.specs.SiteFile.{problemOf}
 use Rattle.instance.specs.SiteFileLaws.{accepted-is-valid}
 use Rattle.instance.specs.declared.Instance.{Instance}
 use Rattle.instance.specs.declared.InstanceRead.{InstanceRead}
-use Rattle.instance.specs.declared.Refusal.{Refusal}
-use Rattle.instance.specs.declared.Verdict.the-variants.{Accepted, Refused}
+use Rattle.refusals.specs.declared.Refusal.{Refusal}
+use Rattle.refusals.specs.declared.Verdict.the-variants.{Accepted, Refused}
 
 -- the struct holds the problem that the words are
 pub record HoldsProblemOf (words : List ℕ) (inst : Instance) : Type 0 where

@@ -9,10 +9,10 @@ use lib.Dec.{ltb, eqb}
 use borrow.Author.Tests.{ltb-false, lt-ltb, le-ltb, eqb-true, eq-eqb, ne-eqb}
 use Rattle.laws.specs.Search.{first}
 use Rattle.laws.specs.SearchFacts.{first-at-end, first-of-none}
-use Rattle.instance.specs.Refusals.{_andThen_}
-use Rattle.instance.specs.declared.Refusal.{Refusal}
-use Rattle.instance.specs.declared.Verdict.{Verdict}
-use Rattle.instance.specs.declared.Verdict.the-variants.{Accepted, Refused}
+use Rattle.refusals.specs.Refusals.{_andThen_}
+use Rattle.refusals.specs.declared.Refusal.{Refusal}
+use Rattle.refusals.specs.declared.Verdict.{Verdict}
+use Rattle.refusals.specs.declared.Verdict.the-variants.{Accepted, Refused}
 
 refused-not-accepted : (r : Refusal) → Refused r ≡ Accepted → ⊥
 refused-not-accepted r e = let z : _≡_ {A = ℕ} 0 1 = cc in omega arith

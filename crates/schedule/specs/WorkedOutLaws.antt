@@ -8,7 +8,7 @@ use native.Mathlib.Omega.{arith}
 use lib.Seq.{ext-getD}
 use Rattle.laws.specs.Below.{lt-or-le}
 use Rattle.instance.specs.Node.{Problem, taskCount, taskAt, span}
-use Rattle.instance.specs.declared.Verdict.the-variants.{Accepted}
+use Rattle.refusals.specs.declared.Verdict.the-variants.{Accepted}
 use Rattle.dispatch.specs.DispatchLaws.{readyAt, slot-is-choice}
 use Rattle.dispatch.specs.Earliest.{Choice, choice-unique}
 use Rattle.dispatch.specs.Rows.{slotOf, dueAt}

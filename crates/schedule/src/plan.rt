@@ -2,8 +2,8 @@
 use crate::quantities::core_load;
 use crate::quantities::task_of;
 use instance::Instance;
-use instance::Refusal;
-use instance::Verdict;
+use refusals::Refusal;
+use refusals::Verdict;
 use ranges::MAY_NOT_BE_REFUSED;
 ghost use mathlib.Core.Path.{_≡_};
 ghost use Prim.Native.Nat.{min, _<_};

@@ -4,12 +4,12 @@ use crate::quantities::jobs_in;
 use crate::quantities::load_on;
 use crate::quantities::task_of;
 use instance::Instance;
-use instance::Refusal;
+use refusals::Refusal;
 ghost use mathlib.Core.Path.{_≡_};
 ghost use lib.ListN.{length};
 ghost use Rattle.instance.specs.Held.{Sound, problemIn};
 ghost use Rattle.instance.specs.Node.{taskCount};
-ghost use Rattle.instance.specs.declared.Verdict.the-variants.{Accepted};
+ghost use Rattle.refusals.specs.declared.Verdict.the-variants.{Accepted};
 ghost use Rattle.schedule.specs.Plans.{planPasses};
 ghost use Rattle.schedule.specs.Quantities.{coreEnergy, energy, penalty, priceOf};
 

@@ -2,7 +2,7 @@
 use crate::plan::plan_passes;
 use crate::prices::Priced;
 use crate::prices::price_of;
-use instance::Verdict;
+use refusals::Verdict;
 use instance::read_instance;
 ghost use mathlib.Core.Path.{_≡_};
 ghost use Rattle.schedule.specs.Outcomes.{priceOutcome, PricingEnds};

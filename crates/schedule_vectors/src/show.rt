@@ -1,6 +1,6 @@
 // Prints a line for each example.
-use instance::Refusal;
-use instance::Verdict;
+use refusals::Refusal;
+use refusals::Verdict;
 use printing::print;
 use printing::print_field;
 use printing::print_filled;
@@ -8,7 +8,7 @@ use schedule::Price;
 use schedule::Priced;
 
 fn print_refusal(r: Refusal) {
-    let numbers = [instance::refusal_number(r), instance::refusal_place(r)];
+    let numbers = [refusals::refusal_number(r), refusals::refusal_place(r)];
     print_filled(b"refused # #\n", &numbers);
 }
 

@@ -14,11 +14,11 @@ use Rattle.laws.specs.OntoLaws.{length-onto}
 use Rattle.ranges.specs.Limits.{mostTextBytes}
 use Rattle.text.specs.OutcomeLaws.{words-are-handed-over}
 use Rattle.text.specs.Outcomes.{wordsOutcome}
-use Rattle.instance.specs.Refusals.{Reading, refused, accepted}
+use Rattle.refusals.specs.Refusals.{Reading, refused, accepted}
 use Rattle.text.specs.Text.{isDigit, value, begins, numbers, faulty, firstFault, wordsOf}
 use Rattle.text.specs.WordsLaws.{WordsRead}
-use Rattle.instance.specs.declared.Refusal.{Refusal}
-use Rattle.instance.specs.declared.Refusal.the-variants.{Text}
+use Rattle.refusals.specs.declared.Refusal.{Refusal}
+use Rattle.refusals.specs.declared.Refusal.the-variants.{Text}
 use Rattle.text.specs.declared.TextRead.{TextRead}
 use Rattle.text.specs.declared.TextRead.the-variants.{Words, Refused}
 

@@ -9,11 +9,11 @@ use Rattle.laws.specs.Lists.{onto}
 use Rattle.instance.specs.EndingLaws.{unchanged, serves, turns-down}
 use Rattle.instance.specs.Endings.{lent, Ends, readThen, neededFor}
 use Rattle.instance.specs.RefusalNumbers.{RefusesOnly, accepts, refuses, UnreadOnly, read, unread, room-refuses-6}
-use Rattle.instance.specs.Refusals.{Reading, accepted, room}
+use Rattle.refusals.specs.Refusals.{Reading, accepted, room}
 use Rattle.instance.specs.RoomLaws.{enough-room, room-accepts, front-written}
-use Rattle.instance.specs.declared.Refusal.the-variants.{Text}
-use Rattle.instance.specs.declared.Verdict.{Verdict}
-use Rattle.instance.specs.declared.Verdict.the-variants.{Accepted}
+use Rattle.refusals.specs.declared.Refusal.the-variants.{Text}
+use Rattle.refusals.specs.declared.Verdict.{Verdict}
+use Rattle.refusals.specs.declared.Verdict.the-variants.{Accepted}
 use Rattle.text.specs.Outcomes.{WordsOutcome, wordsWhere, wordsOutcomeOf, wordsOutcome, textVerdict, TextEnds}
 use Rattle.text.specs.Text.{firstFault, wordsOf}
 use Rattle.text.specs.declared.TextRead.the-variants as TextRead

@@ -12,7 +12,7 @@ use Rattle.laws.specs.Truth.{false-not-true, not-true-is-false}
 use Rattle.text.specs.Decimal.{decimal, spaced, spelled}
 use Rattle.text.specs.DecimalLaws.{Digits, none, one, decimal-is-digits, decimal-is-some, value-append, value-of-decimal}
 use Rattle.ranges.specs.Limits.{mostTextBytes, mostWord}
-use Rattle.instance.specs.Refusals.{accepted}
+use Rattle.refusals.specs.Refusals.{accepted}
 use Rattle.text.specs.Text.{isDigit, isBlank, valueAfter, begins, numbers, faulty, firstFault, wordsOf}
 use Rattle.text.specs.TextLaws.{blank-is-no-digit, token-says}
 use Rattle.text.specs.Tokens.{afterDigits, numberFrom, tokenFrom, tokenAt}

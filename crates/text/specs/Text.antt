@@ -6,8 +6,8 @@ use mathlib.Core.List.{List, [], _∷_}
 use lib.Dec.{leb, ltb, eqb}
 use lib.ListN.{length, take}
 use Rattle.ranges.specs.Limits.{mostTextBytes, mostWord}
-use Rattle.instance.specs.Refusals.{Reading, refused, accepted}
-use Rattle.instance.specs.declared.Refusal.the-variants.{Text}
+use Rattle.refusals.specs.Refusals.{Reading, refused, accepted}
+use Rattle.refusals.specs.declared.Refusal.the-variants.{Text}
 
 -- the bytes '0' to '9'
 unfoldable pub isDigit : ℕ → Bool

@@ -8,10 +8,10 @@ use lib.Dec.{ltb}
 use lib.ListN.{length, take, length-take}
 use Rattle.ranges.specs.Limits.{mostTextBytes}
 use Rattle.text.specs.NumberCountLaws.{first-fault-at-most}
-use Rattle.instance.specs.Refusals.{refused, accepted, placeOf}
+use Rattle.refusals.specs.Refusals.{refused, accepted, placeOf}
 use Rattle.text.specs.Text.{numbers, firstFault, wordsOf}
-use Rattle.instance.specs.declared.Refusal.{Refusal}
-use Rattle.instance.specs.declared.Refusal.the-variants.{Text}
+use Rattle.refusals.specs.declared.Refusal.{Refusal}
+use Rattle.refusals.specs.declared.Refusal.the-variants.{Text}
 
 pub text-refusal-place : (text : List ℕ) {r : Refusal} → wordsOf text ≡ refused r → placeOf r ≤ mostTextBytes
 unfolding wordsOf

@@ -11,8 +11,8 @@ use Rattle.laws.specs.ListLaws.{rest-after, below-length, onto-one-more}
 use Rattle.laws.specs.Lists.{onto}
 use Rattle.text.specs.Text.{numbers, firstFault}
 use Rattle.text.specs.TextLaws.{NumberTaken, EndReached, FaultFound}
-use Rattle.instance.specs.declared.Refusal.{Refusal}
-use Rattle.instance.specs.declared.Refusal.the-variants.{Text}
+use Rattle.refusals.specs.declared.Refusal.{Refusal}
+use Rattle.refusals.specs.declared.Refusal.the-variants.{Text}
 use Rattle.text.specs.declared.TextRead.{TextRead}
 use Rattle.text.specs.declared.TextRead.the-variants.{Words, Refused}
 

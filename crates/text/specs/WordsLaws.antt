@@ -13,11 +13,11 @@ use Rattle.laws.specs.Lists.{onto}
 use Rattle.ranges.specs.Limits.{mostTextBytes}
 use Rattle.text.specs.OutcomeLaws.{text-ends}
 use Rattle.text.specs.Outcomes.{wordsOutcome, TextEnds}
-use Rattle.instance.specs.Refusals.{Reading, refused, accepted, room}
+use Rattle.refusals.specs.Refusals.{Reading, refused, accepted, room}
 use Rattle.text.specs.Text.{numbers, firstFault, wordsOf}
 use Rattle.text.specs.TextSteps.{NoFault, FirstFault, Counted, Writable}
-use Rattle.instance.specs.declared.Refusal.{Refusal}
-use Rattle.instance.specs.declared.Refusal.the-variants.{Text, ShortBuffer}
+use Rattle.refusals.specs.declared.Refusal.{Refusal}
+use Rattle.refusals.specs.declared.Refusal.the-variants.{Text, ShortBuffer}
 use Rattle.text.specs.declared.TextRead.{TextRead}
 use Rattle.text.specs.declared.TextRead.the-variants.{Words, Refused}
 

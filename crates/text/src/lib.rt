@@ -2,7 +2,7 @@
 mod reader;
 mod words;
 
-use instance::Refusal;
+use refusals::Refusal;
 pub use words::words_of_text;
 
 // How many words a text holds.

@@ -1,7 +1,7 @@
 // From text to words: numbers are taken from the text one after another.
 use crate::TextRead;
 use crate::reader::next_number;
-use instance::Refusal;
+use refusals::Refusal;
 ghost use mathlib.Core.Bool.{false};
 ghost use mathlib.Core.Path.{_≡_};
 ghost use Prim.Native.Nat.{min};

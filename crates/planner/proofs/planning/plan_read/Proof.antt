@@ -10,7 +10,7 @@ use types.Run.{OneOf}
 use Rattle.instance.specs.Held.{held-taskcount}
 use Rattle.schedule.specs.HeldSlots.{held-table-size, table-size-at-most}
 use Rattle.schedule.specs.declared.prices.Priced.{Priced}
-use Rattle.instance.specs.declared.Refusal.the-variants as Refusal
+use Rattle.refusals.specs.declared.Refusal.the-variants as Refusal
 use Rattle.search.specs.declared.Found.the-variants as Found
 use Rattle.search.specs.declared.Found.{Found}
 use Rattle.search.proofs.Found.{the-type}

@@ -9,7 +9,7 @@ use Rattle.laws.specs.Search.{first}
 use Rattle.instance.specs.Held.{problemIn, held-taskcount}
 use native.Mathlib.Numerals.{add-one}
 use Rattle.instance.specs.Node.{taskCount}
-use Rattle.instance.specs.declared.Refusal.the-variants.{JobSlots}
+use Rattle.refusals.specs.declared.Refusal.the-variants.{JobSlots}
 use Rattle.schedule.specs.Checks.{isServed, jobsPass}
 use Rattle.schedule.specs.VerdictLaws.{found-is-refused, none-found-passes}
 use borrow.Author.Needs.{needs}

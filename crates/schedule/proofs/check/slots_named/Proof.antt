@@ -12,7 +12,7 @@ use Rattle.laws.specs.Search.{first}
 use Rattle.laws.specs.SearchFacts.{first-of-none}
 use Rattle.instance.specs.Held.{problemIn, held-span}
 use Rattle.instance.specs.SpanLaws.{span-above-zero}
-use Rattle.instance.specs.declared.Refusal.the-variants.{GivenTable}
+use Rattle.refusals.specs.declared.Refusal.the-variants.{GivenTable}
 use Rattle.schedule.specs.Checks.{straySlot, slotsPass}
 use Rattle.schedule.specs.HeldSlots.{AtSlot, InRow, core-at-most, row-goes-on, next-row-begins, slot-passed, slot-of-core, table-size-at-most}
 use Rattle.schedule.specs.Tables.{tableSize}

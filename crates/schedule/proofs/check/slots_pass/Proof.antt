@@ -1,5 +1,5 @@
 use borrow.Author.Needs.{needs}
-use Rattle.instance.specs.declared.Refusal.the-variants.{GivenTable}
+use Rattle.refusals.specs.declared.Refusal.the-variants.{GivenTable}
 use Rattle.schedule.specs.Checks.{slotsPass}
 use Rattle.schedule.specs.VerdictLaws.{other-length-is-refused}
 use Rattle.schedule.proofs.check.slots_pass.Statement.{statement}

@@ -8,7 +8,7 @@ use Rattle.laws.specs.FirstLaws.{first-unique}
 use Rattle.laws.specs.Search.{first}
 use Rattle.instance.specs.Held.{problemIn, held-taskcount}
 use Rattle.instance.specs.Node.{taskCount}
-use Rattle.instance.specs.declared.Refusal.the-variants.{GivenPlan}
+use Rattle.refusals.specs.declared.Refusal.the-variants.{GivenPlan}
 use Rattle.schedule.specs.Plans.{badChoice, choicesPass}
 use Rattle.schedule.specs.VerdictLaws.{found-is-refused, none-found-passes, other-length-is-refused, same-length-goes-on}
 use borrow.Author.Needs.{needs}

@@ -9,7 +9,7 @@ use Rattle.laws.specs.Search.{first}
 use Rattle.instance.specs.Held.{problemIn}
 use native.Mathlib.Numerals.{add-one}
 use borrow.Author.Tests.{lt-ltb, le-ltb}
-use Rattle.instance.specs.declared.Refusal.the-variants.{CoreOverloaded}
+use Rattle.refusals.specs.declared.Refusal.the-variants.{CoreOverloaded}
 use Rattle.schedule.specs.HeldPlans.{held-cores, cores-at-most, load-above-span-does-not-fit}
 use Rattle.schedule.specs.Plans.{fits, coresFit}
 use Rattle.schedule.specs.VerdictLaws.{found-is-refused, none-found-passes}

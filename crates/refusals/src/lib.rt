@@ -1,6 +1,25 @@
-use crate::Refusal;
+// The refusals of document 01, each with its number and its place, and the verdict of a test.
 ghost use mathlib.Core.Path.{_≡_};
-ghost use Rattle.instance.specs.Refusals.{numberOf, placeOf};
+ghost use Rattle.refusals.specs.Refusals.{numberOf, placeOf};
+
+// Why an input is turned down, a case for each row of the paper's table of refusals, with its place.
+pub enum Refusal {
+    Text(usize),
+    WordCount(usize),
+    WordRange(usize),
+    SpanTooLong(usize),
+    NoPlan,
+    ShortBuffer(usize),
+    GivenPlan(usize),
+    CoreOverloaded(usize),
+    GivenTable(usize),
+    JobSlots(usize),
+}
+
+pub enum Verdict {
+    Accepted,
+    Refused(Refusal),
+}
 
 // The number that the paper gives a refusal.
 pub fn refusal_number(refusal: Refusal) -> u64
