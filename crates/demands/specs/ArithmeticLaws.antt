@@ -12,7 +12,7 @@ use lib.ListN.{length}
 use Rattle.laws.specs.Sums.{sum}
 use Rattle.instance.specs.Node.{Problem, taskCount, levelAt, taskAt}
 use Rattle.refusals.specs.Refusals.{accepted}
-use Rattle.instance.specs.RoomLaws.{enough-room}
+use Rattle.refusals.specs.RoomLaws.{enough-room}
 use Rattle.instance.specs.SiteFile.{problemOf}
 use Rattle.refusals.specs.declared.Verdict.the-variants.{Accepted}
 use Rattle.schedule.specs.CheckLaws.{choices-pass}

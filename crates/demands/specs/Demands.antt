@@ -16,7 +16,7 @@ use Rattle.instance.specs.Held.{HoldsProblem}
 use Rattle.instance.specs.Node.{Problem, levelCount, taskCount, levelAt, taskAt, span}
 use Rattle.instance.specs.OutcomeLaws.{reading-ends, instance-is-handed-over}
 use Rattle.instance.specs.Outcomes.{instanceOutcome, ReadingEnds}
-use Rattle.instance.specs.RefusalNumbers.{numbers-and-places, every-refusal-is-listed}
+use Rattle.refusals.specs.RefusalNumbers.{numbers-and-places, every-refusal-is-listed}
 use Rattle.text.specs.OutcomeLaws.{text-ends, words-are-handed-over}
 use Rattle.text.specs.Outcomes.{wordsOutcome, TextEnds}
 use Rattle.refusals.specs.Refusals.{accepted, placeOf, refusalsAt, answer, answerOf}

@@ -6,10 +6,10 @@ use mathlib.Core.Logic.{_↔_}
 use mathlib.Core.Option.{Option, none, some}
 use mathlib.Core.Path.{_≡_, refl, ap}
 use native.Mathlib.Omega.{arith}
-use Rattle.instance.specs.EndingLaws.{unchanged, turns-down}
-use Rattle.instance.specs.Endings.{Lent, lent, ServedOrRefused, served, refused, Ends, readThen, neededFor}
+use Rattle.refusals.specs.EndingLaws.{unchanged, turns-down}
+use Rattle.refusals.specs.Endings.{Lent, lent, ServedOrRefused, served, refused, Ends, readThen, neededFor}
 use Rattle.instance.specs.Node.{Problem, taskCount}
-use Rattle.instance.specs.RefusalNumbers.{UnreadOnly, read, unread, number-above-zero}
+use Rattle.refusals.specs.RefusalNumbers.{UnreadOnly, read, unread, number-above-zero}
 use Rattle.refusals.specs.Refusals.{Answer, numberOf, answerOf, Reading, room, _andThen_}
 use Rattle.instance.specs.SiteFile.{problemOf}
 use Rattle.instance.specs.SiteFileLaws.{accepted-is-valid}

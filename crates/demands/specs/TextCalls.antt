@@ -4,7 +4,7 @@ use Prim.Native.Nat.{ℕ}
 use mathlib.Core.List.{List, [], _∷_}
 use mathlib.Core.Logic.{_↔_}
 use mathlib.Core.Path.{_≡_}
-use Rattle.instance.specs.Endings.{lent, Ends, readThen, neededFor}
+use Rattle.refusals.specs.Endings.{lent, Ends, readThen, neededFor}
 use Rattle.instance.specs.Node.{Problem, taskCount}
 use Rattle.refusals.specs.Refusals.{Answer, answer, accepted, room, _andThen_}
 use Rattle.instance.specs.SiteFile.{problemOf}

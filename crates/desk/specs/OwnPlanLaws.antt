@@ -29,7 +29,7 @@ use Rattle.planner.specs.EndingLaws.{best-plan-length}
 use Rattle.planner.specs.Outcomes.{PlanOutcome, planRefused, planAnswered, planWhere, planOutcome}
 use Rattle.planner.specs.PlannedLaws.{of-reading, where-room}
 use Rattle.planner.specs.Planning.{bestPlan}
-use Rattle.instance.specs.RoomLaws.{enough-room, no-room}
+use Rattle.refusals.specs.RoomLaws.{enough-room, no-room}
 use Rattle.desk.specs.ByteLists.{ByteList, best-plan-fits-bytes}
 
 -- what the contract of planning says

@@ -1,7 +1,3 @@
-pub mod RefusalNumbers
-pub mod Endings
-pub mod EndingLaws
-pub mod RoomLaws
 pub mod Node
 pub mod SiteFile
 pub mod Outcomes

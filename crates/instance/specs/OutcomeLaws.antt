@@ -2,12 +2,12 @@
 use Prim.Native.Nat.{ℕ}
 use mathlib.Core.List.{List, [], _∷_}
 use mathlib.Core.Path.{_≡_, refl}
-use Rattle.instance.specs.EndingLaws.{serves, turns-down}
-use Rattle.instance.specs.Endings.{Ends, readThen}
+use Rattle.refusals.specs.EndingLaws.{serves, turns-down}
+use Rattle.refusals.specs.Endings.{Ends, readThen}
 use Rattle.instance.specs.Held.{HoldsProblem, stored-holds-problem}
 use Rattle.instance.specs.Node.{Problem}
 use Rattle.instance.specs.Outcomes.{instanceReadOf, instanceOutcome, ReadingEnds}
-use Rattle.instance.specs.RefusalNumbers.{UnreadOnly, read, unread}
+use Rattle.refusals.specs.RefusalNumbers.{UnreadOnly, read, unread}
 use Rattle.refusals.specs.Refusals.{Reading, accepted}
 use Rattle.instance.specs.SiteFile.{problemOf}
 use Rattle.instance.specs.SiteFileLaws.{accepted-is-valid}

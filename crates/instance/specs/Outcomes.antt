@@ -1,7 +1,7 @@
 -- The whole outcome of reading an instance, for every list of words, and how reading ends.
 use Prim.Native.Nat.{ℕ}
 use mathlib.Core.List.{List, [], _∷_}
-use Rattle.instance.specs.Endings.{Ends, readThen}
+use Rattle.refusals.specs.Endings.{Ends, readThen}
 use Rattle.instance.specs.Node.{Problem, stored, noInstance}
 use Rattle.refusals.specs.Refusals.{Reading, refused, accepted}
 use Rattle.instance.specs.SiteFile.{problemOf}

@@ -11,7 +11,7 @@ use lib.ListN.{length}
 use Rattle.laws.specs.Multiples.{lcm}
 use Rattle.ranges.specs.Limits
 use Rattle.instance.specs.Node.{Problem}
-use Rattle.instance.specs.RefusalNumbers.{UnreadOnly, read, unread}
+use Rattle.refusals.specs.RefusalNumbers.{UnreadOnly, read, unread}
 use Rattle.refusals.specs.Refusals.{Reading, numberOf, placeOf}
 use Rattle.instance.specs.SiteFile.{Taken, taken, refused, Take, continue, word, end, settings, levels, period, tasks, siteFile, readingOf, problemOf}
 use Rattle.instance.specs.Valid.{InRange}

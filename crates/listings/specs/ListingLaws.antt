@@ -26,7 +26,7 @@ use Rattle.planner.specs.EndingLaws.{best-plan-length}
 use Rattle.planner.specs.Outcomes.{planAnswered, planOutcome}
 use Rattle.planner.specs.PlannedLaws.{where-room}
 use Rattle.planner.specs.Planning.{bestPlan}
-use Rattle.instance.specs.RoomLaws.{enough-room, front-of-onto}
+use Rattle.refusals.specs.RoomLaws.{enough-room, front-of-onto}
 use Rattle.listings.specs.Listing.{refusalLine, planLines, listingOfPlan, listingOfProblem, listingOf}
 
 pub refused-text-listing : (text : List ℕ) {r : Refusal} → wordsOf text ≡ refused r → listingOf text ≡ refusalLine r

@@ -4,12 +4,12 @@ use mathlib.Core.List.{List, [], _∷_, List·Memᴰ·head, Memᴰ·append-left,
 use mathlib.Core.Option.{Option, none, some}
 use mathlib.Core.Path.{_≡_, refl}
 use lib.ListN.{length}
-use Rattle.instance.specs.EndingLaws.{unchanged, serves, turns-down}
-use Rattle.instance.specs.Endings.{lent, Ends, readThen, neededFor}
+use Rattle.refusals.specs.EndingLaws.{unchanged, serves, turns-down}
+use Rattle.refusals.specs.Endings.{lent, Ends, readThen, neededFor}
 use Rattle.instance.specs.Node.{Problem, taskCount}
-use Rattle.instance.specs.RefusalNumbers.{RefusesOnly, accepts, refuses, UnreadOnly, read, unread, both-refuse, room-refuses-6}
+use Rattle.refusals.specs.RefusalNumbers.{RefusesOnly, accepts, refuses, UnreadOnly, read, unread, both-refuse, room-refuses-6}
 use Rattle.refusals.specs.Refusals.{Reading, room, _andThen_}
-use Rattle.instance.specs.RoomLaws.{room-accepts, front-written}
+use Rattle.refusals.specs.RoomLaws.{room-accepts, front-written}
 use Rattle.instance.specs.SiteFileRefusals.{reading-refuses-2-3-4}
 use Rattle.refusals.specs.declared.Verdict.{Verdict}
 use Rattle.refusals.specs.declared.Verdict.the-variants.{Accepted}

@@ -2,7 +2,7 @@
 use Prim.Native.Nat.{ℕ}
 use mathlib.Core.List.{List, [], _∷_}
 use mathlib.Core.Option.{Option, none, some}
-use Rattle.instance.specs.Endings.{lent, Ends, readThen, neededFor}
+use Rattle.refusals.specs.Endings.{lent, Ends, readThen, neededFor}
 use Rattle.instance.specs.Node.{taskCount}
 use Rattle.refusals.specs.Refusals.{room, _andThen_}
 use Rattle.instance.specs.SiteFile.{problemOf}

@@ -8,7 +8,7 @@ use lib.ListN.{length, take}
 use Rattle.instance.specs.Held.{problemIn, held-taskcount}
 use Rattle.instance.specs.Node.{taskCount}
 use Rattle.refusals.specs.Refusals.{refused, room}
-use Rattle.instance.specs.RoomLaws.{enough-room, no-room, front-of-onto}
+use Rattle.refusals.specs.RoomLaws.{enough-room, no-room, front-of-onto}
 use Rattle.instance.specs.SiteFile.{problemOf}
 use Rattle.instance.specs.declared.Instance.{Instance}
 use Rattle.refusals.specs.declared.Refusal.the-variants as Refusal

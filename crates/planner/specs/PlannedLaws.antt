@@ -6,10 +6,10 @@ use mathlib.Core.Option.{Option, none, some}
 use mathlib.Core.Path.{_≡_, refl, ap, _∙_}
 use native.Mathlib.Omega.{arith}
 use lib.ListN.{take}
-use Rattle.instance.specs.EndingLaws.{refused-leaves, front-at-most}
+use Rattle.refusals.specs.EndingLaws.{refused-leaves, front-at-most}
 use Rattle.instance.specs.Node.{Problem, taskCount}
 use Rattle.refusals.specs.Refusals.{accepted, room, _andThen_}
-use Rattle.instance.specs.RoomLaws.{enough-room, no-room, front-of-onto}
+use Rattle.refusals.specs.RoomLaws.{enough-room, no-room, front-of-onto}
 use Rattle.instance.specs.SiteFile.{problemOf}
 use Rattle.instance.specs.SiteFileLaws.{accepted-is-valid}
 use Rattle.refusals.specs.declared.Refusal.the-variants.{NoPlan, ShortBuffer}

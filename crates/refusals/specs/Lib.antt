@@ -1,1 +1,5 @@
 pub mod Refusals
+pub mod Endings
+pub mod RoomLaws
+pub mod RefusalNumbers
+pub mod EndingLaws

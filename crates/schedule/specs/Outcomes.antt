@@ -4,7 +4,7 @@
 use Prim.Native.Nat.{ℕ}
 use mathlib.Core.List.{List, [], _∷_}
 use Rattle.laws.specs.Lists.{onto}
-use Rattle.instance.specs.Endings.{lent, Ends, readThen, neededFor}
+use Rattle.refusals.specs.Endings.{lent, Ends, readThen, neededFor}
 use Rattle.instance.specs.Node.{Problem}
 use Rattle.refusals.specs.Refusals.{Reading, refused, accepted, room, _andThen_}
 use Rattle.instance.specs.SiteFile.{problemOf}

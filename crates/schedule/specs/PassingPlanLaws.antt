@@ -6,7 +6,7 @@ use lib.ListN.{length}
 use Rattle.laws.specs.Lists.{onto}
 use Rattle.instance.specs.Node.{Problem}
 use Rattle.refusals.specs.Refusals.{accepted, room}
-use Rattle.instance.specs.RoomLaws.{enough-room}
+use Rattle.refusals.specs.RoomLaws.{enough-room}
 use Rattle.instance.specs.SiteFile.{problemOf}
 use Rattle.refusals.specs.declared.Verdict.the-variants.{Accepted}
 use Rattle.schedule.specs.Outcomes.{priceOutcome, priceOutcomeOf, pricedIf, tableOutcome, tableOutcomeOf, tableWhere}

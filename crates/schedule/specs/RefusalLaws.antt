@@ -6,7 +6,7 @@ use lib.Dec.{ltb}
 use lib.ListN.{length}
 use Rattle.laws.specs.Search.{first}
 use Rattle.instance.specs.Node.{Problem, taskCount}
-use Rattle.instance.specs.RefusalNumbers.{RefusesOnly, andThen-refuses, refuses-if, fails-at}
+use Rattle.refusals.specs.RefusalNumbers.{RefusesOnly, andThen-refuses, refuses-if, fails-at}
 use Rattle.refusals.specs.declared.Refusal.the-variants.{GivenPlan, CoreOverloaded, GivenTable, JobSlots}
 use Rattle.schedule.specs.Checks.{straySlot, slotsPass, jobsPass, check}
 use Rattle.schedule.specs.Plans.{badChoice, choicesPass, coresFit, planPasses}

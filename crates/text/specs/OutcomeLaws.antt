@@ -6,11 +6,11 @@ use mathlib.Core.Path.{_≡_, refl}
 use lib.Dec.{ltb}
 use lib.ListN.{length}
 use Rattle.laws.specs.Lists.{onto}
-use Rattle.instance.specs.EndingLaws.{unchanged, serves, turns-down}
-use Rattle.instance.specs.Endings.{lent, Ends, readThen, neededFor}
-use Rattle.instance.specs.RefusalNumbers.{RefusesOnly, accepts, refuses, UnreadOnly, read, unread, room-refuses-6}
+use Rattle.refusals.specs.EndingLaws.{unchanged, serves, turns-down}
+use Rattle.refusals.specs.Endings.{lent, Ends, readThen, neededFor}
+use Rattle.refusals.specs.RefusalNumbers.{RefusesOnly, accepts, refuses, UnreadOnly, read, unread, room-refuses-6}
 use Rattle.refusals.specs.Refusals.{Reading, accepted, room}
-use Rattle.instance.specs.RoomLaws.{enough-room, room-accepts, front-written}
+use Rattle.refusals.specs.RoomLaws.{enough-room, room-accepts, front-written}
 use Rattle.refusals.specs.declared.Refusal.the-variants.{Text}
 use Rattle.refusals.specs.declared.Verdict.{Verdict}
 use Rattle.refusals.specs.declared.Verdict.the-variants.{Accepted}

@@ -4,7 +4,7 @@ use Prim.Native.Nat.{ℕ}
 use mathlib.Core.List.{List, [], _∷_}
 use lib.ListN.{length}
 use Rattle.laws.specs.Lists.{onto}
-use Rattle.instance.specs.Endings.{lent, Ends, readThen, neededFor}
+use Rattle.refusals.specs.Endings.{lent, Ends, readThen, neededFor}
 use Rattle.refusals.specs.Refusals.{Reading, refused, accepted, room}
 use Rattle.refusals.specs.declared.Verdict.{Verdict}
 use Rattle.refusals.specs.declared.Verdict.the-variants.{Accepted, Refused}

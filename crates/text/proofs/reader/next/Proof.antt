@@ -1,4 +1,4 @@
--- `instance::reader::next` meets its contract, by a walk of its MIR. The reader is taken apart, and `number_at` takes its
+-- `text::reader::next` meets its contract, by a walk of its MIR. The reader is taken apart, and `number_at` takes its
 -- fields in the order in which the reader holds them: what the reader owns is what the callee asks.
 use mathlib.Core.Path.{_≡_, refl}
 use mathlib.Core.List.{[], _∷_}

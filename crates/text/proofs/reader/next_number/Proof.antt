@@ -1,4 +1,4 @@
--- `instance::reader::next_number` meets its contract, by a walk of its MIR. What is passed goes to `reader_at` whole, and the
+-- `text::reader::next_number` meets its contract, by a walk of its MIR. What is passed goes to `reader_at` whole, and the
 -- reader that comes back goes to `next`.
 use mathlib.Core.Path.{_≡_, refl, ap, _∙_}
 use Prim.Native.Nat.{ℕ, _<_, _^_}

@@ -1,4 +1,4 @@
--- `instance::reader::reader_at` meets its contract, by a walk of its MIR. The reader holds what is passed, in the same order,
+-- `text::reader::reader_at` meets its contract, by a walk of its MIR. The reader holds what is passed, in the same order,
 -- so what the two parameters own is what the reader owns.
 use mathlib.Core.Path.{refl}
 use Prim.Native.Nat.{ℕ, _<_, _^_}

@@ -1,4 +1,4 @@
--- `instance::text::after_blanks` meets its contract. The loop's invariant: from where it stands the same token is found.
+-- `text::words::after_blanks` meets its contract. The loop's invariant: from where it stands the same token is found.
 use Prim.Native.Nat.{_-_}
 use mathlib.Core.Path.{_≡_, refl, sym, _∙_}
 use native.Mathlib.Omega.{arith}

@@ -1,4 +1,4 @@
--- `instance::text::count_words` meets its contract. The loop's invariant: the numbers that were passed are counted, and none
+-- `text::words::count_words` meets its contract. The loop's invariant: the numbers that were passed are counted, and none
 -- was at fault.
 use Prim.Native.Nat.{_-_}
 use mathlib.Core.Path.{sym, _∙_}

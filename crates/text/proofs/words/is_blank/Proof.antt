@@ -1,4 +1,4 @@
--- `instance::text::is_blank` meets its contract.
+-- `text::words::is_blank` meets its contract.
 use borrow.Author.Tests.{eq-eqb, ne-eqb}
 use Rattle.text.specs.Text.{isBlank}
 use Rattle.text.proofs.words.is_blank.Statement.{statement}

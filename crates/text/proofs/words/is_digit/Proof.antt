@@ -1,4 +1,4 @@
--- `instance::text::is_digit` meets its contract.
+-- `text::words::is_digit` meets its contract.
 use borrow.Author.Tests.{le-leb, lt-leb}
 use Rattle.text.specs.Text.{isDigit}
 use Rattle.text.proofs.words.is_digit.Statement.{statement}

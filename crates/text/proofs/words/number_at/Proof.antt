@@ -1,4 +1,4 @@
--- `instance::text::number_at` meets its contract: blanks are skipped, and what stands there says which token it is.
+-- `text::words::number_at` meets its contract: blanks are skipped, and what stands there says which token it is.
 use mathlib.Core.Path.{sym, _∙_}
 use borrow.Author.Needs.{needs}
 use Rattle.text.specs.TokenSteps.{token-at-end, token-at-digit, token-at-other-byte}

@@ -1,4 +1,4 @@
--- `instance::text::number_from` meets its contract. The loop's invariant: the digits that were passed make `value`, which
+-- `text::words::number_from` meets its contract. The loop's invariant: the digits that were passed make `value`, which
 -- is a word.
 use Prim.Native.Nat.{_-_}
 use mathlib.Core.Path.{sym, _∙_}

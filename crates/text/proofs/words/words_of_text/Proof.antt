@@ -1,4 +1,4 @@
--- `instance::text::words_of_text` meets its contract: each way out is a case of `wordsOutcome`.
+-- `text::words::words_of_text` meets its contract: each way out is a case of `wordsOutcome`.
 use mathlib.Core.Path.{sym}
 use native.Mathlib.Omega.{arith}
 use borrow.Author.Needs.{needs}

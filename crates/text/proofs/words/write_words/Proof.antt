@@ -1,4 +1,4 @@
--- `instance::text::write_words` meets its contract. The loop's invariant: the numbers that were passed stand in the buffer.
+-- `text::words::write_words` meets its contract. The loop's invariant: the numbers that were passed stand in the buffer.
 use Prim.Native.Nat.{_-_, _<_}
 use mathlib.Core.Path.{sym, _∙_}
 use native.Mathlib.Omega.{arith}

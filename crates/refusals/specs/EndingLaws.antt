@@ -4,12 +4,12 @@ use mathlib.Core.List.{List, [], _∷_, _++_, List·Memᴰ, Memᴰ·append-right
 use mathlib.Core.Path.{_≡_, refl, ap}
 use native.Mathlib.Omega.{arith}
 use lib.ListN.{length, drop}
-use Rattle.instance.specs.Endings.{Lent, lent, Unchanged, FrontWritten, Every, ServedOrRefused, served, refused, Ends}
-use Rattle.instance.specs.RefusalNumbers.{RefusesOnly, accepts, refuses, number-above-zero}
+use Rattle.refusals.specs.Endings.{Lent, lent, Unchanged, FrontWritten, Every, ServedOrRefused, served, refused, Ends}
+use Rattle.refusals.specs.RefusalNumbers.{RefusesOnly, accepts, refuses, number-above-zero}
 use Rattle.refusals.specs.Refusals.{Answer, numberOf, answerOf}
 use Rattle.refusals.specs.declared.Refusal.{Refusal}
 use Rattle.refusals.specs.declared.Verdict.{Verdict}
 use Rattle.refusals.specs.declared.Verdict.the-variants.{Accepted, Refused}
 
 pub unchanged : {n : ℕ} {buffer : List ℕ} → Unchanged (lent n buffer buffer)
 unchanged = record { as-before = refl }

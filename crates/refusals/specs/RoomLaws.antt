@@ -10,10 +10,10 @@ use lib.Seq.{take-at, drop-at}
 use borrow.Author.Tests.{leb-true, le-leb, lt-leb}
 use Rattle.laws.specs.Lists.{onto}
 use Rattle.laws.specs.OntoLaws.{length-onto}
 use Rattle.refusals.specs.Refusals.{room}
 use Rattle.refusals.specs.declared.Refusal.the-variants.{ShortBuffer}
 use Rattle.refusals.specs.declared.Verdict.the-variants.{Accepted, Refused}
-use Rattle.instance.specs.Endings.{lent, FrontWritten}
+use Rattle.refusals.specs.Endings.{lent, FrontWritten}
 
 pub enough-room : (needed : ℕ) (buffer : List ℕ) → needed ≤ length buffer → room needed buffer ≡ Accepted
 unfolding room
