@@ -1,0 +1,108 @@
+-- Code that takes words one part after the other takes what the parts one after the other do.
+use Prim.Native.Nat.{ℕ, zero, suc}
+use mathlib.Core.Bool.{Bool, true, false, cond}
+use mathlib.Core.List.{List, [], _∷_, _++_}
+use mathlib.Core.Path.{_≡_, refl, ap}
+use native.Mathlib.Omega.{arith}
+use lib.ListN.{drop}
+use Rattle.refusals.specs.Refusals.{_andThen_}
+use Rattle.refusals.specs.declared.Refusal.{Refusal}
+use Rattle.refusals.specs.declared.Verdict.{Verdict}
+use Rattle.refusals.specs.declared.Verdict.the-variants.{Accepted, Refused}
+use Rattle.formats.specs.Cursors.{heldOr, from, Leaves, refuses, takes, Gets, refusedUnless}
+use Rattle.formats.specs.Formats.{times}
+use Rattle.formats.specs.Taking.{Taken, refused, taken, Take, continue, takeTested}
+use Rattle.formats.specs.Written.{Format}
+use Rattle.formats.specs.declared.Cursor.{Cursor}
+
+module _ {A : Type 0} (all : List ℕ) (c : Cursor) (take : Take A) where
+  pub from-held : {r : Refusal} → c .verdict ≡ Refused r → from all c take ≡ refused r
+  unfolding from
+  from-held held = rw held
+
+  pub from-accepted : c .verdict ≡ Accepted → from all c take ≡ take (c .at) (drop (c .at) all)
+  unfolding from
+  from-accepted none = rw none
+
+-- where a refusal is held, where words are turned down, and where they are taken
+module _ {A : Type 0} {all : List ℕ} {c after : Cursor} {a : A} (take : Take A) where
+  pub gets-held : {r : Refusal} → c .verdict ≡ Refused r → after .verdict ≡ Refused r → Gets all c take a after
+  gets-held {r} before still = record { leaves = rw (from-held all c take before) (refuses r still) }
+
+  pub gets-refusal : {r : Refusal} → c .verdict ≡ Accepted → take (c .at) (drop (c .at) all) ≡ refused r → after .verdict ≡ Refused r →
+      Gets all c take a after
+  gets-refusal {r} before turned now = record { leaves = rw (from-accepted all c take before, turned) (refuses r now) }
+
+  pub gets-value : c .verdict ≡ Accepted → take (c .at) (drop (c .at) all) ≡ taken a (after .at) (drop (after .at) all) →
+      after .verdict ≡ Accepted → Gets all c take a after
+  gets-value before took now = record { leaves = rw (from-accepted all c take before, took) (takes now) }
+
+-- what a cursor says of the words
+module _ {A : Type 0} {all : List ℕ} {c after : Cursor} {take : Take A} {a : A} (gets : Gets all c take a after) where
+  refused-leaves : {t : Taken A} {r : Refusal} → Leaves all a after t → after .verdict ≡ Refused r → t ≡ refused r
+  refused-leaves (refuses s held) same = cc
+  refused-leaves (takes none) same = let z : _≡_ {A = ℕ} 0 1 = cc in absurd (omega arith)
+
+  accepted-leaves : {t : Taken A} → Leaves all a after t → after .verdict ≡ Accepted → t ≡ taken a (after .at) (drop (after .at) all)
+  accepted-leaves (refuses s held) same = let z : _≡_ {A = ℕ} 0 1 = cc in absurd (omega arith)
+  accepted-leaves (takes none) same = refl
+
+  pub gets-refused : {r : Refusal} → after .verdict ≡ Refused r → from all c take ≡ refused r
+  gets-refused = refused-leaves (gets .leaves)
+
+  pub gets-taken : after .verdict ≡ Accepted → from all c take ≡ taken a (after .at) (drop (after .at) all)
+  gets-taken = accepted-leaves (gets .leaves)
+
+held-continue : {A B : Type 0} (v : Verdict) (t : Taken A) (next : A → Take B) → heldOr v (continue t next) ≡ continue (heldOr v t) next
+held-continue Accepted t next = refl
+held-continue (Refused r) t next = refl
+
+module _ {A B : Type 0} {all : List ℕ} {middle : Cursor} {a : A} (next : A → Take B) where
+  continued : {t : Taken A} → Leaves all a middle t → continue t next ≡ from all middle (next a)
+  unfolding from
+  continued (refuses r held) = rw held
+  continued (takes none) = rw none
+
+  -- what is taken from where the first part ended
+  pub from-then : {c : Cursor} {take : Take A} → Gets all c take a middle → from all c (λ at words. continue (take at words) next) ≡ from all middle (next a)
+  unfolding from
+  from-then {c} {take} first = rw (held-continue (c .verdict) (take (c .at) (drop (c .at) all)) next) (continued (first .leaves))
+
+  pub and-then : {c : Cursor} {take : Take A} {b : B} {after : Cursor} →
+      Gets all c take a middle → Gets all middle (next a) b after → Gets all c (λ at words. continue (take at words) next) b after
+  and-then first second = record { leaves = rw (from-then first) (second .leaves) }
+
+pub gets-done : {A : Type 0} {all : List ℕ} {c : Cursor} (a : A) → Gets all c (taken a) a c
+gets-done {all} {c} a = go (c .verdict) refl
+  where
+    go : (v : Verdict) → c .verdict ≡ v → Gets all c (taken a) a c
+    go Accepted none = gets-value (taken a) none refl none
+    go (Refused r) held = gets-held (taken a) held held
+
+-- a loop that takes one thing more
+pub times-step : {fault : ℕ} {A : Type 0} (each : List A → Format fault A) {all : List ℕ} {c middle : Cursor} (n : ℕ) (before : List A) {a : A} →
+    Gets all c (each before .take) a middle → from all c (times each (suc n) before .take) ≡ from all middle (times each n (before ++ (a ∷ [])) .take)
+unfolding times
+times-step each n before first = from-then (λ a. times each n (before ++ (a ∷ [])) .take) first
+
+pub times-done : {fault : ℕ} {A : Type 0} (each : List A → Format fault A) {all : List ℕ} {c : Cursor} (before : List A) →
+    Gets all c (times each zero before .take) before c
+unfolding times
+times-done each before = gets-done before
+
+-- a tested value
+module _ {A : Type 0} {all : List ℕ} {middle : Cursor} {a : A} (passes : A → Bool) (why : ℕ → Refusal) where
+  tested-leaves : {t : Taken A} (at : ℕ) → Leaves all a middle t →
+      Leaves all a (refusedUnless (passes a) (why at) middle) (continue t (λ b next rest. cond (passes b) (taken b next rest) (refused (why at))))
+  tested-leaves at (refuses r held) = refuses r (rw held)
+  tested-leaves at (takes none) = go (passes a)
+    where
+      go : (b : Bool) →
+          Leaves all a (refusedUnless b (why at) middle) (cond b (taken a (middle .at) (drop (middle .at) all)) (refused (why at)))
+      go true = takes (rw none)
+      go false = refuses (why at) (rw none)
+
+  pub gets-tested : {c : Cursor} {take : Take A} → Gets all c take a middle → Gets all c (takeTested take passes why) a (refusedUnless (passes a) (why (c .at)) middle)
+  unfolding from takeTested
+  gets-tested {c} {take} first =
+      record { leaves = rw (held-continue (c .verdict) (take (c .at) (drop (c .at) all)) _) (tested-leaves (c .at) (first .leaves)) }
