@@ -6,7 +6,9 @@ use lib.ListN.{replicate}
 use Rattle.ranges.specs.Limits.{mayNotBeRefused}
 use Rattle.instance.specs.Node.{Problem, taskCount, span, spanFrom}
 use Rattle.refusals.specs.Refusals.{Reading, refused, accepted, numberOf, placeOf, room}
-use Rattle.instance.specs.SiteFile.{problemOf, siteFile, settings, levels, tasks, period, isPenalty, between, word, end}
+use Rattle.formats.specs.Formats.{times}
+use Rattle.formats.specs.Taking.{between, takeWord, takeTested, takeEnd}
+use Rattle.instance.specs.SiteFile.{problemOf, siteFile, settings, level, lastAfter, levels, period, isPenalty, task, tasks}
 use Rattle.text.specs.Text.{wordsOf, numbers, firstFault, faulty, begins, isDigit, isBlank, valueAfter}
 use Rattle.refusals.specs.declared.Refusal.{Refusal}
 use Rattle.laws.specs.Lists.{listOf, joined, onto}
@@ -143,8 +145,8 @@ cases =
     []
 
 pub K1-to-K13 : map (λ c. defined (c .words) (c .claim)) cases ≡ map (λ c. c .claim) cases
-unfolding wordsOf numbers firstFault faulty begins isDigit isBlank valueAfter problemOf siteFile settings levels tasks period
-    isPenalty between word end span spanFrom lcm first listOf joined onto sum room isMust badChoice choicesPass fits coresFit planPasses
+unfolding wordsOf numbers firstFault faulty begins isDigit isBlank valueAfter problemOf siteFile settings level lastAfter levels period
+    isPenalty task tasks times between takeWord takeTested takeEnd span spanFrom lcm first listOf joined onto sum room isMust badChoice choicesPass fits coresFit planPasses
     keeps ticks jobTicks ticksOn jobs loadOn coreLoad coreEnergy energy penalty cost priceOf dueAt afterRelease earliest chosen afterRun
     step dispatched row coreTasks tableOf planOutcome choiceLists isAllowed better firstCheapest bestPlan
 K1-to-K13 = refl

@@ -25,7 +25,7 @@ use Rattle.instance.specs.SiteFileLaws.{accepted-is-valid, accepted-is-written,
 use Rattle.instance.specs.SpanLaws.{period-divides-span, span-divides-common-multiple}
 use Rattle.text.specs.SpelledLaws.{AllWords, spelled-is-read-back}
 use Rattle.text.specs.Text.{wordsOf}
-use Rattle.instance.specs.Valid.{Valid, wordsOfProblem}
+use Rattle.instance.specs.Valid.{Valid, Writes}
 use Rattle.refusals.specs.declared.Refusal.{Refusal}
 use Rattle.refusals.specs.declared.Refusal.the-variants.{Text, WordCount, WordRange, SpanTooLong, NoPlan, ShortBuffer, GivenPlan, CoreOverloaded, GivenTable, JobSlots}
 use Rattle.refusals.specs.declared.Verdict.the-variants.{Accepted, Refused}
@@ -82,9 +82,9 @@ pub record RefusalsExact : Type 0 where
   -- none is turned down without need: words written out in base ten are taken from the text as they are, ..
   pub written-words-are-taken : (words : List ℕ) → AllWords words → length (spelled words) ≤ mostTextBytes →
       wordsOf (spelled words) ≡ accepted words
-  -- .. and the words that are read are those of the instances within document 01's ranges
-  pub valid-instances-are-read : (p : Problem) → Valid p → problemOf (wordsOfProblem p) ≡ accepted p
-  pub no-others-are-read : (words : List ℕ) (p : Problem) → problemOf words ≡ accepted p → Valid p × (words ≡ wordsOfProblem p)
+  -- .. and the words that are read are those that write the instances within document 01's ranges
+  pub valid-instances-are-read : (p : Problem) (words : List ℕ) → Valid p → Writes p words → problemOf words ≡ accepted p
+  pub no-others-are-read : (words : List ℕ) (p : Problem) → problemOf words ≡ accepted p → Valid p × Writes p words
   -- what was read is handed over: the words of the text at the buffer's front, with their count, ..
   pub words-handed-over : (text words buffer : List ℕ) → wordsOf text ≡ accepted words → length words ≤ length buffer →
       wordsOutcome text buffer ≡ record { answer = TextRead.Words (length words); words = onto words buffer }
@@ -104,7 +104,7 @@ demand-1 =
       checking = checking-ends;
       planning = planning-ends;
       written-words-are-taken = spelled-is-read-back;
-      valid-instances-are-read = λ p. valid-is-accepted;
+      valid-instances-are-read = λ p words. valid-is-accepted;
       no-others-are-read = λ words p read. (accepted-is-valid words read, accepted-is-written words read);
       words-handed-over = words-are-handed-over;
       instance-handed-over = instance-is-handed-over;

@@ -1,15 +1,16 @@
 -- Code that takes words one part after the other takes what the parts one after the other do.
-use Prim.Native.Nat.{ℕ, zero, suc}
+use Prim.Native.Nat.{ℕ, suc, _+_, _-_, _≤_, _<_}
 use mathlib.Core.Bool.{Bool, true, false, cond}
 use mathlib.Core.List.{List, [], _∷_, _++_}
-use mathlib.Core.Path.{_≡_, refl, ap}
+use mathlib.Core.Path.{_≡_, refl, sym, _∙_}
+use native.Mathlib.Nat.{sub-zero}
 use native.Mathlib.Omega.{arith}
 use lib.ListN.{drop}
 use Rattle.refusals.specs.Refusals.{_andThen_}
 use Rattle.refusals.specs.declared.Refusal.{Refusal}
 use Rattle.refusals.specs.declared.Verdict.{Verdict}
 use Rattle.refusals.specs.declared.Verdict.the-variants.{Accepted, Refused}
-use Rattle.formats.specs.Cursors.{heldOr, from, Leaves, refuses, takes, Gets, refusedUnless}
+use Rattle.formats.specs.Cursors.{atStart, heldOr, from, Leaves, refuses, takes, Gets, refusedUnless, Repeats}
 use Rattle.formats.specs.Formats.{times}
 use Rattle.formats.specs.Taking.{Taken, refused, taken, Take, continue, takeTested}
 use Rattle.formats.specs.Written.{Format}
@@ -23,6 +24,10 @@ module _ {A : Type 0} (all : List ℕ) (c : Cursor) (take : Take A) where
   pub from-accepted : c .verdict ≡ Accepted → from all c take ≡ take (c .at) (drop (c .at) all)
   unfolding from
   from-accepted none = rw none
+
+pub from-start : {A : Type 0} (all : List ℕ) (take : Take A) → from all atStart take ≡ take 0 all
+unfolding from
+from-start all take = refl
 
 -- where a refusal is held, where words are turned down, and where they are taken
 module _ {A : Type 0} {all : List ℕ} {c after : Cursor} {a : A} (take : Take A) where
@@ -53,6 +58,34 @@ module _ {A : Type 0} {all : List ℕ} {c after : Cursor} {take : Take A} {a : A
   pub gets-taken : after .verdict ≡ Accepted → from all c take ≡ taken a (after .at) (drop (after .at) all)
   gets-taken = accepted-leaves (gets .leaves)
 
+-- once a refusal is held it is kept
+pub accepted-before : {A : Type 0} {all : List ℕ} {c after : Cursor} {take : Take A} {a : A} →
+    Gets all c take a after → after .verdict ≡ Accepted → c .verdict ≡ Accepted
+accepted-before {all} {c} {after} {take} gets now = go (c .verdict) refl
+  where
+    go : (v : Verdict) → c .verdict ≡ v → c .verdict ≡ Accepted
+    go Accepted none = none
+    go (Refused r) held =
+        let z : _≡_ {A = ℕ} 0 1 = cc (from-held all c take held, gets-taken gets now) in absurd (omega arith)
+
+-- how words are taken matters only where no refusal is held
+pub gets-other : {A : Type 0} {all : List ℕ} {c after : Cursor} {take : Take A} {a : A} (other : Take A) →
+    (c .verdict ≡ Accepted → take (c .at) (drop (c .at) all) ≡ other (c .at) (drop (c .at) all)) → Gets all c take a after → Gets all c other a after
+gets-other {A} {all} {c} {after} {take} {a} other same gets = go (c .verdict) refl
+  where
+    go : (v : Verdict) → c .verdict ≡ v → Gets all c other a after
+    go Accepted none =
+        record { leaves = rw (from-accepted all c other none, ← same none, ← from-accepted all c take none) (gets .leaves) }
+    go (Refused r) held = record { leaves = rw (from-held all c other held, ← from-held all c take held) (gets .leaves) }
+
+pub passes-where-accepted : (passes : Bool) (why : Refusal) (c : Cursor) → refusedUnless passes why c .verdict ≡ Accepted → passes ≡ true
+passes-where-accepted true why c is = refl
+passes-where-accepted false why c is = go (c .verdict) is
+  where
+    go : (v : Verdict) → (v andThen Refused why) ≡ Accepted → false ≡ true
+    go Accepted is = let z : _≡_ {A = ℕ} 0 1 = cc in absurd (omega arith)
+    go (Refused r) is = let z : _≡_ {A = ℕ} 0 1 = cc in absurd (omega arith)
+
 held-continue : {A B : Type 0} (v : Verdict) (t : Taken A) (next : A → Take B) → heldOr v (continue t next) ≡ continue (heldOr v t) next
 held-continue Accepted t next = refl
 held-continue (Refused r) t next = refl
@@ -79,16 +112,25 @@ gets-done {all} {c} a = go (c .verdict) refl
     go Accepted none = gets-value (taken a) none refl none
     go (Refused r) held = gets-held (taken a) held held
 
--- a loop that takes one thing more
-pub times-step : {fault : ℕ} {A : Type 0} (each : List A → Format fault A) {all : List ℕ} {c middle : Cursor} (n : ℕ) (before : List A) {a : A} →
-    Gets all c (each before .take) a middle → from all c (times each (suc n) before .take) ≡ from all middle (times each n (before ++ (a ∷ [])) .take)
-unfolding times
-times-step each n before first = from-then (λ a. times each n (before ++ (a ∷ [])) .take) first
+-- things taken one after the other
+module _ {fault : ℕ} {A : Type 0} (each : List A → Format fault A) {all : List ℕ} {count : ℕ} where
+  pub repeats-start : {start : Cursor} → Repeats each all count 0 start [] start
+  repeats-start = record { goes-on = rw sub-zero }
 
-pub times-done : {fault : ℕ} {A : Type 0} (each : List A → Format fault A) {all : List ℕ} {c : Cursor} (before : List A) →
-    Gets all c (times each zero before .take) before c
-unfolding times
-times-done each before = gets-done before
+  module _ {i : ℕ} {start c : Cursor} {before : List A} (so-far : Repeats each all count i start before c) where
+    pub repeats-more : {a : A} {after : Cursor} → i < count → Gets all c (each before .take) a after →
+        Repeats each all count (i + 1) start (before ++ (a ∷ [])) after
+    unfolding times
+    repeats-more {a} below one =
+        let left : count - i ≡ suc (count - (i + 1)) = omega arith in
+        let goes-on = rw left at (so-far .goes-on) in
+        record { goes-on = sym (from-then (λ a. times each (count - (i + 1)) (before ++ (a ∷ [])) .take) one) ∙ goes-on }
+
+    pub repeats-end : count ≤ i → Gets all start (times each count [] .take) before c
+    unfolding times
+    repeats-end all-taken =
+        let none : count - i ≡ 0 = omega arith in
+        record { leaves = rw (← so-far .goes-on, none) (gets-done before .leaves) }
 
 -- a tested value
 module _ {A : Type 0} {all : List ℕ} {middle : Cursor} {a : A} (passes : A → Bool) (why : ℕ → Refusal) where

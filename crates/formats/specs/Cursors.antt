@@ -1,16 +1,21 @@
 -- How code takes words: it hands on a cursor, which holds the index of the next word or the first refusal.
-use Prim.Native.Nat.{ℕ, _≤_}
+use Prim.Native.Nat.{ℕ, _-_, _≤_}
 use mathlib.Core.Bool.{Bool, cond}
-use mathlib.Core.List.{List}
+use mathlib.Core.List.{List, []}
 use mathlib.Core.Path.{_≡_}
 use lib.ListN.{drop}
 use Rattle.refusals.specs.Refusals.{_andThen_}
 use Rattle.refusals.specs.declared.Refusal.{Refusal}
 use Rattle.refusals.specs.declared.Verdict.{Verdict}
 use Rattle.refusals.specs.declared.Verdict.the-variants.{Accepted, Refused}
+use Rattle.formats.specs.Formats.{times}
 use Rattle.formats.specs.Taking.{Taken, refused, taken, Take, between, takeWord}
+use Rattle.formats.specs.Written.{Format}
 use Rattle.formats.specs.declared.Cursor.{Cursor}
 use Rattle.formats.specs.declared.Got.{Got}
+
+abbrev pub atStart : Cursor
+atStart = record { verdict = Accepted; at = 0 }
 
 abbrev pub heldOr : {A : Type 0} → Verdict → Taken A → Taken A
 heldOr Accepted t = t
@@ -30,14 +35,21 @@ pub data Leaves {A : Type 0} (all : List ℕ) (a : A) (after : Cursor) : Taken A
 pub record Gets {A : Type 0} (all : List ℕ) (c : Cursor) (take : Take A) (a : A) (after : Cursor) : Type 0 where
   pub leaves : Leaves all a after (from all c take)
 
--- a word from `low` to `high`; what is held beside a refusal is no more than `high` either
+-- a word from `low` to `high`; what is held beside a refusal is in that range too
 pub record GetsWord (all : List ℕ) (c : Cursor) (low high : ℕ) (r : Got) : Type 0 where
   pub gets : Gets all c (takeWord (between low high)) (r .value) (r .cursor)
+  pub at-least : low ≤ high → low ≤ r .value
   pub at-most : r .value ≤ high
 
-abbrev pub turnedDown : Refusal → ℕ → Got
-turnedDown r at = record { value = 0; cursor = record { verdict = Refused r; at = at } }
+abbrev pub turnedDown : Refusal → ℕ → ℕ → Got
+turnedDown r at high = record { value = high; cursor = record { verdict = Refused r; at = at } }
 
 -- a refusal held before is kept
 abbrev pub refusedUnless : Bool → Refusal → Cursor → Cursor
 refusedUnless passes why c = record { verdict = c .verdict andThen cond passes Accepted (Refused why); at = c .at }
+
+-- Things taken one after the other, `count` from the cursor `start` on: i are taken, `before` are they, and the others are
+-- taken from `c` on.
+pub record Repeats {fault : ℕ} {A : Type 0} (each : List A → Format fault A) (all : List ℕ) (count i : ℕ) (start : Cursor) (before : List A) (c : Cursor)
+    : Type 0 where
+  pub goes-on : from all c (times each (count - i) before .take) ≡ from all start (times each count [] .take)

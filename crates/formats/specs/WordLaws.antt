@@ -39,9 +39,9 @@ module _ (all : List ℕ) (at low high : ℕ) where
   unfolding takeWord
   word-within there least most = rw (add-one, drop-cons all at 0 there, between-passes low high (getD all at 0) least most)
 
-pub turned-word : {all : List ℕ} {c : Cursor} {low high at : ℕ} {r : Refusal} {got : Got} → got ≡ turnedDown r at →
+pub turned-word : {all : List ℕ} {c : Cursor} {low high at : ℕ} {r : Refusal} {got : Got} → got ≡ turnedDown r at high →
     from all c (takeWord (between low high)) ≡ refused r → GetsWord all c low high got
-turned-word {r} says is = rw says (record { gets = record { leaves = rw is (refuses r refl) }; at-most = omega arith })
+turned-word {r} says is = rw says (record { gets = record { leaves = rw is (refuses r refl) }; at-least = λ h. h; at-most = omega arith })
 
 pub end-of-all : (all : List ℕ) (at : ℕ) → length all ≤ at → takeEnd at (drop at all) ≡ taken tt at (drop at all)
 unfolding takeEnd

@@ -3,6 +3,7 @@
 mod word;
 
 use refusals::Verdict;
+pub use word::cursor_at_start;
 pub use word::end_next;
 pub use word::refuse_unless;
 pub use word::word_next;
@@ -13,7 +14,8 @@ pub struct Cursor {
     pub at: usize,
 }
 
-// A word, 0 beside a refusal, and the cursor after it.
+// A word and the cursor after it. Beside a refusal the word is the largest that was asked for, so that what is reckoned of it
+// stays in range.
 pub struct Got {
     pub value: u32,
     pub cursor: Cursor,

@@ -4,14 +4,24 @@ use crate::Got;
 use refusals::Refusal;
 use refusals::Verdict;
 ghost use mathlib.Core.Path.{_≡_};
-ghost use Rattle.formats.specs.Cursors.{Gets, GetsWord, turnedDown, refusedUnless};
+ghost use Rattle.formats.specs.Cursors.{atStart, Gets, GetsWord, turnedDown, refusedUnless};
 ghost use Rattle.formats.specs.Taking.{takeEnd};
 
-fn turned_down(why: Refusal, at: usize) -> Got
-    ensures { λ r. ⌜ r ≡ turnedDown why at ⌝ }
+// Before the first word.
+pub fn cursor_at_start() -> Cursor
+    ensures { λ r. ⌜ r ≡ atStart ⌝ }
+{
+    Cursor {
+        verdict: Verdict::Accepted,
+        at: 0,
+    }
+}
+
+fn turned_down(why: Refusal, at: usize, high: u32) -> Got
+    ensures { λ r. ⌜ r ≡ turnedDown why at high ⌝ }
 {
     Got {
-        value: 0,
+        value: high,
         cursor: Cursor {
             verdict: Verdict::Refused(why),
             at,
@@ -26,17 +36,17 @@ pub fn word_next(words: &[u32], cursor: Cursor, low: u32, high: u32) -> Got
     let at = cursor.at;
     let verdict = cursor.verdict;
     if let Verdict::Refused(why) = verdict {
-        return turned_down(why, at);
+        return turned_down(why, at, high);
     }
     if words.len() <= at {
-        return turned_down(Refusal::WordCount(at), at);
+        return turned_down(Refusal::WordCount(at), at, high);
     }
     let w = words[at];
     if w < low {
-        return turned_down(Refusal::WordRange(at), at);
+        return turned_down(Refusal::WordRange(at), at, high);
     }
     if high < w {
-        return turned_down(Refusal::WordRange(at), at);
+        return turned_down(Refusal::WordRange(at), at, high);
     }
     Got {
         value: w,

@@ -1,27 +1,82 @@
--- How the code hands over what it takes from the list: a refusal, or what the words make and the index of the next word.
-use Prim.Native.Nat.{ℕ}
-use mathlib.Core.Bool.{Bool}
-use Rattle.instance.specs.SiteFile.{Taken, refused, taken, Take, _>>=_, done, word}
-use Rattle.refusals.specs.declared.Refusal.{Refusal}
-use Rattle.instance.specs.declared.word.Pair.{Pair}
-use Rattle.instance.specs.declared.word.Pair.the-variants as Pair
-use Rattle.instance.specs.declared.word.Word.{Word}
-use Rattle.instance.specs.declared.word.Word.the-variants as Word
+-- What code holds of each section of the site file once it has taken it.
+use Prim.Native.Nat.{ℕ, suc, _≤_, _<_}
+use mathlib.Core.Path.{_≡_}
+use mathlib.Core.List.{List}
+use lib.ListN.{take}
+use Rattle.laws.specs.Multiples.{lcm}
+use Rattle.laws.specs.PaddedLaws.{Filled}
+use Rattle.ranges.specs.Limits
+use Rattle.refusals.specs.declared.Verdict.the-variants.{Accepted}
+use Rattle.formats.specs.Cursors.{Gets, Repeats}
+use Rattle.formats.specs.declared.Cursor.{Cursor}
+use Rattle.instance.specs.Node.{noLevel, noTask, spanFrom}
+use Rattle.instance.specs.SiteFile.{SiteFormat, Settings, level, lastAfter, levels, task, tasks}
+use Rattle.instance.specs.declared.Level.{Level}
+use Rattle.instance.specs.declared.Task.{Task}
+use Rattle.instance.specs.declared.levels.LevelGot.{LevelGot}
+use Rattle.instance.specs.declared.levels.LevelsGot.{LevelsGot}
+use Rattle.instance.specs.declared.site.SettingsGot.{SettingsGot}
+use Rattle.instance.specs.declared.tasks.TaskGot.{TaskGot}
+use Rattle.instance.specs.declared.tasks.TasksGot.{TasksGot}
 
--- an answer made of what was taken, by one function for each case
-abbrev pub answered : {A B : Type 0} → (Refusal → B) → (A → ℕ → B) → Taken A → B
-answered on-refused on-taken (refused r) = on-refused r
-answered on-refused on-taken (taken a next words) = on-taken a next
+abbrev pub settingsIn : SettingsGot → Settings
+settingsIn r = record { weights = r .weights; cores = r .cores }
 
-abbrev pub wordRead : Taken ℕ → Word
-wordRead = answered Word.Refused Word.Taken
+pub record LevelWithinLimits (l : Level) : Type 0 where
+  pub speed : l .speed ≤ Limits.mostSpeed
+  pub power : l .power ≤ Limits.mostPower
 
--- two words one after the other
-unfoldable pub pair : (ℕ → Bool) → (ℕ → Bool) → Take (ℕ × ℕ)
-pair first second = do
-  a ← word first
-  b ← word second
-  done (a, b)
+pub record GetsLevel (all : List ℕ) (c : Cursor) (before : Level) (r : LevelGot) : Type 0 where
+  pub gets : Gets all c (level before .take) (r .level) (r .cursor)
+  pub within : LevelWithinLimits (r .level)
 
-abbrev pub pairRead : Taken (ℕ × ℕ) → Pair
-pairRead = answered Pair.Refused (λ both next. Pair.Taken (both .0) (both .1) next)
+-- the format of each level, after those before it
+abbrev pub eachLevel : List Level → SiteFormat Level
+eachLevel before = level (lastAfter noLevel before)
+
+-- i of `count` levels are taken, the last of them is `before`, and the others follow at `c`
+pub record LevelsSoFar (all : List ℕ) (count : ℕ) (start c : Cursor) (array : List Level) (before : Level) (i : ℕ) : Type 0 where
+  pub count-within : count ≤ Limits.mostLevels
+  pub at-most : i ≤ count
+  pub filled : Filled Limits.mostLevels noLevel array i
+  pub last : before ≡ lastAfter noLevel (take i array)
+  pub within : LevelWithinLimits before
+  pub repeats : Repeats eachLevel all count i start (take i array) c
+
+abbrev pub levelsIn : LevelsGot → List Level
+levelsIn r = take (r .count) (r .levels)
+
+pub record GetsLevels (all : List ℕ) (c : Cursor) (r : LevelsGot) : Type 0 where
+  pub gets : Gets all c (levels .take) (levelsIn r) (r .cursor)
+  pub filled : Filled Limits.mostLevels noLevel (r .levels) (r .count)
+
+-- a span that another period may be put to without overflow
+pub record SpanWithinLimits (span : ℕ) : Type 0 where
+  pub above-zero : 0 < span
+  pub at-most : span ≤ Limits.mostSpan
+
+pub record GetsTask (all : List ℕ) (c : Cursor) (span : ℕ) (r : TaskGot) : Type 0 where
+  pub gets : Gets all c (task span .take) (r .task) (r .cursor)
+  pub spans : r .cursor .verdict ≡ Accepted → r .span ≡ lcm span (r .task .period)
+  pub within : SpanWithinLimits (r .span)
+
+-- the format of each task, after those before it
+abbrev pub eachTask : List Task → SiteFormat Task
+eachTask before = task (spanFrom 1 before)
+
+-- i of `count` tasks are taken, `span` is theirs, and the others follow at `c`
+pub record TasksSoFar (all : List ℕ) (count : ℕ) (start c : Cursor) (array : List Task) (span i : ℕ) : Type 0 where
+  pub count-within : count ≤ Limits.mostTasks
+  pub at-most : i ≤ count
+  pub filled : Filled Limits.mostTasks noTask array i
+  pub spans : c .verdict ≡ Accepted → span ≡ spanFrom 1 (take i array)
+  pub within : SpanWithinLimits span
+  pub repeats : Repeats eachTask all count i start (take i array) c
+
+abbrev pub tasksIn : TasksGot → List Task
+tasksIn r = take (r .count) (r .tasks)
+
+pub record GetsTasks (all : List ℕ) (c : Cursor) (r : TasksGot) : Type 0 where
+  pub gets : Gets all c (tasks .take) (tasksIn r) (r .cursor)
+  pub filled : Filled Limits.mostTasks noTask (r .tasks) (r .count)
+  pub spans : r .cursor .verdict ≡ Accepted → r .span ≡ spanFrom 1 (tasksIn r)

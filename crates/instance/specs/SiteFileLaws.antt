@@ -1,102 +1,103 @@
--- Reading accepts exactly the valid instances, each as the words that it is written in.
+-- Reading accepts exactly the words that write valid instances, each as the instance that they write.
 use Prim.Native.Nat.{ℕ, suc}
-use mathlib.Core.Path.{_≡_, refl, ap}
-use mathlib.Core.List.{List, [], _∷_, append-nil}
+use mathlib.Core.Path.{_≡_, refl, sym, ap}
+use mathlib.Core.List.{List, [], _∷_, _++_, append-nil}
 use native.Mathlib.Omega.{arith}
-use Rattle.instance.specs.ReadLevels.{levels-read, levels-taken, rising-in-range, rising-rises, valid-speeds, valid-powers}
+use lib.ListN.{length}
 use Rattle.ranges.specs.Limits
-use Rattle.instance.specs.Node.{Problem, taskCount, span}
 use Rattle.refusals.specs.Refusals.{accepted}
-use Rattle.instance.specs.ReadSettings.{settings-read}
-use Rattle.instance.specs.SiteFile.{Taken, taken, refused, end, word, settings, siteFile, readingOf, problemOf}
-use Rattle.instance.specs.ReadTasks.{tasks-read, tasks-taken}
-use Rattle.instance.specs.Valid.{InRange, Valid, wordsOfProblem, wordsOfTasks}
-use Rattle.instance.specs.ReadWords.{continued, first-word, between-true, in-range-between, taken-same, refused-is-not-taken}
+use Rattle.formats.specs.Taking.{Taken}
+use Rattle.formats.specs.TimesLaws.{times-written, many-written}
+use Rattle.formats.specs.Written.{Outcome, took, turned, then, nothing}
+use Rattle.formats.specs.Written as Written
+use Rattle.instance.specs.LevelsWritten.{EachLevel, rising-in-range, rising-rises, levels-rise, rising-levels, valid-speeds, valid-powers}
+use Rattle.instance.specs.Node.{Problem, levelCount, taskCount, noLevel, span, spanFrom}
+use Rattle.instance.specs.RangeLaws.{between-in-range, in-range-between}
+use Rattle.instance.specs.SiteFile.{settings, level, lastAfter, levels, task, tasks, siteFile, readingOf, problemOf}
+use Rattle.instance.specs.TasksWritten.{tasks-written, valid-tasks}
+use Rattle.instance.specs.Valid.{InRange, Valid, wordsOfLevels, wordsOfTasks, three, Writes, sections}
 
-end-read : (at : ℕ) (words : List ℕ) {u : Unit {0}} {next : ℕ} {rest : List ℕ} →
-    end at words ≡ taken u next rest → words ≡ []
-unfolding end
-end-read at [] e = refl
-end-read at (w ∷ words) e = refused-is-not-taken e
-
-record ProblemRead (words : List ℕ) (p : Problem) : Type 0 where
+record Read (p : Problem) (words : List ℕ) : Type 0 where
   valid : Valid p
-  written : words ≡ wordsOfProblem p
+  written : Writes p words
 
-siteFile-read : (at : ℕ) (words : List ℕ) {p : Problem} {next : ℕ} {rest : List ℕ} →
-    siteFile at words ≡ taken p next rest → ProblemRead words p
-unfolding siteFile wordsOfProblem span
-siteFile-read at words e =
-    continued e λ settings.
-    first-word (settings .went-on) λ level-count.
-    continued (level-count .went-on) λ levels.
-    first-word (levels .went-on) λ task-count.
-    continued (task-count .went-on) λ tasks.
-    continued (tasks .went-on) λ last.
-    let s = settings-read at words (settings .started) in
-    let ls = levels-read (level-count .front) 0 0 (suc (settings .index)) (level-count .after) (levels .started) in
-    let ts = tasks-read (task-count .front) 1 (suc (levels .index)) (task-count .after) (tasks .started) in
-    let none = end-read (tasks .index) (tasks .after) (last .started) in
-    taken-same
-    (λ p rest. ProblemRead words p)
-    (last .went-on)
-    (record {
+writes-sections : {p : Problem} {settings-count level-count task-count : ℕ} {level-words task-words : List ℕ} →
+    settings-count ≡ Limits.settingsCount → levelCount p ≡ level-count → level-words ≡ wordsOfLevels (p .levels) ++ task-count ∷ task-words →
+    taskCount p ≡ task-count → task-words ≡ wordsOfTasks (p .tasks) ++ [] →
+    Writes p (settings-count ∷ p .weights .energy ∷ p .weights .penalty ∷ p .cores ∷ level-count ∷ level-words)
+writes-sections {p} settings-count level-count levels task-count tasks =
+    rw (settings-count, ← level-count, levels, ← task-count, tasks, append-nil (wordsOfTasks (p .tasks))) (sections three)
+
+site-file-read : {p : Problem} {words : List ℕ} (rest : List ℕ) → siteFile .Writes p words rest → Read p words
+unfolding siteFile settings levels tasks lastAfter spanFrom span
+site-file-read rest
+    (then
+    (then (Written.word count t-passes) (then (Written.word energy e-passes) (then (Written.word penalty p-passes) (then (Written.word cores c-passes) nothing))))
+    (then
+    (then (Written.word level-count l-passes) some-levels)
+    (then
+    (then (Written.word task-count n-passes) some-tasks)
+    (then Written.EndWrites.ended nothing)))) =
+    let ls = times-written (λ before. level (lastAfter noLevel before)) level-count [] some-levels in
+    let ts = times-written (λ before. task (spanFrom 1 before)) task-count [] some-tasks in
+    let rise = levels-rise (ls .many) in
+    let spanned = tasks-written (ts .many) in
+    let settings-count : count ≡ Limits.settingsCount = omega (arith, between-in-range t-passes) in
+    rw (ls .are, ts .are) (record {
       valid =
           record {
-            energy-weight = s .energy-weight;
-            penalty-weight = s .penalty-weight;
-            cores = s .cores;
-            level-count = rw (ls .count) (between-true (level-count .passed));
+            energy-weight = between-in-range e-passes;
+            penalty-weight = between-in-range p-passes;
+            cores = between-in-range c-passes;
+            level-count = rw (ls .count) (between-in-range l-passes);
             level = λ l below.
                 record {
-                  speed = rising-in-range (ls .speed-rises) l below;
-                  power = rising-in-range (ls .power-rises) l below;
+                  speed = rising-in-range (rise .0 .speed-rises) l below;
+                  power = rising-in-range (rise .0 .power-rises) l below;
                 };
-            speed-rises = λ l below. rising-rises (ls .speed-rises) l (suc l) (omega arith) below;
-            power-rises = λ l below. rising-rises (ls .power-rises) l (suc l) (omega arith) below;
-            task-count = rw (ts .count) (between-true (task-count .passed) .at-most);
-            task = ts .task;
-            span-at-most = ts .span-at-most (omega arith);
+            speed-rises = λ l below. rising-rises (rise .0 .speed-rises) l (suc l) (omega arith) below;
+            power-rises = λ l below. rising-rises (rise .0 .power-rises) l (suc l) (omega arith) below;
+            task-count = rw (ts .count) (between-in-range n-passes .at-most);
+            task = spanned .task;
+            span-at-most = spanned .span-at-most (omega arith);
           };
-      written = cc (append-nil (wordsOfTasks (tasks .value)));
+      written = writes-sections settings-count (ls .count) (rise .1) (ts .count) (spanned .written);
     })
 
 settings-count-in-range : InRange Limits.settingsCount Limits.settingsCount Limits.settingsCount
 settings-count-in-range = omega arith
 
-siteFile-taken : (p : Problem) → Valid p → (next : ℕ) × (siteFile 0 (wordsOfProblem p) ≡ taken p next [])
-unfolding siteFile settings word end wordsOfProblem span
-siteFile-taken p v =
+site-file-writes : {p : Problem} {words : List ℕ} → Valid p → Writes p words → siteFile .Writes p words []
+unfolding siteFile settings levels tasks lastAfter spanFrom span
+site-file-writes {p} v (sections three) =
     let task-count : InRange 0 Limits.mostTasks (taskCount p) = omega (arith, v .task-count) in
-    let ls = levels-taken 0 0 5 (taskCount p ∷ wordsOfTasks (p .tasks)) (valid-speeds v) (valid-powers v) in
-    let ts = tasks-taken 1 (suc (ls .0)) (p .tasks) [] (omega arith) (v .task) (v .span-at-most) in (
-      ts .0,
-      rw (
-        in-range-between settings-count-in-range,
-        in-range-between (v .energy-weight),
-        in-range-between (v .penalty-weight),
-        in-range-between (v .cores),
-        in-range-between (v .level-count),
-        ls .1,
-        in-range-between task-count,
-        rw append-nil at (ts .1),
-      ),
-    )
+    let ls = rising-levels [] (p .levels) (taskCount p ∷ wordsOfTasks (p .tasks)) (valid-speeds v) (valid-powers v) in
+    let ts = rw append-nil at (valid-tasks [] (p .tasks) [] (omega arith) (v .task) (v .span-at-most)) in
+    then
+    (then (Written.word _ (in-range-between settings-count-in-range))
+    (then (Written.word _ (in-range-between (v .energy-weight)))
+    (then (Written.word _ (in-range-between (v .penalty-weight)))
+    (then (Written.word _ (in-range-between (v .cores))) nothing))))
+    (then
+    (then (Written.word _ (in-range-between (v .level-count))) (many-written (λ before. level (lastAfter noLevel before)) ls))
+    (then
+    (then (Written.word _ (in-range-between task-count)) (many-written (λ before. task (spanFrom 1 before)) ts))
+    (then Written.EndWrites.ended nothing)))
 
-accepted-read : (words : List ℕ) {p : Problem} → problemOf words ≡ accepted p → ProblemRead words p
+accepted-read : (words : List ℕ) {p : Problem} → problemOf words ≡ accepted p → Read p words
 unfolding problemOf
-accepted-read words {p} = go (siteFile 0 words) refl
+accepted-read words {p} = go (siteFile .sound 0 words)
   where
-    go : (t : Taken Problem) → siteFile 0 words ≡ t → readingOf t ≡ accepted p → ProblemRead words p
-    go (refused r) e same = let z : _≡_ {A = ℕ} 0 1 = cc in absurd (omega arith)
-    go (taken q next rest) e same = let q-is-p : q ≡ p = cc in rw q-is-p at (siteFile-read 0 words e)
+    go : {t : Taken Problem} → Outcome 4 (siteFile .Writes) 0 words t → readingOf t ≡ accepted p → Read p words
+    go (turned r number place) same = let z : _≡_ {A = ℕ} 0 1 = cc in absurd (omega arith)
+    go (took {a = q} {rest = rest} writes consumed) same = let q-is-p : q ≡ p = cc in rw q-is-p at (site-file-read rest writes)
 
 pub accepted-is-valid : (words : List ℕ) {p : Problem} → problemOf words ≡ accepted p → Valid p
 accepted-is-valid words e = accepted-read words e .valid
 
-pub accepted-is-written : (words : List ℕ) {p : Problem} → problemOf words ≡ accepted p → words ≡ wordsOfProblem p
+pub accepted-is-written : (words : List ℕ) {p : Problem} → problemOf words ≡ accepted p → Writes p words
 accepted-is-written words e = accepted-read words e .written
 
-pub valid-is-accepted : {p : Problem} → Valid p → problemOf (wordsOfProblem p) ≡ accepted p
+pub valid-is-accepted : {p : Problem} {words : List ℕ} → Valid p → Writes p words → problemOf words ≡ accepted p
 unfolding problemOf
-valid-is-accepted {p} v = ap readingOf (siteFile-taken p v .1)
+valid-is-accepted v writes = ap readingOf (siteFile .complete 0 (site-file-writes v writes) .1)

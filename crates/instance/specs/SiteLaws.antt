@@ -1,62 +1,65 @@
--- The site file is its sections, one after another.
+-- Code that takes the whole site file: what its sections say together.
 use Prim.Native.Nat.{ℕ}
+use mathlib.Core.Path.{_≡_, sym, _∙_}
 use mathlib.Core.List.{List}
-use mathlib.Core.Path.{_≡_, refl, sym}
-use lib.ListN.{drop}
-use Rattle.instance.specs.Levels.{levelsSection, noLevels, theseLevels, levelsRead}
-use Rattle.instance.specs.LevelsLaws.{levels-section-keeps-place}
-use Rattle.instance.specs.SectionLaws.{TakenAt, accepted-is-taken, refused-is-refused}
 use Rattle.ranges.specs.Limits
-use Rattle.instance.specs.Sections.{pair}
-use Rattle.instance.specs.SiteFile.{continue, refused, done, word, between, settings, levels, siteFile}
-use Rattle.instance.specs.SiteRead.{afterSettings}
-use Rattle.instance.specs.TakenLaws.{continue-assoc, continue-same}
-use Rattle.instance.specs.Tasks.{tasksSection, noTasks, theseTasks, tasksRead}
-use Rattle.instance.specs.TasksLaws.{tasks-section-keeps-place}
-use Rattle.instance.specs.declared.levels.LevelsRead.{LevelsRead}
+use Rattle.refusals.specs.Refusals.{refused, accepted}
 use Rattle.refusals.specs.declared.Refusal.{Refusal}
 use Rattle.refusals.specs.declared.Verdict.the-variants.{Accepted, Refused}
-use Rattle.instance.specs.declared.tasks.TasksRead.{TasksRead}
+use Rattle.formats.specs.CursorLaws.{from-start, gets-refused, gets-taken, and-then, gets-done, accepted-before}
+use Rattle.formats.specs.Cursors.{atStart, Gets, GetsWord}
+use Rattle.formats.specs.Taking.{takeEnd}
+use Rattle.formats.specs.declared.Cursor.{Cursor}
+use Rattle.formats.specs.declared.Got.{Got}
+use Rattle.instance.specs.Node.{Problem, span, stored}
+use Rattle.instance.specs.Outcomes.{instanceReadOf, instanceOutcome}
+use Rattle.instance.specs.Sections.{settingsIn, levelsIn, GetsLevels, tasksIn, GetsTasks}
+use Rattle.instance.specs.SiteFile.{settings, siteFile, readingOf, problemOf}
+use Rattle.instance.specs.declared.Instance.{Instance}
+use Rattle.instance.specs.declared.levels.LevelsGot.{LevelsGot}
+use Rattle.instance.specs.declared.site.SettingsGot.{SettingsGot}
+use Rattle.instance.specs.declared.tasks.TasksGot.{TasksGot}
 
-site-file-after-settings : (at : ℕ) (words : List ℕ) → siteFile at words ≡ continue (settings at words) (λ s. afterSettings (s .weights) (s .cores))
-unfolding siteFile afterSettings levelsSection tasksSection
-site-file-after-settings at words =
-    continue-same (settings at words) _ _ (λ s at words.
-    rw continue-assoc
-    (continue-same (word _ at words) _ _ (λ h at words.
-    continue-same (levels h 0 0 at words) _ _ (λ ls at words. sym (continue-assoc (word _ at words) _ _)))))
+pub settings-gets : {all : List ℕ} {c : Cursor} {count energy penalty cores : Got} →
+    GetsWord all c Limits.settingsCount Limits.settingsCount count → GetsWord all (count .cursor) 1 Limits.mostWeight energy →
+    GetsWord all (energy .cursor) 1 Limits.mostWeight penalty → GetsWord all (penalty .cursor) 1 Limits.mostCores cores →
+    Gets all c (settings .take) (record { weights = record { energy = energy .value; penalty = penalty .value }; cores = cores .value }) (cores .cursor)
+unfolding settings
+settings-gets count energy penalty cores =
+    and-then _ (count .gets) (and-then _ (energy .gets) (and-then _ (penalty .gets) (and-then _ (cores .gets) (gets-done _))))
 
--- the settings are two pairs of words
-settings-pairs : (at : ℕ) (words : List ℕ) →
-    settings at words
-    ≡ continue (pair (between Limits.settingsCount Limits.settingsCount) (between 1 Limits.mostWeight) at words) (λ first at words.
-    continue (pair (between 1 Limits.mostWeight) (between 1 Limits.mostCores) at words) (λ second.
-    done (record { weights = record { energy = first .1; penalty = second .0 }; cores = second .1 })))
-unfolding settings pair
-settings-pairs at words = simp continue-assoc
+module _ {words : List ℕ} {start end : Cursor} {s : SettingsGot} {l : LevelsGot} {t : TasksGot}
+    (at-start : start ≡ atStart) (settings-gets : Gets words start (settings .take) (settingsIn s) (s .cursor))
+    (levels-get : GetsLevels words (s .cursor) l) (tasks-get : GetsTasks words (l .cursor) t)
+    (end-gets : Gets words (t .cursor) takeEnd tt end) where
+  abbrev read : Problem
+  read = record { weights = s .weights; cores = s .cores; levels = levelsIn l; tasks = tasksIn t }
 
-pub site-file-sections : (at : ℕ) (words : List ℕ) →
-    siteFile at words
-    ≡ continue (pair (between Limits.settingsCount Limits.settingsCount) (between 1 Limits.mostWeight) at words) (λ first at words.
-    continue (pair (between 1 Limits.mostWeight) (between 1 Limits.mostCores) at words) (λ second.
-    afterSettings (record { energy = first .1; penalty = second .0 }) (second .1)))
-site-file-sections at words = rw (site-file-after-settings, settings-pairs) (simp continue-assoc)
+  site-gets : Gets words atStart (siteFile .take) read end
+  unfolding siteFile
+  site-gets = rw (← at-start) (and-then _ settings-gets (and-then _ (levels-get .gets) (and-then _ (tasks-get .gets) (and-then _ end-gets (gets-done _)))))
 
-module _ (all : List ℕ) (at : ℕ) where
-  module _ (answer : LevelsRead) (read : answer ≡ levelsRead (levelsSection at (drop at all))) where
-    pub levels-taken : answer .verdict ≡ Accepted → TakenAt all (levelsSection at (drop at all)) theseLevels answer (answer .next)
-    unfolding levelsRead
-    levels-taken = accepted-is-taken (λ r. r .verdict) (λ r. r .next) noLevels theseLevels (λ r. refl) (λ a at. refl) (λ a at. refl) _ answer read all (levels-section-keeps-place .place all at)
+  pub site-refused : {r : Refusal} → end .verdict ≡ Refused r → instanceReadOf (refused r) ≡ instanceOutcome words
+  unfolding instanceOutcome problemOf
+  site-refused held = rw (sym (from-start words (siteFile .take)) ∙ gets-refused site-gets held)
 
-    pub levels-refused : {r : Refusal} → answer .verdict ≡ Refused r → levelsSection at (drop at all) ≡ refused r
-    unfolding levelsRead
-    levels-refused = refused-is-refused (λ r. r .verdict) (λ r. r .next) noLevels theseLevels (λ r. refl) (λ a at. refl) (λ a at. refl) _ answer read
+  stored-read : end .verdict ≡ Accepted →
+      record { weights = s .weights; cores = s .cores; levelcount = l .count; levels = l .levels; taskcount = t .count; tasks = t .tasks; span = t .span } ≡ stored read
+  unfolding stored span
+  stored-read now = λ i.
+      record {
+        weights = s .weights;
+        cores = s .cores;
+        levelcount = sym (levels-get .filled .count) i;
+        levels = levels-get .filled .is-padded i;
+        taskcount = sym (tasks-get .filled .count) i;
+        tasks = tasks-get .filled .is-padded i;
+        span = tasks-get .spans (accepted-before end-gets now) i;
+      }
 
-  module _ (answer : TasksRead) (read : answer ≡ tasksRead (tasksSection at (drop at all))) where
-    pub tasks-taken : answer .verdict ≡ Accepted → TakenAt all (tasksSection at (drop at all)) theseTasks answer (answer .next)
-    unfolding tasksRead
-    tasks-taken = accepted-is-taken (λ r. r .verdict) (λ r. r .next) noTasks theseTasks (λ r. refl) (λ a at. refl) (λ a at. refl) _ answer read all (tasks-section-keeps-place .place all at)
-
-    pub tasks-refused : {r : Refusal} → answer .verdict ≡ Refused r → tasksSection at (drop at all) ≡ refused r
-    unfolding tasksRead
-    tasks-refused = refused-is-refused (λ r. r .verdict) (λ r. r .next) noTasks theseTasks (λ r. refl) (λ a at. refl) (λ a at. refl) _ answer read
+  pub site-accepted : end .verdict ≡ Accepted →
+      record { verdict = Accepted; instance = record { weights = s .weights; cores = s .cores; levelcount = l .count; levels = l .levels; taskcount = t .count; tasks = t .tasks; span = t .span } }
+      ≡ instanceOutcome words
+  unfolding instanceOutcome problemOf
+  site-accepted now =
+      rw (sym (from-start words (siteFile .take)) ∙ gets-taken site-gets now, stored-read now)

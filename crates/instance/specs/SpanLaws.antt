@@ -1,7 +1,8 @@
 -- The span is the least common multiple of the periods: above 0, a multiple of each, and a divisor of whatever is a
 -- multiple of each.
 use Prim.Native.Nat.{ℕ, zero, suc, _≤_, _<_, _∣_}
-use mathlib.Core.List.{List, [], _∷_}
+use mathlib.Core.List.{List, [], _∷_, _++_}
+use mathlib.Core.Path.{_≡_, refl}
 use native.Mathlib.Nat.{dvd-refl, dvd-trans, one-dvd, le-of-dvd, le-of-suc-le-suc}
 use native.Mathlib.Omega.{arith}
 use lib.ListN.{length, getD}
@@ -10,6 +11,11 @@ use Rattle.laws.specs.MultiplesLaws.{left-divides-lcm, right-divides-lcm, lcm-a
 use Rattle.instance.specs.Node.{Problem, taskCount, taskAt, noTask, spanFrom, span}
 use Rattle.instance.specs.Valid.{Valid}
 use Rattle.instance.specs.declared.Task.{Task}
+
+pub span-of-more : (s : ℕ) (ts : List Task) (t : Task) → spanFrom s (ts ++ (t ∷ [])) ≡ lcm (spanFrom s ts) (t .period)
+unfolding spanFrom
+span-of-more s [] t = refl
+span-of-more s (u ∷ ts) t = span-of-more (lcm s (u .period)) ts t
 
 -- P holds of every task's period
 abbrev pub EachPeriod : (ℕ → Type 0) → List Task → Type 0

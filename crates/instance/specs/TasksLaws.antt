@@ -1,125 +1,122 @@
--- Laws of the tasks section.
-use Prim.Native.Nat.{ℕ, suc, _+_, _≤_, _<_}
-use mathlib.Core.List.{List, _∷_}
-use mathlib.Core.Path.{_≡_, refl}
-use native.Mathlib.Nat.{zero-add}
-use native.Mathlib.Numerals.{add-one}
+-- Code that takes the tasks: how it begins, goes on and ends.
+use Prim.Native.Nat.{ℕ, zero, suc, _+_, _≤_, _<_, min}
+use mathlib.Core.Bool.{Bool, true, false, cond}
+use mathlib.Core.Path.{_≡_, refl, sym, ap, _∙_}
+use mathlib.Core.List.{List, [], _∷_}
 use native.Mathlib.Omega.{arith}
-use borrow.Author.Tests.{leb-true, le-leb, lt-leb}
 use lib.Dec.{leb}
-use lib.ListN.{length, drop, set, replicate}
-use Rattle.laws.specs.PaddedLaws.{sets-of-blank-is-padded}
-use Rattle.laws.specs.MultipleSearch.{lcm-positive}
+use borrow.Author.Tests.{leb-true}
+use lib.ListN.{take, set, replicate, drop}
 use Rattle.laws.specs.Multiples.{lcm}
+use Rattle.laws.specs.MultiplesLaws.{lcm-above-zero}
+use Rattle.laws.specs.PaddedLaws.{Filled, filled-none, filled-more, front-more}
 use Rattle.ranges.specs.Limits
+use Rattle.refusals.specs.declared.Refusal.the-variants.{WordRange, SpanTooLong}
+use Rattle.refusals.specs.declared.Verdict.the-variants.{Accepted}
+use Rattle.formats.specs.CursorLaws.{and-then, gets-done, gets-tested, gets-other, accepted-before, passes-where-accepted, repeats-start, repeats-more, repeats-end}
+use Rattle.formats.specs.Cursors.{from, Gets, GetsWord, refusedUnless}
+use Rattle.formats.specs.Formats.{times}
+use Rattle.formats.specs.Taking.{between, takeWord, takeTested, refused, taken, continue}
+use Rattle.formats.specs.WordLaws.{between-passes}
+use Rattle.formats.specs.declared.Cursor.{Cursor}
+use Rattle.formats.specs.declared.Got.{Got}
 use Rattle.instance.specs.Node.{noTask, spanFrom}
-use Rattle.instance.specs.RepeatedLaws.{Repeats, Counts, repeated-count, repeated-keeps-place}
-use Rattle.instance.specs.SectionLaws.{answered-taken, answered-refused}
-use Rattle.instance.specs.Sections.{answered}
-use Rattle.instance.specs.SiteFile.{Taken, refused, taken, word, between, period, tasks}
-use Rattle.instance.specs.TakenLaws.{Holds, Anything, InPlace, KeepsPlace, between-holds, continue-assoc, anything-holds, done-holds, tested-holds, continue-holds, word-holds, bind-keeps-place, done-keeps-place, word-keeps-place}
-use Rattle.instance.specs.Tasks.{oneTask, spanWith, SpanWithinLimits, tasksSection, taskRead, noTasks, tasksRead, tasksWith}
+use Rattle.instance.specs.RangeLaws.{is-penalty-at-most}
+use Rattle.instance.specs.Sections.{SpanWithinLimits, GetsTask, eachTask, TasksSoFar}
+use Rattle.instance.specs.SiteFile.{isPenalty, period, task}
+use Rattle.instance.specs.SpanLaws.{span-of-more}
 use Rattle.instance.specs.declared.Task.{Task}
-use Rattle.refusals.specs.declared.Refusal.{Refusal}
-use Rattle.refusals.specs.declared.Refusal.the-variants.{SpanTooLong}
-use Rattle.instance.specs.declared.tasks.TaskRead.{TaskRead}
-use Rattle.instance.specs.declared.tasks.TaskRead.the-variants as TaskRead
+use Rattle.instance.specs.declared.tasks.TaskGot.{TaskGot}
 
--- a period, and the span with it
+-- a penalty is any word, which is then tested
+penalty-is-tested : (at : ℕ) (words : List ℕ) →
+    takeTested (takeWord (between 0 Limits.mayNotBeRefused)) isPenalty WordRange at words ≡ takeWord isPenalty at words
+unfolding takeTested takeWord
+penalty-is-tested at [] = refl
+penalty-is-tested at (w ∷ words) = go (between 0 Limits.mayNotBeRefused w) (isPenalty w) refl refl
+  where
+    go : (any passes : Bool) → between 0 Limits.mayNotBeRefused w ≡ any → isPenalty w ≡ passes →
+        continue (cond any (taken w (suc at) words) (refused (WordRange at))) (λ v next rest. cond (isPenalty v) (taken v next rest) (refused (WordRange at)))
+        ≡ cond passes (taken w (suc at) words) (refused (WordRange at))
+    go true passes any is = rw is
+    go false true any is =
+        let z : _≡_ {A = ℕ} 0 1 = cc (between-passes 0 Limits.mayNotBeRefused w (omega arith) (is-penalty-at-most is)) in
+        absurd (omega arith)
+    go false false any is = refl
 
-module _ (span at : ℕ) (words : List ℕ) where
-  pub period-refused : {r : Refusal} → word (between 1 Limits.mostPeriod) at words ≡ refused r → period span at words ≡ refused r
+pub penalty-gets : {all : List ℕ} {c after : Cursor} {got : Got} {passes : Bool} → GetsWord all c 0 Limits.mayNotBeRefused got →
+    passes ≡ isPenalty (got .value) → after ≡ refusedUnless passes (WordRange (c .at)) (got .cursor) →
+    Gets all c (takeWord isPenalty) (got .value) after
+penalty-gets {all} {c} word passes-is after-is =
+    rw (after-is, passes-is)
+    (gets-other (takeWord isPenalty) (λ none. penalty-is-tested (c .at) (drop (c .at) all)) (gets-tested isPenalty WordRange (word .gets)))
+
+-- what the code of one task has at its end
+module _ (span : ℕ) {all : List ℕ} {c spanned : Cursor} {longer : ℕ} {first cycles penalty : Got}
+    (first-gets : GetsWord all c 1 Limits.mostPeriod first)
+    (longer-is : longer ≡ lcm span (first .value))
+    (spanned-is : spanned ≡ refusedUnless (leb longer Limits.mostSpan) (SpanTooLong (c .at)) (first .cursor))
+    (cycles-gets : GetsWord all spanned 1 Limits.mostCycles cycles)
+    (penalty-gets : Gets all (cycles .cursor) (takeWord isPenalty) (penalty .value) (penalty .cursor)) where
+  period-gets : Gets all c (period span .take) (first .value) spanned
   unfolding period
-  period-refused is = rw is
+  period-gets = rw (spanned-is, longer-is) (gets-tested (λ p. leb (lcm span p) Limits.mostSpan) SpanTooLong (first-gets .gets))
 
-  module _ {p next longer : ℕ} {left : List ℕ} (is : word (between 1 Limits.mostPeriod) at words ≡ taken p next left) (spans : longer ≡ lcm span p) where
-    pub period-too-long : Limits.mostSpan < longer → period span at words ≡ refused (SpanTooLong at)
-    unfolding period
-    period-too-long long = rw (is, ← spans, lt-leb longer Limits.mostSpan long)
+  pub task-gets : Gets all c (task span .take) (record { period = first .value; cycles = cycles .value; penalty = penalty .value }) (penalty .cursor)
+  unfolding task
+  task-gets = and-then _ period-gets (and-then _ (cycles-gets .gets) (and-then _ penalty-gets (gets-done _)))
 
-    pub period-taken : longer ≤ Limits.mostSpan → period span at words ≡ taken p next left
-    unfolding period
-    period-taken short = rw (is, ← spans, le-leb longer Limits.mostSpan short)
+  pub task-spans : penalty .cursor .verdict ≡ Accepted → min longer Limits.mostSpan ≡ lcm span (first .value)
+  task-spans accepted =
+      let tested = rw spanned-is at (accepted-before (cycles-gets .gets) (accepted-before penalty-gets accepted)) in
+      let fits = leb-true longer Limits.mostSpan (passes-where-accepted (leb longer Limits.mostSpan) (SpanTooLong (c .at)) (first .cursor) tested) in
+      omega arith
 
--- one task
+  pub task-within : SpanWithinLimits (min longer Limits.mostSpan)
+  task-within =
+      let above = lcm-above-zero span (first .value) (first-gets .at-least (omega arith)) in
+      omega arith
 
-period-keeps-place : (span : ℕ) → KeepsPlace (period span)
-unfolding period
-period-keeps-place span =
+pub tasks-begin : (all : List ℕ) (count : ℕ) (start : Cursor) → count ≤ Limits.mostTasks →
+    TasksSoFar all count start start (replicate Limits.mostTasks noTask) 1 0
+unfolding spanFrom
+tasks-begin all count start few =
     record {
-      place = λ all at.
-          continue-holds (InPlace all) (InPlace all) _ _ (word-keeps-place _ .place all at) (λ p next left place.
-          tested-holds (InPlace all) (leb (lcm span p) Limits.mostSpan) _ (λ short. place));
+      count-within = few;
+      at-most = omega arith;
+      filled = filled-none Limits.mostTasks noTask;
+      spans = λ accepted. refl;
+      within = omega arith;
+      repeats = repeats-start eachTask;
     }
 
-one-task-keeps-place : (span : ℕ) → KeepsPlace (oneTask span)
-unfolding oneTask
-one-task-keeps-place span =
-    bind-keeps-place (period-keeps-place span) (λ p.
-    bind-keeps-place (word-keeps-place _) (λ c.
-    bind-keeps-place (word-keeps-place _) (λ e. done-keeps-place)))
+module _ {all : List ℕ} {count : ℕ} {start c : Cursor} {array : List Task} {span i : ℕ} (so-far : TasksSoFar all count start c array span i) where
+  pub tasks-more : (got : TaskGot) → i < count → GetsTask all c span got →
+      TasksSoFar all count start (got .cursor) (set array i (got .task)) (got .span) (i + 1)
+  tasks-more got below gets =
+      let room : i < Limits.mostTasks = omega (arith, so-far .count-within) in
+      let front = front-more Limits.mostTasks noTask array i (got .task) room (so-far .filled) in
+      let one : Gets all c (eachTask (take i array) .take) (got .task) (got .cursor) =
+      gets-other _ (λ accepted. ap (λ (s : ℕ). task s .take (c .at) (drop (c .at) all)) (so-far .spans accepted)) (gets .gets) in
+      record {
+        count-within = so-far .count-within;
+        at-most = omega arith;
+        filled = filled-more Limits.mostTasks noTask array i (got .task) room (so-far .filled);
+        spans = λ accepted.
+            rw (front, span-of-more, ← so-far .spans (accepted-before (gets .gets) accepted)) (gets .spans accepted);
+        within = gets .within;
+        repeats = rw front (repeats-more eachTask (so-far .repeats) below one);
+      }
 
-period-within-limits : (span at : ℕ) (words : List ℕ) → Holds (λ p next left. SpanWithinLimits (lcm span p)) (period span at words)
-unfolding period
-period-within-limits span at words =
-    continue-holds (λ p next left. 0 < p) (λ p next left. SpanWithinLimits (lcm span p)) _ _
-    (word-holds _ _ at words (λ p left is pass. between-holds _ _ p pass .0))
-    (λ p next left positive.
-    tested-holds (λ p next left. SpanWithinLimits (lcm span p)) (leb (lcm span p) Limits.mostSpan) _ (λ short.
-    (lcm-positive span p positive, leb-true _ _ short)))
+  module _ (all-taken : count ≤ i) where
+    all-are : i ≡ count
+    all-are = omega (arith, so-far .at-most)
 
-pub one-task-within-limits : (span at : ℕ) (words : List ℕ) → Holds (λ t next left. SpanWithinLimits (spanWith span t)) (oneTask span at words)
-unfolding oneTask
-one-task-within-limits span at words =
-    let Within : Task → ℕ → List ℕ → Type 0 = λ t next left. SpanWithinLimits (spanWith span t) in
-    continue-holds (λ p next left. SpanWithinLimits (lcm span p)) Within _ _ (period-within-limits span at words) (λ p next left within.
-    continue-holds Anything Within _ _ (anything-holds (word _ next left)) (λ c next left any.
-    continue-holds Anything Within _ _ (anything-holds (word _ next left)) (λ e next left any.
-    done-holds Within within)))
+    pub tasks-end : Gets all start (times eachTask count [] .take) (take count array) c
+    tasks-end = rw all-are at (repeats-end eachTask (so-far .repeats) all-taken)
 
-module _ (span : ℕ) (all : List ℕ) (at : ℕ) {answer : TaskRead} (read : answer ≡ taskRead span (oneTask span at (drop at all))) where
-  pub task-taken : {t : Task} {longer next : ℕ} → answer ≡ TaskRead.Taken t longer next
-      → (longer ≡ spanWith span t) × (oneTask span at (drop at all) ≡ taken t next (drop next all))
-  task-taken is =
-      let found =
-      answered-taken TaskRead.Refused (λ t next. TaskRead.Taken t (spanWith span t) next) all (oneTask span at (drop at all)) answer (one-task-keeps-place span .place all at) read (λ r no-refusal.
-      let z : _≡_ {A = ℕ} 0 1 = cc in omega arith)
-      in
-      (cc, cc)
+    pub tasks-filled : Filled Limits.mostTasks noTask array count
+    tasks-filled = rw all-are at (so-far .filled)
 
-  pub task-refused : {r : Refusal} → answer ≡ TaskRead.Refused r → oneTask span at (drop at all) ≡ refused r
-  task-refused is =
-      let found =
-      answered-refused TaskRead.Refused (λ t next. TaskRead.Taken t (spanWith span t) next) (oneTask span at (drop at all)) answer read (λ t next no-task.
-      let z : _≡_ {A = ℕ} 0 1 = cc in omega arith)
-      in
-      cc
-
--- all of them
-
-pub tasks-repeat : Repeats oneTask spanWith tasks
-unfolding tasks oneTask
-tasks-repeat = record { none = λ span at words. refl; more = λ n span at words. simp continue-assoc }
-
-pub tasks-section-keeps-place : KeepsPlace tasksSection
-unfolding tasksSection
-tasks-section-keeps-place =
-    bind-keeps-place (word-keeps-place _) (λ n. repeated-keeps-place tasks-repeat one-task-keeps-place n 1)
-
-pub task-put : (i : ℕ) (array : List Task) (span : ℕ) (t : Task) (rest : List Task) (next : ℕ)
-    → tasksWith i array span (t ∷ rest) next ≡ tasksWith (i + 1) (set array i t) (spanWith span t) rest next
-unfolding spanFrom
-task-put i array span t rest next =
-    let count : i + suc (length rest) ≡ suc i + length rest = omega arith in
-    rw (add-one, count)
-
--- before the loop none is read
-pub tasks-start : (count at : ℕ) (words : List ℕ) → count ≤ Limits.mostTasks
-    → answered noTasks (tasksWith 0 (replicate Limits.mostTasks noTask) 1) (tasks count 1 at words) ≡ tasksRead (tasks count 1 at words)
-unfolding tasksRead Holds
-tasks-start count at words few = from (tasks count 1 at words) (repeated-count tasks-repeat count 1 at words)
-  where
-    from : (t : Taken (List Task)) → Holds (Counts count) t
-        → answered noTasks (tasksWith 0 (replicate Limits.mostTasks noTask) 1) t ≡ tasksRead t
-    from (refused r) counted = refl
-    from (taken ts next left) counted = rw (zero-add, sets-of-blank-is-padded Limits.mostTasks noTask ts (omega arith))
+    pub tasks-spans : c .verdict ≡ Accepted → span ≡ spanFrom 1 (take count array)
+    tasks-spans = rw all-are at (so-far .spans)

@@ -1,5 +1,5 @@
 -- The paper's section 'Site file' as what holds of an instance, and the words that the instance is written in. Nothing
--- here reads: that what is read is valid, and that whatever is valid is read, are laws.
+-- here reads: that what is read is valid and written so, and that whatever is valid and written so is read, are laws.
 use Prim.Native.Nat.{ℕ, suc, _≤_, _<_}
 use mathlib.Core.Path.{_≡_}
 use mathlib.Core.Logic.{_⊎_}
@@ -50,9 +50,11 @@ unfoldable pub wordsOfTasks : List Task → List ℕ
 wordsOfTasks [] = []
 wordsOfTasks (t ∷ ts) = t .period ∷ t .cycles ∷ t .penalty ∷ wordsOfTasks ts
 
--- "Its sections stand in a fixed order, each after its count."
-unfoldable pub wordsOfProblem : Problem → List ℕ
-wordsOfProblem p =
-    Limits.settingsCount ∷ p .weights .energy ∷ p .weights .penalty ∷ p .cores ∷ []
-    ++ levelCount p ∷ wordsOfLevels (p .levels)
-    ++ taskCount p ∷ wordsOfTasks (p .tasks)
+-- "settings | 3"
+pub data WritesSettings (p : Problem) : List ℕ → Type 0 where
+  three : WritesSettings p (Limits.settingsCount ∷ p .weights .energy ∷ p .weights .penalty ∷ p .cores ∷ [])
+
+-- Which lists of words write an instance. "Its sections stand in a fixed order, each after its count."
+pub data Writes (p : Problem) : List ℕ → Type 0 where
+  sections : {settings : List ℕ} → WritesSettings p settings →
+      Writes p (settings ++ levelCount p ∷ wordsOfLevels (p .levels) ++ taskCount p ∷ wordsOfTasks (p .tasks))

@@ -1,77 +1,57 @@
 // The levels section of a site file: levels that each have more speed and more power than the one before.
 use crate::Level;
-use refusals::Refusal;
-use refusals::Verdict;
-use crate::word::Pair;
-use crate::word::Word;
-use crate::word::pair_at;
-use crate::word::word_at;
-ghost use mathlib.Core.Path.{_≡_};
-ghost use Prim.Native.Nat.{_≤_};
-ghost use lib.ListN.{drop};
-ghost use Rattle.instance.specs.Levels.{levelsAfter, levelsSection, levelsRead};
-ghost use Rattle.ranges.specs.Limits.{mostLevels};
-ghost use Rattle.instance.specs.Node.{noLevel};
-ghost use Rattle.instance.specs.SiteFile.{refused};
+use formats::Cursor;
+use formats::word_next;
+ghost use Rattle.instance.specs.Sections.{LevelWithinLimits, GetsLevel, GetsLevels};
 
-// `next` is the index of the first word after the section.
-pub(crate) struct LevelsRead {
-    pub(crate) verdict: Verdict,
-    pub(crate) count: usize,
-    pub(crate) levels: [Level; 8],
-    pub(crate) next: usize,
+struct LevelGot {
+    level: Level,
+    cursor: Cursor,
 }
 
-fn no_levels(why: Refusal) -> LevelsRead
-    ensures { λ r. ⌜ r ≡ levelsRead (refused why) ⌝ }
+// `count` levels stand at the front of the array, and the others are all zero.
+pub(crate) struct LevelsGot {
+    pub(crate) count: usize,
+    pub(crate) levels: [Level; ranges::MOST_LEVELS as usize],
+    pub(crate) cursor: Cursor,
+}
+
+// The level after `before`.
+fn level_next(words: &[u32], cursor: Cursor, before: Level) -> LevelGot
+    requires { ⌜ LevelWithinLimits before ⌝ }
+    ensures { λ r. ⌜ GetsLevel (now (words .entry)) cursor before r ⌝ }
 {
-    LevelsRead {
-        verdict: Verdict::Refused(why),
-        count: 0,
-        levels: [Level { speed: 0, power: 0 }; 8],
-        next: 0,
+    let speed = word_next(words, cursor, before.speed + 1, ranges::MOST_SPEED);
+    let power = word_next(words, speed.cursor, before.power + 1, ranges::MOST_POWER);
+    let cursor = power.cursor;
+    LevelGot {
+        level: Level {
+            speed: speed.value,
+            power: power.value,
+        },
+        cursor,
     }
 }
 
-fn levels_from(words: &[u32], at: usize, count: usize) -> LevelsRead
-    requires { ⌜ count ≤ mostLevels ⌝ }
-    ensures { λ r. ⌜ r ≡ levelsRead (levelsAfter count noLevel at (drop at (now (words .entry)))) ⌝ }
+pub(crate) fn levels_next(words: &[u32], cursor: Cursor) -> LevelsGot
+    ensures { λ r. ⌜ GetsLevels (now (words .entry)) cursor r ⌝ }
 {
-    let mut levels = [Level { speed: 0, power: 0 }; 8];
+    let counted = word_next(words, cursor, 1, ranges::MOST_LEVELS);
+    let count = counted.value as usize;
+    let mut at = counted.cursor;
+    let mut levels = [Level { speed: 0, power: 0 }; ranges::MOST_LEVELS as usize];
     let mut before = Level { speed: 0, power: 0 };
-    let mut next = at;
     let mut i: usize = 0;
     while i < count {
-        match pair_at(
-            words,
-            next,
-            before.speed + 1,
-            ranges::MOST_SPEED,
-            before.power + 1,
-            ranges::MOST_POWER,
-        ) {
-            Pair::Refused(why) => return no_levels(why),
-            Pair::Taken(speed, power, after) => {
-                before = Level { speed, power };
-                levels[i] = before;
-                next = after;
-                i += 1;
-            }
-        }
+        let got = level_next(words, at, before);
+        at = got.cursor;
+        before = got.level;
+        levels[i] = before;
+        i += 1;
     }
-    LevelsRead {
-        verdict: Verdict::Accepted,
+    LevelsGot {
         count,
         levels,
-        next,
-    }
-}
-
-pub(crate) fn levels_at(words: &[u32], at: usize) -> LevelsRead
-    ensures { λ r. ⌜ r ≡ levelsRead (levelsSection at (drop at (now (words .entry)))) ⌝ }
-{
-    match word_at(words, at, 1, ranges::MOST_LEVELS) {
-        Word::Refused(why) => no_levels(why),
-        Word::Taken(count, next) => levels_from(words, next, count as usize),
+        cursor: at,
     }
 }

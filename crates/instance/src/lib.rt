@@ -3,7 +3,6 @@ mod levels;
 mod multiples;
 mod site;
 mod tasks;
-mod word;
 
 use refusals::Verdict;
 pub use site::read_instance;
@@ -31,9 +30,9 @@ pub struct Instance {
     pub weights: Weights,
     pub cores: u32,
     pub levelcount: usize,
-    pub levels: [Level; 8],
+    pub levels: [Level; ranges::MOST_LEVELS as usize],
     pub taskcount: usize,
-    pub tasks: [Task; 12],
+    pub tasks: [Task; ranges::MOST_TASKS as usize],
     pub span: u32,
 }
 

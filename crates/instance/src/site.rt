@@ -2,22 +2,54 @@
 use crate::Instance;
 use crate::InstanceRead;
 use crate::Level;
-use refusals::Refusal;
 use crate::Task;
-use refusals::Verdict;
 use crate::Weights;
-use crate::levels::levels_at;
-use crate::tasks::tasks_at;
-use crate::word::Pair;
-use crate::word::pair_at;
+use crate::levels::levels_next;
+use crate::tasks::tasks_next;
+use formats::Cursor;
+use formats::cursor_at_start;
+use formats::end_next;
+use formats::word_next;
+use refusals::Refusal;
+use refusals::Verdict;
 ghost use mathlib.Core.Path.{_≡_};
-ghost use lib.ListN.{drop};
-ghost use Rattle.instance.specs.Outcomes.{instanceOutcome, ReadingEnds};
-ghost use Rattle.instance.specs.SiteFile.{refused};
-ghost use Rattle.instance.specs.SiteRead.{afterSettings, instanceRead};
+ghost use Rattle.formats.specs.Cursors.{Gets};
+ghost use Rattle.instance.specs.Outcomes.{instanceOutcome, instanceReadOf, ReadingEnds};
+ghost use Rattle.refusals.specs.Refusals.{refused};
+ghost use Rattle.instance.specs.Sections.{settingsIn};
+ghost use Rattle.instance.specs.SiteFile.{settings};
+
+struct SettingsGot {
+    weights: Weights,
+    cores: u32,
+    cursor: Cursor,
+}
+
+fn settings_next(words: &[u32], cursor: Cursor) -> SettingsGot
+    ensures { λ r. ⌜ Gets (now (words .entry)) cursor (settings .take) (settingsIn r) (r .cursor) ⌝ }
+{
+    let count = word_next(
+        words,
+        cursor,
+        ranges::SETTINGS_COUNT,
+        ranges::SETTINGS_COUNT,
+    );
+    let energy = word_next(words, count.cursor, 1, ranges::MOST_WEIGHT);
+    let penalty = word_next(words, energy.cursor, 1, ranges::MOST_WEIGHT);
+    let cores = word_next(words, penalty.cursor, 1, ranges::MOST_CORES);
+    let after = cores.cursor;
+    SettingsGot {
+        weights: Weights {
+            energy: energy.value,
+            penalty: penalty.value,
+        },
+        cores: cores.value,
+        cursor: after,
+    }
+}
 
 fn no_instance(why: Refusal) -> InstanceRead
-    ensures { λ r. ⌜ r ≡ instanceRead (refused why) ⌝ }
+    ensures { λ r. ⌜ r ≡ instanceReadOf (refused why) ⌝ }
 {
     InstanceRead {
         verdict: Verdict::Refused(why),
@@ -28,75 +60,44 @@ fn no_instance(why: Refusal) -> InstanceRead
             },
             cores: 0,
             levelcount: 0,
-            levels: [Level { speed: 0, power: 0 }; 8],
+            levels: [Level { speed: 0, power: 0 }; ranges::MOST_LEVELS as usize],
             taskcount: 0,
             tasks: [Task {
                 period: 0,
                 cycles: 0,
                 penalty: 0,
-            }; 12],
+            }; ranges::MOST_TASKS as usize],
             span: 0,
         },
     }
 }
 
-// What follows the settings: the levels, the tasks, and nothing more.
-fn after_settings(words: &[u32], at: usize, weights: Weights, cores: u32) -> InstanceRead
-    ensures { λ r. ⌜ r ≡ instanceRead (afterSettings weights cores at (drop at (now (words .entry)))) ⌝ }
+// The instance that the words are, or why they are none: the settings, the levels, the tasks, and nothing more.
+pub fn read_instance(words: &[u32]) -> InstanceRead
+    ensures { λ r. ⌜ r ≡ instanceOutcome (now (words .entry)) ⌝ }
+    ensures promise { λ r. ⌜ ReadingEnds (now (words .entry)) (r .verdict) ⌝ }
 {
-    let levelsection = levels_at(words, at);
-    let levels_verdict = levelsection.verdict;
-    if let Verdict::Refused(why) = levels_verdict {
+    let settings = settings_next(words, cursor_at_start());
+    let levelsection = levels_next(words, settings.cursor);
+    let tasksection = tasks_next(words, levelsection.cursor);
+    let end = end_next(words, tasksection.cursor);
+    let verdict = end.verdict;
+    if let Verdict::Refused(why) = verdict {
         return no_instance(why);
     }
-    let tasksection = tasks_at(words, levelsection.next);
-    let tasks_verdict = tasksection.verdict;
-    if let Verdict::Refused(why) = tasks_verdict {
-        return no_instance(why);
-    }
-    if tasksection.next < words.len() {
-        return no_instance(Refusal::WordCount(tasksection.next));
-    }
+    let weights = settings.weights;
     let levels = levelsection.levels;
     let tasks = tasksection.tasks;
     InstanceRead {
         verdict: Verdict::Accepted,
         instance: Instance {
             weights,
-            cores,
+            cores: settings.cores,
             levelcount: levelsection.count,
             levels,
             taskcount: tasksection.count,
             tasks,
             span: tasksection.span,
         },
-    }
-}
-
-// The instance that the words are, or why they are none: the settings are two pairs of words.
-pub fn read_instance(words: &[u32]) -> InstanceRead
-    ensures { λ r. ⌜ r ≡ instanceOutcome (now (words .entry)) ⌝ }
-    ensures promise { λ r. ⌜ ReadingEnds (now (words .entry)) (r .verdict) ⌝ }
-{
-    match pair_at(
-        words,
-        0,
-        ranges::SETTINGS_COUNT,
-        ranges::SETTINGS_COUNT,
-        1,
-        ranges::MOST_WEIGHT,
-    ) {
-        Pair::Refused(why) => return no_instance(why),
-        Pair::Taken(_, energy, middle) => {
-            match pair_at(words, middle, 1, ranges::MOST_WEIGHT, 1, ranges::MOST_CORES) {
-                Pair::Refused(why) => return no_instance(why),
-                Pair::Taken(penalty, cores, next) => return after_settings(
-                    words,
-                    next,
-                    Weights { energy, penalty },
-                    cores,
-                ),
-            }
-        }
     }
 }

@@ -1,138 +1,122 @@
 // The tasks section of a site file, and the span of the tasks.
-use refusals::Refusal;
 use crate::Task;
-use refusals::Verdict;
 use crate::multiples::least_common_multiple;
-use crate::word::Word;
-use crate::word::word_at;
+use formats::Cursor;
+use formats::Got;
+use formats::refuse_unless;
+use formats::word_next;
+use refusals::Refusal;
 ghost use mathlib.Core.Path.{_≡_};
-ghost use Prim.Native.Nat.{_≤_};
-ghost use lib.ListN.{drop};
-ghost use Rattle.ranges.specs.Limits.{mostTasks};
-ghost use Rattle.instance.specs.Sections.{wordRead};
-ghost use Rattle.instance.specs.SiteFile.{refused, word, isPenalty, tasks};
-ghost use Rattle.instance.specs.Tasks.{oneTask, SpanWithinLimits, tasksSection, taskRead, tasksRead};
-
-// `next` is the index of the first word after the section.
-pub(crate) struct TasksRead {
-    pub(crate) verdict: Verdict,
-    pub(crate) count: usize,
-    pub(crate) tasks: [Task; 12],
-    pub(crate) span: u32,
-    pub(crate) next: usize,
-}
+ghost use Prim.Native.Nat.{min};
+ghost use Rattle.formats.specs.Cursors.{Gets};
+ghost use Rattle.formats.specs.Taking.{takeWord};
+ghost use Rattle.instance.specs.Sections.{SpanWithinLimits, GetsTask, GetsTasks};
+ghost use Rattle.instance.specs.SiteFile.{isPenalty};
 
 // A task, and the span with it.
-enum TaskRead {
-    Taken { task: Task, span: u32, next: usize },
-    Refused(Refusal),
+struct TaskGot {
+    task: Task,
+    span: u32,
+    cursor: Cursor,
 }
 
-// The penalty at an index, that of a task that may not be refused included.
-fn penalty_at(words: &[u32], at: usize) -> Word
-    ensures { λ r. ⌜ r ≡ wordRead (word isPenalty at (drop at (now (words .entry)))) ⌝ }
+// `count` tasks stand at the front of the array, and the others are all zero.
+pub(crate) struct TasksGot {
+    pub(crate) count: usize,
+    pub(crate) tasks: [Task; ranges::MOST_TASKS as usize],
+    pub(crate) span: u32,
+    pub(crate) cursor: Cursor,
+}
+
+// Whether a word is a penalty, that of a task that may not be refused included.
+fn is_penalty(word: u32) -> bool
+    ensures { λ r. ⌜ r ≡ isPenalty word ⌝ }
 {
-    match word_at(
-        words,
-        at,
-        ranges::MAY_NOT_BE_REFUSED,
-        ranges::MAY_NOT_BE_REFUSED,
-    ) {
-        Word::Taken(penalty, next) => Word::Taken(penalty, next),
-        Word::Refused(_) => word_at(words, at, 1, ranges::MOST_PENALTY),
+    if word == ranges::MAY_NOT_BE_REFUSED {
+        return true;
+    }
+    if word < 1 {
+        return false;
+    }
+    word <= ranges::MOST_PENALTY
+}
+
+// The next penalty: any word, which is then tested.
+fn penalty_next(words: &[u32], cursor: Cursor) -> Got
+    ensures { λ r. ⌜ Gets (now (words .entry)) cursor (takeWord isPenalty) (r .value) (r .cursor) ⌝ }
+{
+    let first = cursor.at;
+    let got = word_next(words, cursor, 0, ranges::MAY_NOT_BE_REFUSED);
+    let passes = is_penalty(got.value);
+    let after = refuse_unless(passes, Refusal::WordRange(first), got.cursor);
+    Got {
+        value: got.value,
+        cursor: after,
     }
 }
 
-// The task at an index, after tasks of this span.
-fn task_at(words: &[u32], at: usize, span: u32) -> TaskRead
+fn shorter(a: u32, b: u32) -> u32
+    ensures { λ r. ⌜ r ≡ min a b ⌝ }
+{
+    if a <= b {
+        return a;
+    }
+    b
+}
+
+// The next task, after tasks of this span. Beside a refusal the span stays within its limits.
+fn task_next(words: &[u32], cursor: Cursor, span: u32) -> TaskGot
     requires { ⌜ SpanWithinLimits span ⌝ }
-    ensures { λ r. ⌜ r ≡ taskRead span (oneTask span at (drop at (now (words .entry)))) ⌝ }
+    ensures { λ r. ⌜ GetsTask (now (words .entry)) cursor span r ⌝ }
 {
-    match word_at(words, at, 1, ranges::MOST_PERIOD) {
-        Word::Refused(why) => TaskRead::Refused(why),
-        Word::Taken(period, second) => {
-            let longer = least_common_multiple(span, period);
-            if ranges::MOST_SPAN < longer {
-                return TaskRead::Refused(Refusal::SpanTooLong(at));
-            }
-            match word_at(words, second, 1, ranges::MOST_CYCLES) {
-                Word::Refused(why) => TaskRead::Refused(why),
-                Word::Taken(cycles, third) => match penalty_at(words, third) {
-                    Word::Refused(why) => TaskRead::Refused(why),
-                    Word::Taken(penalty, next) => TaskRead::Taken {
-                        task: Task {
-                            period,
-                            cycles,
-                            penalty,
-                        },
-                        span: longer,
-                        next,
-                    },
-                },
-            }
-        }
+    let first = cursor.at;
+    let period = word_next(words, cursor, 1, ranges::MOST_PERIOD);
+    let longer = least_common_multiple(span, period.value);
+    let spanned = refuse_unless(
+        longer <= ranges::MOST_SPAN,
+        Refusal::SpanTooLong(first),
+        period.cursor,
+    );
+    let cycles = word_next(words, spanned, 1, ranges::MOST_CYCLES);
+    let penalty = penalty_next(words, cycles.cursor);
+    let shown = shorter(longer, ranges::MOST_SPAN);
+    let after = penalty.cursor;
+    TaskGot {
+        task: Task {
+            period: period.value,
+            cycles: cycles.value,
+            penalty: penalty.value,
+        },
+        span: shown,
+        cursor: after,
     }
 }
 
-fn no_tasks(why: Refusal) -> TasksRead
-    ensures { λ r. ⌜ r ≡ tasksRead (refused why) ⌝ }
+pub(crate) fn tasks_next(words: &[u32], cursor: Cursor) -> TasksGot
+    ensures { λ r. ⌜ GetsTasks (now (words .entry)) cursor r ⌝ }
 {
-    TasksRead {
-        verdict: Verdict::Refused(why),
-        count: 0,
-        tasks: [Task {
-            period: 0,
-            cycles: 0,
-            penalty: 0,
-        }; 12],
-        span: 0,
-        next: 0,
-    }
-}
-
-fn tasks_from(words: &[u32], at: usize, count: usize) -> TasksRead
-    requires { ⌜ count ≤ mostTasks ⌝ }
-    ensures { λ r. ⌜ r ≡ tasksRead (tasks count 1 at (drop at (now (words .entry)))) ⌝ }
-{
+    let counted = word_next(words, cursor, 0, ranges::MOST_TASKS);
+    let count = counted.value as usize;
+    let mut at = counted.cursor;
     let mut tasks = [Task {
         period: 0,
         cycles: 0,
         penalty: 0,
-    }; 12];
+    }; ranges::MOST_TASKS as usize];
     let mut span: u32 = 1;
-    let mut next = at;
     let mut i: usize = 0;
     while i < count {
-        match task_at(words, next, span) {
-            TaskRead::Refused(why) => {
-                return no_tasks(why);
-            }
-            TaskRead::Taken {
-                task,
-                span: longer,
-                next: after,
-            } => {
-                tasks[i] = task;
-                span = longer;
-                next = after;
-                i += 1;
-            }
-        }
+        let got = task_next(words, at, span);
+        at = got.cursor;
+        span = got.span;
+        let task = got.task;
+        tasks[i] = task;
+        i += 1;
     }
-    TasksRead {
-        verdict: Verdict::Accepted,
+    TasksGot {
         count,
         tasks,
         span,
-        next,
-    }
-}
-
-pub(crate) fn tasks_at(words: &[u32], at: usize) -> TasksRead
-    ensures { λ r. ⌜ r ≡ tasksRead (tasksSection at (drop at (now (words .entry)))) ⌝ }
-{
-    match word_at(words, at, 0, ranges::MOST_TASKS) {
-        Word::Refused(why) => no_tasks(why),
-        Word::Taken(count, next) => tasks_from(words, next, count as usize),
+        cursor: at,
     }
 }

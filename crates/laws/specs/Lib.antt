@@ -16,6 +16,6 @@ pub mod DivisionLaws
 pub mod SumBounds
 pub mod SumOrderLaws
 pub mod ListLaws
-pub mod MultipleSearch
+pub mod DivisorLaws
 pub mod PartLaws
 pub mod Tests

@@ -1,11 +1,12 @@
 -- A list in a fixed number of places, and back.
-use Prim.Native.Nat.{ℕ, zero, suc, _≤_}
-use native.Mathlib.Nat.{le-of-suc-le-suc, not-suc-le-zero}
+use Prim.Native.Nat.{ℕ, zero, suc, _+_, _≤_, _<_}
+use native.Mathlib.Nat.{le-of-suc-le-suc}
+use native.Mathlib.Numerals.{add-one}
 use native.Mathlib.Omega.{arith}
 use mathlib.Core.Path.{_≡_, refl, ap, _∙_}
-use mathlib.Core.List.{List, [], _∷_}
-use lib.ListN.{length, take, replicate, set}
-use lib.Seq.{sets}
+use mathlib.Core.List.{List, [], _∷_, _++_}
+use lib.ListN.{length, take, replicate, set, length-append}
+use lib.Seq.{take-suc-set}
 use Rattle.laws.specs.Lists.{padded}
 
 module _ {ℓ} {A : Type ℓ} where
@@ -23,21 +24,38 @@ module _ {ℓ} {A : Type ℓ} where
   take-padded (suc n) blank [] h = refl
   take-padded (suc n) blank (x ∷ xs) h = ap (λ (l : List A). x ∷ l) (take-padded n blank xs (le-of-suc-le-suc h))
 
--- a list stored at the front of a blank array is that list, padded
-module _ {A : Type 0} where
-  sets-past-head : (head : A) (array : List A) (i : ℕ) (xs : List A) → sets (head ∷ array) (suc i) xs ≡ head ∷ sets array i xs
-  sets-past-head head array i [] = refl
-  sets-past-head head array i (x ∷ xs) = sets-past-head head (set array i x) (suc i) xs
+-- an array of n places that is filled from the front: its first i hold what was put there, and the others are blank
+pub record Filled {A : Type 0} (n : ℕ) (blank : A) (array : List A) (i : ℕ) : Type 0 where
+  pub count : length (take i array) ≡ i
+  pub is-padded : array ≡ padded n blank (take i array)
 
-  pub replicate-is-padded : (n : ℕ) (blank : A) → replicate n blank ≡ padded n blank []
-  unfolding padded
-  replicate-is-padded zero blank = refl
-  replicate-is-padded (suc n) blank = ap (λ (array : List A). blank ∷ array) (replicate-is-padded n blank)
+replicate-is-padded : {A : Type 0} (n : ℕ) (blank : A) → replicate n blank ≡ padded n blank []
+unfolding padded
+replicate-is-padded zero blank = refl
+replicate-is-padded {A} (suc n) blank = ap (λ (array : List A). blank ∷ array) (replicate-is-padded n blank)
 
-  pub sets-of-blank-is-padded : (n : ℕ) (blank : A) (xs : List A) → length xs ≤ n → sets (replicate n blank) 0 xs ≡ padded n blank xs
-  unfolding padded
-  sets-of-blank-is-padded n blank [] short = replicate-is-padded n blank
-  sets-of-blank-is-padded zero blank (x ∷ xs) short = absurd (not-suc-le-zero short)
-  sets-of-blank-is-padded (suc n) blank (x ∷ xs) short =
-      sets-past-head x (replicate n blank) 0 xs
-      ∙ ap (λ (array : List A). x ∷ array) (sets-of-blank-is-padded n blank xs (le-of-suc-le-suc short))
+set-padded : {A : Type 0} (n : ℕ) (blank : A) (xs : List A) (x : A) → length xs < n →
+    set (padded n blank xs) (length xs) x ≡ padded n blank (xs ++ (x ∷ []))
+unfolding padded
+set-padded zero blank xs x short = absurd (omega arith)
+set-padded (suc n) blank [] x short = refl
+set-padded {A} (suc n) blank (y ∷ xs) x short = ap (λ (array : List A). y ∷ array) (set-padded n blank xs x (le-of-suc-le-suc short))
+
+module _ {A : Type 0} (n : ℕ) (blank : A) where
+  pub filled-none : Filled n blank (replicate n blank) 0
+  filled-none = record { count = refl; is-padded = replicate-is-padded n blank }
+
+  module _ (array : List A) (i : ℕ) (x : A) (room : i < n) (filled : Filled n blank array i) where
+    length-filled : length array ≡ n
+    length-filled = ap length (filled .is-padded) ∙ length-padded n blank (take i array)
+
+    pub front-more : take (i + 1) (set array i x) ≡ take i array ++ (x ∷ [])
+    front-more = rw (add-one i) (take-suc-set array i x (omega (arith, length-filled)))
+
+    pub filled-more : Filled n blank (set array i x) (i + 1)
+    filled-more =
+        let put = rw (filled .count) at (set-padded n blank (take i array) x (omega (arith, filled .count))) in
+        record {
+          count = rw (front-more, length-append) (omega (arith, filled .count));
+          is-padded = rw front-more (ap (λ (l : List A). set l i x) (filled .is-padded) ∙ put);
+        }

@@ -4,7 +4,9 @@ use mathlib.Core.Path.{_≡_, refl}
 use Prim.Native.String.{String}
 use Rattle.text.specs.Decimal.{decimal, digitsOf}
 use Rattle.instance.specs.Node.{span, spanFrom}
-use Rattle.instance.specs.SiteFile.{problemOf, siteFile, settings, levels, tasks, period, isPenalty, between, word, end}
+use Rattle.formats.specs.Formats.{times}
+use Rattle.formats.specs.Taking.{between, takeWord, takeTested, takeEnd}
+use Rattle.instance.specs.SiteFile.{problemOf, siteFile, settings, level, lastAfter, levels, period, isPenalty, task, tasks}
 use Rattle.text.specs.Text.{wordsOf, numbers, firstFault, faulty, begins, isDigit, isBlank, valueAfter}
 use Rattle.laws.specs.Lists.{listOf, joined}
 use Rattle.laws.specs.Multiples.{lcm}
@@ -48,8 +50,8 @@ worked =
 
 pub worked-listings : map (λ w. listingOf (bytes (w .text))) worked ≡ map (λ w. bytes (w .listing)) worked
 unfolding bytes ended line numbersLine refusalLine spanLine costLine keptLine refusedLine taskLine coreLine planLines listingOf
-    decimal digitsOf wordsOf numbers firstFault faulty begins isDigit isBlank valueAfter problemOf siteFile settings levels tasks period
-    isPenalty between word end span spanFrom lcm first listOf joined sum isMust badChoice choicesPass fits coresFit planPasses
+    decimal digitsOf wordsOf numbers firstFault faulty begins isDigit isBlank valueAfter problemOf siteFile settings level lastAfter levels period
+    isPenalty task tasks times between takeWord takeTested takeEnd span spanFrom lcm first listOf joined sum isMust badChoice choicesPass fits coresFit planPasses
     keeps ticks jobTicks ticksOn jobs loadOn coreLoad coreEnergy energy penalty cost priceOf dueAt afterRelease earliest chosen afterRun
     step dispatched row coreTasks tableOf slotAt choiceLists isAllowed better firstCheapest bestPlan
 worked-listings = refl

@@ -55,6 +55,7 @@ returns-5 : tie.Need-returns-5
 returns-5 c =
     record {
       gets = gets-value _ (c .before .before .before .before .enum-told .given .1) (word-within _ _ _ _ (c .before .before .before .if1 .left) (c .before .if2 .left) (c .if3 .left)) refl;
+      at-least = λ h. c .before .if2 .left;
       at-most = omega arith;
     }
 

@@ -1,15 +1,19 @@
--- The levels: what is read rises, is in range and is written as it was read; and what rises and is in range is read.
+-- The levels: what is taken rises, is in range and is written so; and what rises and is in range is taken.
 use Prim.Native.Nat.{ℕ, zero, suc, _<_}
-use mathlib.Core.Path.{_≡_, refl, ap}
+use mathlib.Core.Path.{_≡_, refl}
 use mathlib.Core.List.{List, [], _∷_, _++_}
 use native.Mathlib.Nat.{le-of-suc-le-suc}
 use native.Mathlib.Omega.{arith}
 use lib.ListN.{length, getD}
 use Rattle.ranges.specs.Limits
+use Rattle.formats.specs.TimesLaws.{Many}
+use Rattle.formats.specs.TimesLaws as TimesLaws
+use Rattle.formats.specs.Written.{Written, then, nothing}
+use Rattle.formats.specs.Written as Written
 use Rattle.instance.specs.Node.{Problem, noLevel}
-use Rattle.instance.specs.SiteFile.{taken, word, levels}
+use Rattle.instance.specs.RangeLaws.{between-in-range, in-range-between}
+use Rattle.instance.specs.SiteFile.{level, lastAfter}
 use Rattle.instance.specs.Valid.{InRange, Valid, wordsOfLevels}
-use Rattle.instance.specs.ReadWords.{continued, first-word, between-true, in-range-between, taken-same}
 use Rattle.instance.specs.declared.Level.{Level}
 
 -- a quantity of the levels rises from above `before` to at most `most`
@@ -58,50 +62,42 @@ speed l = l .speed
 abbrev pub power : Level → ℕ
 power l = l .power
 
-pub record LevelsRead (n before-speed before-power : ℕ) (words : List ℕ) (ls : List Level) (rest : List ℕ) : Type 0 where
-  pub count : length ls ≡ n
-  pub speed-rises : Rising speed Limits.mostSpeed before-speed ls
-  pub power-rises : Rising power Limits.mostPower before-power ls
-  pub written : words ≡ wordsOfLevels ls ++ rest
+-- the levels that come after those `before`
+abbrev pub EachLevel : List Level → Written Level
+EachLevel before = level (lastAfter noLevel before) .Writes
 
-pub levels-read : (n s w at : ℕ) (words : List ℕ) {ls : List Level} {end : ℕ} {rest : List ℕ} →
-    levels n s w at words ≡ taken ls end rest → LevelsRead n s w words ls rest
-unfolding levels wordsOfLevels
-levels-read zero s w at words e =
-    taken-same (LevelsRead zero s w words) e (record { count = refl; speed-rises = none; power-rises = none; written = refl })
-levels-read (suc n) s w at words e =
-    first-word e λ speed.
-    first-word (speed .went-on) λ power.
-    continued (power .went-on) λ others.
-    let read =
-    levels-read
-    n
-    (speed .front)
-    (power .front)
-    (suc (suc at))
-    (power .after)
-    {ls = others .value}
-    {end = others .index}
-    {rest = others .after}
-    (others .started) in
-    taken-same
-    (LevelsRead (suc n) s w words)
-    (others .went-on)
-    (record {
-      count = ap suc (read .count);
-      speed-rises = one _ (between-true (speed .passed)) (read .speed-rises);
-      power-rises = one _ (between-true (power .passed)) (read .power-rises);
-      written = cc;
-    })
+pub record LevelsRise (before : Level) (ls : List Level) : Type 0 where
+  pub speed-rises : Rising speed Limits.mostSpeed (before .speed) ls
+  pub power-rises : Rising power Limits.mostPower (before .power) ls
 
-pub levels-taken : (s w at : ℕ) {ls : List Level} (rest : List ℕ) →
-    Rising speed Limits.mostSpeed s ls → Rising power Limits.mostPower w ls →
-    (end : ℕ) × (levels (length ls) s w at (wordsOfLevels ls ++ rest) ≡ taken ls end rest)
-unfolding levels wordsOfLevels word
-levels-taken s w at rest none none = (at, refl)
-levels-taken s w at rest (one l speed-in more-speed) (one _ power-in more-power) =
-    let more = levels-taken (l .speed) (l .power) (suc (suc at)) rest more-speed more-power in
-    (more .0, rw (in-range-between speed-in, in-range-between power-in, more .1))
+pub last-of-more : (first : Level) (before : List Level) (l : Level) → lastAfter first (before ++ (l ∷ [])) ≡ l
+unfolding lastAfter
+last-of-more first [] l = refl
+last-of-more first (b ∷ before) l = last-of-more b before l
+
+pub levels-rise : {before ls : List Level} {words rest : List ℕ} → Many EachLevel before ls words rest →
+    LevelsRise (lastAfter noLevel before) ls × (words ≡ wordsOfLevels ls ++ rest)
+unfolding level wordsOfLevels
+levels-rise TimesLaws.none = (record { speed-rises = none; power-rises = none }, refl)
+levels-rise {before} (TimesLaws.one l (then (Written.word s s-passes) (then (Written.word w w-passes) nothing)) others) =
+    let more = levels-rise others in
+    let rises = rw (last-of-more noLevel before l) at (more .0) in (
+      record {
+        speed-rises = one l (between-in-range s-passes) (rises .speed-rises);
+        power-rises = one l (between-in-range w-passes) (rises .power-rises);
+      },
+      rw (more .1),
+    )
+
+pub rising-levels : (before ls : List Level) (rest : List ℕ) →
+    Rising speed Limits.mostSpeed (lastAfter noLevel before .speed) ls → Rising power Limits.mostPower (lastAfter noLevel before .power) ls →
+    Many EachLevel before ls (wordsOfLevels ls ++ rest) rest
+unfolding level wordsOfLevels
+rising-levels before [] rest none none = TimesLaws.none
+rising-levels before (l ∷ ls) rest (one _ speed-in more-speed) (one _ power-in more-power) =
+    TimesLaws.one l
+    (then (Written.word (l .speed) (in-range-between speed-in)) (then (Written.word (l .power) (in-range-between power-in)) nothing))
+    (rising-levels (before ++ (l ∷ [])) ls rest (rw last-of-more more-speed) (rw last-of-more more-power))
 
 module _ {p : Problem} (v : Valid p) where
   pub valid-speeds : Rising speed Limits.mostSpeed 0 (p .levels)

@@ -1,0 +1,51 @@
+-- A word between two numbers is in their range, and a penalty is what the paper says.
+use Prim.Native.Nat.{ℕ, _≤_, _<_}
+use mathlib.Core.Path.{_≡_, refl}
+use mathlib.Core.Bool.{Bool, true, false, _||_, or-true, or-false, and-eq-true-iff}
+use mathlib.Core.Logic.{_⊎_, inl, inr, _≢_}
+use native.Mathlib.Omega.{arith}
+use lib.Dec.{leb, eqb}
+use borrow.Author.Tests.{leb-true, le-leb, lt-leb, eqb-true, eq-eqb, ne-eqb}
+use Rattle.ranges.specs.Limits
+use Rattle.formats.specs.Taking.{between}
+use Rattle.formats.specs.WordLaws.{between-passes}
+use Rattle.instance.specs.SiteFile.{isPenalty}
+use Rattle.instance.specs.Valid.{InRange}
+
+pub between-in-range : {low high w : ℕ} → between low high w ≡ true → InRange low high w
+unfolding between
+between-in-range {low} {high} {w} e =
+    let both = and-eq-true-iff (leb low w) (leb w high) .0 e in
+    record { at-least = leb-true low w (both .0); at-most = leb-true w high (both .1) }
+
+pub in-range-between : {low high w : ℕ} → InRange low high w → between low high w ≡ true
+in-range-between {low} {high} {w} h = between-passes low high w (h .at-least) (h .at-most)
+
+pub is-penalty-in-range : {w : ℕ} → isPenalty w ≡ true → InRange 1 Limits.mostPenalty w ⊎ (w ≡ Limits.mayNotBeRefused)
+unfolding isPenalty
+is-penalty-in-range {w} = go (between 1 Limits.mostPenalty w) refl
+  where
+    go : (b : Bool) → between 1 Limits.mostPenalty w ≡ b → (b || eqb w Limits.mayNotBeRefused) ≡ true →
+        InRange 1 Limits.mostPenalty w ⊎ (w ≡ Limits.mayNotBeRefused)
+    go true b e = inl (between-in-range b)
+    go false b e = inr (eqb-true w Limits.mayNotBeRefused e)
+
+pub in-range-is-penalty : {w : ℕ} → InRange 1 Limits.mostPenalty w ⊎ (w ≡ Limits.mayNotBeRefused) → isPenalty w ≡ true
+unfolding isPenalty
+in-range-is-penalty {w} (inl h) = rw (in-range-between h)
+in-range-is-penalty {w} (inr e) = rw (eq-eqb w Limits.mayNotBeRefused e, or-true)
+
+pub is-penalty-at-most : {w : ℕ} → isPenalty w ≡ true → w ≤ Limits.mayNotBeRefused
+is-penalty-at-most {w} is = go (is-penalty-in-range is)
+  where
+    go : InRange 1 Limits.mostPenalty w ⊎ (w ≡ Limits.mayNotBeRefused) → w ≤ Limits.mayNotBeRefused
+    go (inl h) = omega arith
+    go (inr e) = omega arith
+
+pub zero-is-no-penalty : (w : ℕ) → w < 1 → false ≡ isPenalty w
+unfolding isPenalty between
+zero-is-no-penalty w below = rw (lt-leb 1 w below, ne-eqb w Limits.mayNotBeRefused (λ same. omega arith))
+
+pub other-is-penalty : (w : ℕ) → 1 ≤ w → w ≢ Limits.mayNotBeRefused → leb w Limits.mostPenalty ≡ isPenalty w
+unfolding isPenalty between
+other-is-penalty w above other = rw (le-leb 1 w above, ne-eqb w Limits.mayNotBeRefused other, or-false)
