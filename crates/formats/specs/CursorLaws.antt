@@ -86,6 +86,13 @@ passes-where-accepted false why c is = go (c .verdict) is
     go Accepted is = let z : _≡_ {A = ℕ} 0 1 = cc in absurd (omega arith)
     go (Refused r) is = let z : _≡_ {A = ℕ} 0 1 = cc in absurd (omega arith)
 
+accepts-after : (v : Verdict) → (v andThen Accepted) ≡ v
+accepts-after Accepted = refl
+accepts-after (Refused r) = refl
+
+pub passed-is-kept : (why : Refusal) (c : Cursor) → refusedUnless true why c ≡ c
+passed-is-kept why c = λ i. record { verdict = accepts-after (c .verdict) i; at = c .at }
+
 held-continue : {A B : Type 0} (v : Verdict) (t : Taken A) (next : A → Take B) → heldOr v (continue t next) ≡ continue (heldOr v t) next
 held-continue Accepted t next = refl
 held-continue (Refused r) t next = refl

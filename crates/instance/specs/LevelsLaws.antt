@@ -1,6 +1,6 @@
 -- Code that takes the levels: how it begins, goes on and ends.
-use Prim.Native.Nat.{ℕ, suc, _+_, _≤_, _<_}
-use mathlib.Core.Path.{_≡_, refl, sym, ap, _∙_}
+use Prim.Native.Nat.{ℕ, _+_, _≤_, _<_}
+use mathlib.Core.Path.{_≡_, refl}
 use mathlib.Core.List.{List, []}
 use native.Mathlib.Numerals.{add-one}
 use native.Mathlib.Omega.{arith}
@@ -9,16 +9,15 @@ use Rattle.laws.specs.PaddedLaws.{Filled, filled-none, filled-more, front-more}
 use Rattle.ranges.specs.Limits
 use Rattle.formats.specs.CursorLaws.{and-then, gets-done, repeats-start, repeats-more, repeats-end}
 use Rattle.formats.specs.Cursors.{Gets, GetsWord}
-use Rattle.formats.specs.Formats.{done, word, times, _>>=_}
+use Rattle.formats.specs.Formats.{times}
 use Rattle.formats.specs.declared.Cursor.{Cursor}
 use Rattle.formats.specs.declared.Got.{Got}
 use Rattle.instance.specs.LevelsWritten.{last-of-more}
 use Rattle.instance.specs.Node.{noLevel}
-use Rattle.instance.specs.Sections.{LevelWithinLimits, GetsLevel, eachLevel, LevelsSoFar, levelsIn, GetsLevels}
-use Rattle.instance.specs.SiteFile.{level, lastAfter, levels}
+use Rattle.instance.specs.Sections.{GetsLevel, eachLevel, LevelsSoFar}
+use Rattle.instance.specs.SiteFile.{level, lastAfter}
 use Rattle.instance.specs.declared.Level.{Level}
 use Rattle.instance.specs.declared.levels.LevelGot.{LevelGot}
-use Rattle.instance.specs.declared.levels.LevelsGot.{LevelsGot}
 
 pub level-gets : {all : List ℕ} {c : Cursor} (before : Level) {speed power : Got} →
     GetsWord all c (before .speed + 1) Limits.mostSpeed speed →

@@ -1,11 +1,11 @@
 -- A word between two numbers is in their range, and a penalty is what the paper says.
-use Prim.Native.Nat.{ℕ, _≤_, _<_}
+use Prim.Native.Nat.{ℕ, _≤_}
 use mathlib.Core.Path.{_≡_, refl}
 use mathlib.Core.Bool.{Bool, true, false, _||_, or-true, or-false, and-eq-true-iff}
 use mathlib.Core.Logic.{_⊎_, inl, inr, _≢_}
 use native.Mathlib.Omega.{arith}
 use lib.Dec.{leb, eqb}
-use borrow.Author.Tests.{leb-true, le-leb, lt-leb, eqb-true, eq-eqb, ne-eqb}
+use borrow.Author.Tests.{leb-true, le-leb, eqb-true, eq-eqb, ne-eqb}
 use Rattle.ranges.specs.Limits
 use Rattle.formats.specs.Taking.{between}
 use Rattle.formats.specs.WordLaws.{between-passes}
@@ -35,16 +35,13 @@ unfolding isPenalty
 in-range-is-penalty {w} (inl h) = rw (in-range-between h)
 in-range-is-penalty {w} (inr e) = rw (eq-eqb w Limits.mayNotBeRefused e, or-true)
 
-pub is-penalty-at-most : {w : ℕ} → isPenalty w ≡ true → w ≤ Limits.mayNotBeRefused
-is-penalty-at-most {w} is = go (is-penalty-in-range is)
+-- every penalty is a word from 1 to that of a task that may not be refused
+pub penalty-in-range : {w : ℕ} → isPenalty w ≡ true → InRange 1 Limits.mayNotBeRefused w
+penalty-in-range {w} is = go (is-penalty-in-range is)
   where
-    go : InRange 1 Limits.mostPenalty w ⊎ (w ≡ Limits.mayNotBeRefused) → w ≤ Limits.mayNotBeRefused
+    go : InRange 1 Limits.mostPenalty w ⊎ (w ≡ Limits.mayNotBeRefused) → InRange 1 Limits.mayNotBeRefused w
     go (inl h) = omega arith
     go (inr e) = omega arith
-
-pub zero-is-no-penalty : (w : ℕ) → w < 1 → false ≡ isPenalty w
-unfolding isPenalty between
-zero-is-no-penalty w below = rw (lt-leb 1 w below, ne-eqb w Limits.mayNotBeRefused (λ same. omega arith))
 
 pub other-is-penalty : (w : ℕ) → 1 ≤ w → w ≢ Limits.mayNotBeRefused → leb w Limits.mostPenalty ≡ isPenalty w
 unfolding isPenalty between

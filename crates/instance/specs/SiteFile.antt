@@ -26,6 +26,7 @@ pub record Settings : Type 0 where
   pub weights : Weights
   pub cores : ℕ
 
+-- "settings | 3"
 unfoldable pub settings : SiteFormat Settings
 settings = do
   count ← word Limits.settingsCount Limits.settingsCount
@@ -42,11 +43,12 @@ level before = do
   power ← word (suc (before .power)) Limits.mostPower
   done (record { speed = speed; power = power })
 
--- the last of the levels; before the first, one of speed 0 and power 0
+-- the last of the levels, or `before` where there is none
 unfoldable pub lastAfter : Level → List Level → Level
 lastAfter before [] = before
 lastAfter before (l ∷ ls) = lastAfter l ls
 
+-- "levels | 1 to 8"
 unfoldable pub levels : SiteFormat (List Level)
 levels = do
   count ← word 1 Limits.mostLevels
@@ -68,11 +70,13 @@ task span = do
   penalty ← passing isPenalty
   done (record { period = p; cycles = cycles; penalty = penalty })
 
+-- "tasks | 0 to 12"
 unfoldable pub tasks : SiteFormat (List Task)
 tasks = do
   count ← word 0 Limits.mostTasks
   times (λ before. task (spanFrom 1 before)) count []
 
+-- "Its sections stand in a fixed order, each after its count", and no word is left over
 unfoldable pub siteFile : SiteFormat Problem
 siteFile = do
   s ← settings

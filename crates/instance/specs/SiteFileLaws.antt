@@ -1,16 +1,15 @@
 -- Reading accepts exactly the words that write valid instances, each as the instance that they write.
 use Prim.Native.Nat.{ℕ, suc}
-use mathlib.Core.Path.{_≡_, refl, sym, ap}
+use mathlib.Core.Path.{_≡_, ap}
 use mathlib.Core.List.{List, [], _∷_, _++_, append-nil}
 use native.Mathlib.Omega.{arith}
-use lib.ListN.{length}
 use Rattle.ranges.specs.Limits
 use Rattle.refusals.specs.Refusals.{accepted}
 use Rattle.formats.specs.Taking.{Taken}
 use Rattle.formats.specs.TimesLaws.{times-written, many-written}
 use Rattle.formats.specs.Written.{Outcome, took, turned, then, nothing}
 use Rattle.formats.specs.Written as Written
-use Rattle.instance.specs.LevelsWritten.{EachLevel, rising-in-range, rising-rises, levels-rise, rising-levels, valid-speeds, valid-powers}
+use Rattle.instance.specs.LevelsWritten.{rising-in-range, rising-rises, levels-rise, rising-levels, valid-speeds, valid-powers}
 use Rattle.instance.specs.Node.{Problem, levelCount, taskCount, noLevel, span, spanFrom}
 use Rattle.instance.specs.RangeLaws.{between-in-range, in-range-between}
 use Rattle.instance.specs.SiteFile.{settings, level, lastAfter, levels, task, tasks, siteFile, readingOf, problemOf}

@@ -3,7 +3,7 @@ use Prim.Native.Nat.{ℕ}
 use mathlib.Core.Path.{_≡_, sym, _∙_}
 use mathlib.Core.List.{List}
 use Rattle.ranges.specs.Limits
-use Rattle.refusals.specs.Refusals.{refused, accepted}
+use Rattle.refusals.specs.Refusals.{refused}
 use Rattle.refusals.specs.declared.Refusal.{Refusal}
 use Rattle.refusals.specs.declared.Verdict.the-variants.{Accepted, Refused}
 use Rattle.formats.specs.CursorLaws.{from-start, gets-refused, gets-taken, and-then, gets-done, accepted-before}
@@ -14,8 +14,7 @@ use Rattle.formats.specs.declared.Got.{Got}
 use Rattle.instance.specs.Node.{Problem, span, stored}
 use Rattle.instance.specs.Outcomes.{instanceReadOf, instanceOutcome}
 use Rattle.instance.specs.Sections.{settingsIn, levelsIn, GetsLevels, tasksIn, GetsTasks}
-use Rattle.instance.specs.SiteFile.{settings, siteFile, readingOf, problemOf}
-use Rattle.instance.specs.declared.Instance.{Instance}
+use Rattle.instance.specs.SiteFile.{settings, siteFile, problemOf}
 use Rattle.instance.specs.declared.levels.LevelsGot.{LevelsGot}
 use Rattle.instance.specs.declared.site.SettingsGot.{SettingsGot}
 use Rattle.instance.specs.declared.tasks.TasksGot.{TasksGot}

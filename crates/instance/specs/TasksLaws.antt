@@ -1,7 +1,8 @@
 -- Code that takes the tasks: how it begins, goes on and ends.
-use Prim.Native.Nat.{ℕ, zero, suc, _+_, _≤_, _<_, min}
+use Prim.Native.Nat.{ℕ, suc, _+_, _≤_, _<_, min}
 use mathlib.Core.Bool.{Bool, true, false, cond}
-use mathlib.Core.Path.{_≡_, refl, sym, ap, _∙_}
+use mathlib.Core.Logic.{_≢_, inr}
+use mathlib.Core.Path.{_≡_, refl, ap}
 use mathlib.Core.List.{List, [], _∷_}
 use native.Mathlib.Omega.{arith}
 use lib.Dec.{leb}
@@ -13,43 +14,47 @@ use Rattle.laws.specs.PaddedLaws.{Filled, filled-none, filled-more, front-more}
 use Rattle.ranges.specs.Limits
 use Rattle.refusals.specs.declared.Refusal.the-variants.{WordRange, SpanTooLong}
 use Rattle.refusals.specs.declared.Verdict.the-variants.{Accepted}
-use Rattle.formats.specs.CursorLaws.{and-then, gets-done, gets-tested, gets-other, accepted-before, passes-where-accepted, repeats-start, repeats-more, repeats-end}
-use Rattle.formats.specs.Cursors.{from, Gets, GetsWord, refusedUnless}
+use Rattle.formats.specs.CursorLaws.{and-then, gets-done, gets-tested, gets-other, accepted-before, passes-where-accepted, passed-is-kept, repeats-start, repeats-more, repeats-end}
+use Rattle.formats.specs.Cursors.{Gets, GetsWord, refusedUnless}
 use Rattle.formats.specs.Formats.{times}
 use Rattle.formats.specs.Taking.{between, takeWord, takeTested, refused, taken, continue}
-use Rattle.formats.specs.WordLaws.{between-passes}
 use Rattle.formats.specs.declared.Cursor.{Cursor}
 use Rattle.formats.specs.declared.Got.{Got}
 use Rattle.instance.specs.Node.{noTask, spanFrom}
-use Rattle.instance.specs.RangeLaws.{is-penalty-at-most}
+use Rattle.instance.specs.RangeLaws.{in-range-between, in-range-is-penalty, penalty-in-range, other-is-penalty}
 use Rattle.instance.specs.Sections.{SpanWithinLimits, GetsTask, eachTask, TasksSoFar}
 use Rattle.instance.specs.SiteFile.{isPenalty, period, task}
 use Rattle.instance.specs.SpanLaws.{span-of-more}
 use Rattle.instance.specs.declared.Task.{Task}
 use Rattle.instance.specs.declared.tasks.TaskGot.{TaskGot}
 
--- a penalty is any word, which is then tested
+-- a penalty is a word from 1 to that of a task that may not be refused, which is then tested
 penalty-is-tested : (at : ℕ) (words : List ℕ) →
-    takeTested (takeWord (between 0 Limits.mayNotBeRefused)) isPenalty WordRange at words ≡ takeWord isPenalty at words
+    takeTested (takeWord (between 1 Limits.mayNotBeRefused)) isPenalty WordRange at words ≡ takeWord isPenalty at words
 unfolding takeTested takeWord
 penalty-is-tested at [] = refl
-penalty-is-tested at (w ∷ words) = go (between 0 Limits.mayNotBeRefused w) (isPenalty w) refl refl
+penalty-is-tested at (w ∷ words) = go (between 1 Limits.mayNotBeRefused w) (isPenalty w) refl refl
   where
-    go : (any passes : Bool) → between 0 Limits.mayNotBeRefused w ≡ any → isPenalty w ≡ passes →
-        continue (cond any (taken w (suc at) words) (refused (WordRange at))) (λ v next rest. cond (isPenalty v) (taken v next rest) (refused (WordRange at)))
+    go : (within passes : Bool) → between 1 Limits.mayNotBeRefused w ≡ within → isPenalty w ≡ passes →
+        continue (cond within (taken w (suc at) words) (refused (WordRange at))) (λ v next rest. cond (isPenalty v) (taken v next rest) (refused (WordRange at)))
         ≡ cond passes (taken w (suc at) words) (refused (WordRange at))
-    go true passes any is = rw is
-    go false true any is =
-        let z : _≡_ {A = ℕ} 0 1 = cc (between-passes 0 Limits.mayNotBeRefused w (omega arith) (is-penalty-at-most is)) in
-        absurd (omega arith)
-    go false false any is = refl
+    go true passes within is = rw is
+    go false true within is = let z : _≡_ {A = ℕ} 0 1 = cc (in-range-between (penalty-in-range is)) in absurd (omega arith)
+    go false false within is = refl
 
-pub penalty-gets : {all : List ℕ} {c after : Cursor} {got : Got} {passes : Bool} → GetsWord all c 0 Limits.mayNotBeRefused got →
-    passes ≡ isPenalty (got .value) → after ≡ refusedUnless passes (WordRange (c .at)) (got .cursor) →
-    Gets all c (takeWord isPenalty) (got .value) after
-penalty-gets {all} {c} word passes-is after-is =
-    rw (after-is, passes-is)
-    (gets-other (takeWord isPenalty) (λ none. penalty-is-tested (c .at) (drop (c .at) all)) (gets-tested isPenalty WordRange (word .gets)))
+module _ {all : List ℕ} {c : Cursor} {got : Got} (word : GetsWord all c 1 Limits.mayNotBeRefused got) where
+  penalty-gets : Gets all c (takeWord isPenalty) (got .value) (refusedUnless (isPenalty (got .value)) (WordRange (c .at)) (got .cursor))
+  penalty-gets =
+      gets-other (takeWord isPenalty) (λ none. penalty-is-tested (c .at) (drop (c .at) all)) (gets-tested isPenalty WordRange (word .gets))
+
+  pub must-penalty-gets : got .value ≡ Limits.mayNotBeRefused → Gets all c (takeWord isPenalty) Limits.mayNotBeRefused (got .cursor)
+  must-penalty-gets must =
+      let kept = rw (in-range-is-penalty (inr must), passed-is-kept (WordRange (c .at)) (got .cursor)) at penalty-gets in
+      rw must at kept
+
+  pub other-penalty-gets : {after : Cursor} → got .value ≢ Limits.mayNotBeRefused →
+      after ≡ refusedUnless (leb (got .value) Limits.mostPenalty) (WordRange (c .at)) (got .cursor) → Gets all c (takeWord isPenalty) (got .value) after
+  other-penalty-gets other after-is = rw (after-is, other-is-penalty (got .value) (word .at-least (omega arith)) other) penalty-gets
 
 -- what the code of one task has at its end
 module _ (span : ℕ) {all : List ℕ} {c spanned : Cursor} {longer : ℕ} {first cycles penalty : Got}

@@ -28,33 +28,32 @@ pub(crate) struct TasksGot {
     pub(crate) cursor: Cursor,
 }
 
-// Whether a word is a penalty, that of a task that may not be refused included.
-fn is_penalty(word: u32) -> bool
-    ensures { λ r. ⌜ r ≡ isPenalty word ⌝ }
-{
-    if word == ranges::MAY_NOT_BE_REFUSED {
-        return true;
-    }
-    if word < 1 {
-        return false;
-    }
-    word <= ranges::MOST_PENALTY
-}
-
-// The next penalty: any word, which is then tested.
+// The next penalty, that of a task that may not be refused included.
 fn penalty_next(words: &[u32], cursor: Cursor) -> Got
     ensures { λ r. ⌜ Gets (now (words .entry)) cursor (takeWord isPenalty) (r .value) (r .cursor) ⌝ }
 {
     let first = cursor.at;
-    let got = word_next(words, cursor, 0, ranges::MAY_NOT_BE_REFUSED);
-    let passes = is_penalty(got.value);
-    let after = refuse_unless(passes, Refusal::WordRange(first), got.cursor);
+    let got = word_next(words, cursor, 1, ranges::MAY_NOT_BE_REFUSED);
+    let penalty = got.value;
+    let after = got.cursor;
+    if penalty == ranges::MAY_NOT_BE_REFUSED {
+        return Got {
+            value: ranges::MAY_NOT_BE_REFUSED,
+            cursor: after,
+        };
+    }
+    let tested = refuse_unless(
+        penalty <= ranges::MOST_PENALTY,
+        Refusal::WordRange(first),
+        after,
+    );
     Got {
-        value: got.value,
-        cursor: after,
+        value: penalty,
+        cursor: tested,
     }
 }
 
+// The shorter of two spans.
 fn shorter(a: u32, b: u32) -> u32
     ensures { λ r. ⌜ r ≡ min a b ⌝ }
 {
@@ -79,7 +78,7 @@ fn task_next(words: &[u32], cursor: Cursor, span: u32) -> TaskGot
     );
     let cycles = word_next(words, spanned, 1, ranges::MOST_CYCLES);
     let penalty = penalty_next(words, cycles.cursor);
-    let shown = shorter(longer, ranges::MOST_SPAN);
+    let limited = shorter(longer, ranges::MOST_SPAN);
     let after = penalty.cursor;
     TaskGot {
         task: Task {
@@ -87,7 +86,7 @@ fn task_next(words: &[u32], cursor: Cursor, span: u32) -> TaskGot
             cycles: cycles.value,
             penalty: penalty.value,
         },
-        span: shown,
+        span: limited,
         cursor: after,
     }
 }

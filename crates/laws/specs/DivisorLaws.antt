@@ -1,10 +1,9 @@
 -- The greatest common divisor: Euclid's step keeps it, and by it the least common multiple is found.
-use Prim.Native.Nat.{ℕ, zero, suc, _*_, _/_, _%_, _≤_, _<_, _∣_}
-use mathlib.Core.Path.{_≡_, refl, sym, ap, _∙_}
+use Prim.Native.Nat.{ℕ, zero, _*_, _/_, _%_, _≤_, _<_, _∣_}
+use mathlib.Core.Path.{_≡_, sym, ap, _∙_}
 use native.Mathlib.Nat.{dvd-refl, dvd-zero, dvd-mul-left, dvd-mul-right, dvd-mod-iff, div-mul-cancel, eq-of-mul-eq-mul-right, le-antisymm, le-of-dvd, le-of-mul-le-mul-right, mul-assoc, mul-comm, mul-right-comm, mul-le-mul-right, mul-pos, pos-of-dvd-of-pos}
-use native.Mathlib.Omega.{arith}
 use Rattle.laws.specs.Multiples.{lcm}
-use Rattle.laws.specs.MultiplesLaws.{left-divides-lcm, right-divides-lcm, lcm-above-zero, lcm-divides-common-multiple}
+use Rattle.laws.specs.MultiplesLaws.{left-divides-lcm, right-divides-lcm, lcm-divides-common-multiple}
 
 pub record IsGcd (a b g : ℕ) : Type 0 where
   pub left : g ∣ a

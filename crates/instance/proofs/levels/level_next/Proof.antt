@@ -1,5 +1,4 @@
 -- `levels::level_next` meets its contract.
-use native.Mathlib.Omega.{arith}
 use borrow.Author.Needs.{needs}
 use Rattle.instance.specs.LevelsLaws.{level-gets}
 use Rattle.instance.proofs.levels.level_next.Statement.{statement}

@@ -33,11 +33,11 @@ returns c =
     let spanned = c .before .before .before .before .refuse-unless .ensures in
     let cycles = c .before .before .before .word-next2 .ensures in
     let penalty = c .before .before .penalty-next .ensures in
-    let shown = c .before .shorter .ensures in
+    let limited = c .before .shorter .ensures in
     record {
       gets = task-gets _ first longer spanned cycles penalty;
-      spans = λ accepted. rw shown (task-spans _ first longer spanned cycles penalty accepted);
-      within = rw shown (task-within _ first longer spanned cycles penalty);
+      spans = λ accepted. rw limited (task-spans _ first longer spanned cycles penalty accepted);
+      within = rw limited (task-within _ first longer spanned cycles penalty);
     }
 
 pub task-next-spec : {M : Type 1} → statement M
