@@ -2,10 +2,10 @@
 use crate::answers::Planned;
 use crate::answers::planned_of;
 use crate::choices::bytes_of_words;
-use refusals::Refusal;
-use refusals::Verdict;
 use instance::read_instance;
 use planner::plan;
+use refusals::Refusal;
+use refusals::Verdict;
 use schedule::Priced;
 use text::TextRead;
 use text::words_of_text;

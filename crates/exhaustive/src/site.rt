@@ -1,7 +1,7 @@
 // What an instance's words say.
 use instance::Instance;
-use refusals::Verdict;
 use instance::read_instance;
+use refusals::Verdict;
 
 // The number and place of the refusal of its words, 0 where they are accepted; and its sizes, which are 0 where they are
 // refused: tasks, levels, ticks of the span, slots of a table, and the largest choice of a plan.

@@ -2,9 +2,9 @@
 use crate::lines::put_refusal;
 use crate::plans::put_plan;
 use instance::Instance;
-use refusals::Verdict;
 use instance::read_instance;
 use planner::plan;
+use refusals::Verdict;
 use schedule::Priced;
 use text::TextRead;
 use text::words_of_text;

@@ -1,9 +1,9 @@
 // Planning an instance that is lent as words.
 use crate::best::best_choices;
 use instance::Instance;
+use instance::read_instance;
 use refusals::Refusal;
 use refusals::Verdict;
-use instance::read_instance;
 use schedule::Priced;
 use schedule::price;
 use schedule::tabulate;

@@ -1,10 +1,10 @@
 // Prints a line for each example: what is read, or the refusal's number and place.
 use instance::Instance;
-use refusals::Refusal;
-use refusals::Verdict;
 use printing::print;
 use printing::print_field;
 use printing::print_filled;
+use refusals::Refusal;
+use refusals::Verdict;
 use text::TextRead;
 
 fn print_refusal(r: Refusal) {

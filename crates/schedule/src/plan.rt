@@ -2,9 +2,9 @@
 use crate::quantities::core_load;
 use crate::quantities::task_of;
 use instance::Instance;
+use ranges::MAY_NOT_BE_REFUSED;
 use refusals::Refusal;
 use refusals::Verdict;
-use ranges::MAY_NOT_BE_REFUSED;
 ghost use mathlib.Core.Path.{_≡_};
 ghost use Prim.Native.Nat.{min, _<_};
 ghost use lib.ListN.{length};

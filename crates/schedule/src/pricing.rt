@@ -2,8 +2,8 @@
 use crate::plan::plan_passes;
 use crate::prices::Priced;
 use crate::prices::price_of;
-use refusals::Verdict;
 use instance::read_instance;
+use refusals::Verdict;
 ghost use mathlib.Core.Path.{_≡_};
 ghost use Rattle.schedule.specs.Outcomes.{priceOutcome, PricingEnds};
 

@@ -1,9 +1,9 @@
 // Prints a line for each example.
-use refusals::Refusal;
-use refusals::Verdict;
 use printing::print;
 use printing::print_field;
 use printing::print_filled;
+use refusals::Refusal;
+use refusals::Verdict;
 use schedule::Price;
 use schedule::Priced;
 
