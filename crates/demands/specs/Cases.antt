@@ -146,7 +146,8 @@ cases =
 
 pub K1-to-K13 : map (λ c. defined (c .words) (c .claim)) cases ≡ map (λ c. c .claim) cases
 unfolding wordsOf numbers firstFault faulty begins isDigit isBlank valueAfter problemOf siteFile settings level lastAfter levels period
-    isPenalty task tasks times between takeWord takeTested takeEnd span spanFrom lcm first listOf joined onto sum room isMust badChoice choicesPass fits coresFit planPasses
+    isPenalty task tasks times between takeWord takeTested takeEnd
+    span spanFrom lcm first listOf joined onto sum room isMust badChoice choicesPass fits coresFit planPasses
     keeps ticks jobTicks ticksOn jobs loadOn coreLoad coreEnergy energy penalty cost priceOf dueAt afterRelease earliest chosen afterRun
     step dispatched row coreTasks tableOf planOutcome choiceLists isAllowed better firstCheapest bestPlan
 K1-to-K13 = refl

@@ -104,7 +104,8 @@ module _ {A B : Type 0} {all : List ℕ} {middle : Cursor} {a : A} (next : A →
   continued (takes none) = rw none
 
   -- what is taken from where the first part ended
-  pub from-then : {c : Cursor} {take : Take A} → Gets all c take a middle → from all c (λ at words. continue (take at words) next) ≡ from all middle (next a)
+  pub from-then : {c : Cursor} {take : Take A} → Gets all c take a middle →
+      from all c (λ at words. continue (take at words) next) ≡ from all middle (next a)
   unfolding from
   from-then {c} {take} first = rw (held-continue (c .verdict) (take (c .at) (drop (c .at) all)) next) (continued (first .leaves))
 
@@ -151,7 +152,8 @@ module _ {A : Type 0} {all : List ℕ} {middle : Cursor} {a : A} (passes : A →
       go true = takes (rw none)
       go false = refuses (why at) (rw none)
 
-  pub gets-tested : {c : Cursor} {take : Take A} → Gets all c take a middle → Gets all c (takeTested take passes why) a (refusedUnless (passes a) (why (c .at)) middle)
+  pub gets-tested : {c : Cursor} {take : Take A} → Gets all c take a middle →
+      Gets all c (takeTested take passes why) a (refusedUnless (passes a) (why (c .at)) middle)
   unfolding from takeTested
   gets-tested {c} {take} first =
       record { leaves = rw (held-continue (c .verdict) (take (c .at) (drop (c .at) all)) _) (tested-leaves (c .at) (first .leaves)) }

@@ -15,6 +15,7 @@ use Rattle.instance.specs.Node.{Problem, span, stored}
 use Rattle.instance.specs.Outcomes.{instanceReadOf, instanceOutcome}
 use Rattle.instance.specs.Sections.{settingsIn, levelsIn, GetsLevels, tasksIn, GetsTasks}
 use Rattle.instance.specs.SiteFile.{settings, siteFile, problemOf}
+use Rattle.instance.specs.declared.Instance.{Instance}
 use Rattle.instance.specs.declared.levels.LevelsGot.{LevelsGot}
 use Rattle.instance.specs.declared.site.SettingsGot.{SettingsGot}
 use Rattle.instance.specs.declared.tasks.TasksGot.{TasksGot}
@@ -42,10 +43,22 @@ module _ {words : List ℕ} {start end : Cursor} {s : SettingsGot} {l : LevelsGo
   unfolding instanceOutcome problemOf
   site-refused held = rw (sym (from-start words (siteFile .take)) ∙ gets-refused site-gets held)
 
-  stored-read : end .verdict ≡ Accepted →
-      record { weights = s .weights; cores = s .cores; levelcount = l .count; levels = l .levels; taskcount = t .count; tasks = t .tasks; span = t .span } ≡ stored read
+  -- what is handed over where nothing was refused
+  abbrev held : Instance
+  held =
+      record {
+        weights = s .weights;
+        cores = s .cores;
+        levelcount = l .count;
+        levels = l .levels;
+        taskcount = t .count;
+        tasks = t .tasks;
+        span = t .span;
+      }
+
+  held-is-stored : end .verdict ≡ Accepted → held ≡ stored read
   unfolding stored span
-  stored-read now = λ i.
+  held-is-stored now = λ i.
       record {
         weights = s .weights;
         cores = s .cores;
@@ -56,9 +69,6 @@ module _ {words : List ℕ} {start end : Cursor} {s : SettingsGot} {l : LevelsGo
         span = tasks-get .spans (accepted-before end-gets now) i;
       }
 
-  pub site-accepted : end .verdict ≡ Accepted →
-      record { verdict = Accepted; instance = record { weights = s .weights; cores = s .cores; levelcount = l .count; levels = l .levels; taskcount = t .count; tasks = t .tasks; span = t .span } }
-      ≡ instanceOutcome words
+  pub site-accepted : end .verdict ≡ Accepted → record { verdict = Accepted; instance = held } ≡ instanceOutcome words
   unfolding instanceOutcome problemOf
-  site-accepted now =
-      rw (sym (from-start words (siteFile .take)) ∙ gets-taken site-gets now, stored-read now)
+  site-accepted now = rw (sym (from-start words (siteFile .take)) ∙ gets-taken site-gets now, held-is-stored now)

@@ -51,7 +51,8 @@ worked =
 pub worked-listings : map (λ w. listingOf (bytes (w .text))) worked ≡ map (λ w. bytes (w .listing)) worked
 unfolding bytes ended line numbersLine refusalLine spanLine costLine keptLine refusedLine taskLine coreLine planLines listingOf
     decimal digitsOf wordsOf numbers firstFault faulty begins isDigit isBlank valueAfter problemOf siteFile settings level lastAfter levels period
-    isPenalty task tasks times between takeWord takeTested takeEnd span spanFrom lcm first listOf joined sum isMust badChoice choicesPass fits coresFit planPasses
+    isPenalty task tasks times between takeWord takeTested takeEnd
+    span spanFrom lcm first listOf joined sum isMust badChoice choicesPass fits coresFit planPasses
     keeps ticks jobTicks ticksOn jobs loadOn coreLoad coreEnergy energy penalty cost priceOf dueAt afterRelease earliest chosen afterRun
     step dispatched row coreTasks tableOf slotAt choiceLists isAllowed better firstCheapest bestPlan
 worked-listings = refl
