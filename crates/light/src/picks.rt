@@ -1,6 +1,6 @@
 // An item's first cheapest choice, of refusing it and of the levels of core 0.
-use knapsack::STRIDE;
 use values::NO_COST;
+use values::STRIDE;
 ghost use mathlib.Core.Path.{_≡_};
 ghost use Prim.Native.Nat.{_+_, _*_, _≤_, _<_};
 ghost use lib.ListN.{length};
