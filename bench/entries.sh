@@ -5,7 +5,7 @@ set -eu
 cd "$(dirname "$0")/.."
 room=target/bench/entries
 mkdir -p "$room/crates/timed/src"
-crates=(laws ranges instance dispatch schedule assignment values knapsack choice_lists knapsack_tables partition search)
+crates=(laws ranges instance dispatch schedule assignment values knapsack choice_lists knapsack_tables partition light search)
 for crate in "${crates[@]}"; do
     ln -sfn "../../../../crates/$crate" "$room/crates/$crate"
     grep "^$crate:" crates.txt

@@ -5,6 +5,5 @@ pub use relaxing::Choice;
 pub use relaxing::Core;
 pub use relaxing::ENTRIES;
 pub use relaxing::Front;
-pub use relaxing::STRIDE;
 pub use relaxing::choice_at;
 pub use relaxing::relax;

@@ -1,4 +1,5 @@
 // One knapsack: the least values of a set of items on one core, for each load up to the capacity.
+use values::STRIDE;
 ghost use mathlib.Core.Path.{_≡_};
 ghost use Prim.Native.Nat.{ℕ, _≤_, _<_};
 ghost use lib.ListN.{length, getD};
@@ -6,9 +7,6 @@ ghost use Rattle.knapsack.specs.RelaxedItems.{ChoiceFits, choiceOf, Item
 ghost use Rattle.knapsack.specs.RelaxedKnapsacks.{KnapsackSumsFit};
 ghost use Rattle.knapsack.specs.KnapsackWords.{Relaxed};
 ghost use Rattle.assignment.specs.Words.{noCost};
-
-// From an item's levels to the next one's.
-pub const STRIDE: usize = 8;
 
 // One entry of a knapsack for each load up to the largest capacity.
 pub const ENTRIES: usize = 4097;

@@ -180,7 +180,7 @@ fn fill_with(
     );
 }
 
-// The same, with as much room as the items may need.
+// The knapsack of every set of n items, with as much room for lists as the items may need.
 pub fn fill_knapsacks(
     core: Core,
     n: usize,

@@ -15,14 +15,15 @@ use Rattle.assignment.specs.ChoiceLaws.{kept-set, chosen-least}
 use Rattle.assignment.specs.Keeping.{planKey, planWorth}
 use Rattle.assignment.specs.KeyLaws.{keeps-in-base, key-below}
 use Rattle.assignment.specs.SearchTheorem.{BestAnswers, search-finds-best}
-use Rattle.assignment.specs.Offered.{Affordable}
+use Rattle.assignment.specs.Offered.{offered, Affordable}
+use Rattle.light.specs.Light.{OfferFits}
 use Rattle.partition.specs.OfferedLaws.{offered-searchable}
 use Rattle.partition.specs.BestTables.{Searchable}
 use Rattle.partition.specs.CoreLaws.{room-for-sets}
 use Rattle.knapsack_tables.specs.TabledKnapsacks.{KnapsacksFit}
 use Rattle.search.specs.Limits.{WithinLimits}
 use Rattle.search.specs.Found.{optionsOf}
-use Rattle.search.specs.Light.{EncodesBest}
+use Rattle.values.specs.BestKeys.{BestKey, EncodesBest}
 use Rattle.values.specs.Worths.{worthOf}
 use Rattle.search.specs.declared.Shape.{Shape}
 use Rattle.values.specs.declared.value.Worth.{Worth}
@@ -91,3 +92,21 @@ module _ {shape : Shape} {load cost refusal : List ℕ} {must : List Bool} {plan
         costs-for-all = omega arith;
         keys-for-all = omega arith;
       }
+
+  pub offer-fits : OfferFits (shape .items) (shape .levels) (shape .capacity) load cost refusal must
+  offer-fits =
+      record {
+        items-limited = limits .shape-limited .items;
+        affordable = affordable;
+        refusals-for-all = limits .long-enough .refusals-for-all;
+        musts-for-all = limits .long-enough .musts-for-all;
+        refusals-limited = limits .refusals-limited;
+      }
+
+  -- what is best on any number of cores is best on those that there are
+  pub light-encodes-best : {worth : Worth} → worth .cost < noCost →
+      ((cores : ℕ) → 0 < cores → BestKey (offered cores (shape .levels) (shape .capacity) load cost refusal must (shape .items)) (shape .items) worth) →
+      EncodesBest (optionsOf shape load cost refusal must) (shape .items) worth
+  unfolding optionsOf
+  light-encodes-best real light =
+      record { best = λ real. light (shape .cores) (limits .shape-limited .some-core); none-allowed = λ dear. absurd (omega arith) }

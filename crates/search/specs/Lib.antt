@@ -4,6 +4,3 @@ pub mod FoundLaws
 pub mod ChosenTables
 pub mod HalfCores
 pub mod PlanLaws
-pub mod Picks
-pub mod Light
-pub mod LightLaws

@@ -1,8 +1,8 @@
 // What the best plan of all is worth.
 use crate::Shape;
-use crate::light::light_plan;
 use knapsack::Core;
 use knapsack_tables::fill_knapsacks;
+use light::light_plan;
 use partition::fill_best;
 use partition::fill_weights;
 use partition::least_on_one;
@@ -15,8 +15,8 @@ ghost use Prim.Native.Nat.{ℕ};
 ghost use Rattle.assignment.specs.Choice.{chosen};
 ghost use Rattle.search.specs.ChosenTables.{KnapsacksOffered, KnapsacksReady};
 ghost use Rattle.search.specs.Found.{optionsOf};
-ghost use Rattle.search.specs.Light.{EncodesBest};
 ghost use Rattle.search.specs.Limits.{OfferLimited};
+ghost use Rattle.values.specs.BestKeys.{EncodesBest};
 ghost use Rattle.values.specs.Worths.{worthOf};
 
 // What the best plan is worth, from the knapsacks. Of an odd number of cores the lower half has one more; no half has more than
@@ -117,7 +117,15 @@ pub(crate) fn best_plan(
         (optionsOf shape (now (load .entry)) (now (cost .entry)) (now (refusal .entry)) (now (must .entry)))
         (shape .items) r ⌝ }
 {
-    let light = light_plan(shape, load, cost, refusal, must);
+    let light = light_plan(
+        shape.items,
+        shape.levels,
+        shape.capacity as u64,
+        load,
+        cost,
+        refusal,
+        must,
+    );
     if light.cost < NO_COST {
         return light;
     }

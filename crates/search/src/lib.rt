@@ -1,6 +1,5 @@
 // The exact search for the cheapest plan. It knows nothing of text, words or tables: only of loads, costs and a capacity.
 mod best;
-mod light;
 mod limits;
 mod plan;
 

@@ -1,6 +1,6 @@
 // Whether the numbers are within the limits of the search.
 use crate::Shape;
-use knapsack::STRIDE;
+use values::STRIDE;
 ghost use Prim.Native.Nat.{ℕ, _+_, _*_, _≤_, _<_};
 ghost use lib.ListN.{length, getD};
 ghost use Rattle.search.specs.Limits.{LongEnough, ShapeLimited, WithinLimits};

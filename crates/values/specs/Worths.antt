@@ -24,7 +24,7 @@ isFirst a b = ltb (a .cost) (b .cost) || (eqb (a .cost) (b .cost) && ltb (a .key
 unfoldable pub lesserWorth : Worth → Worth → Worth
 lesserWorth a b = cond (isFirst b a) b a
 
--- small enough for a value of m items
+-- as small as the values of m items are: for each item a cost, and a digit of the key
 pub record Small (m cost key : ℕ) : Type 0 where
   pub at-most-none : cost ≤ noCost
   pub real : cost < noCost → cost ≤ m * mostCost

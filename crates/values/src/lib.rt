@@ -9,3 +9,6 @@ pub use value::NO_COST;
 pub use value::Worth;
 pub use value::lesser;
 pub use value::lower;
+
+// From an item's levels to the next one's, in the slices of loads and costs.
+pub const STRIDE: usize = 8;

@@ -17,10 +17,13 @@ returns-2 : tie.Need-returns-2
 returns-2 c = λ limits. decides-no (c .before .long-enough .result) (c .if2 .taken) (c .before .long-enough .ensures) (limits .long-enough)
 
 items-within-requires : tie.Need-items-within-requires
-items-within-requires c κs =
-    let limited = decides-yes (c .before .before .before .shape-within .result) (c .before .before .if1 .left) (c .before .before .before .shape-within .ensures) in
-    let long = decides-yes (c .before .long-enough .result) (c .if2 .left) (c .before .long-enough .ensures) in
-    (limited .levels, (long .loads-for-all, long .costs-for-all))
+items-within-requires c κs = (
+  decides-yes (c .before .before .before .shape-within .result) (c .before .before .if1 .left) (c .before .before .before .shape-within .ensures) .levels,
+  (
+    decides-yes (c .before .long-enough .result) (c .if2 .left) (c .before .long-enough .ensures) .loads-for-all,
+    decides-yes (c .before .long-enough .result) (c .if2 .left) (c .before .long-enough .ensures) .costs-for-all,
+  ),
+)
 
 returns-3 : tie.Need-returns-3
 returns-3 c = λ limits. decides-no (c .before .items-within .result) (c .if3 .taken) (c .before .items-within .ensures) (limits .costs-limited)

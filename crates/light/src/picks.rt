@@ -1,25 +1,18 @@
-// Light sites: where core 0 takes what each item would choose alone, that is the best plan, and no table is filled.
-use crate::Shape;
-use knapsack::STRIDE;
-use values::KEY_BASE;
+// An item's first cheapest choice, of refusing it and of the levels of core 0.
 use values::NO_COST;
-use values::Worth;
+use values::STRIDE;
 ghost use mathlib.Core.Path.{_≡_};
 ghost use Prim.Native.Nat.{_+_, _*_, _≤_, _<_};
 ghost use lib.ListN.{length};
 ghost use Rattle.assignment.specs.Assignment.{Item};
-ghost use Rattle.search.specs.Found.{optionsOf};
-ghost use Rattle.search.specs.Light.{BestKey};
-ghost use Rattle.search.specs.Limits.{OfferLimited};
 ghost use Rattle.assignment.specs.Offered.{itemAt};
-ghost use Rattle.search.specs.Picks.{Cheaper, PickedBelow};
-ghost use Rattle.assignment.specs.Words.{noCost};
+ghost use Rattle.light.specs.Picks.{Cheaper, PickedBelow};
 
 // A choice of an item, with what it puts on core 0 and what it costs. A load above the capacity stands for none.
-struct Pick {
-    choice: u64,
-    load: u64,
-    cost: u64,
+pub(crate) struct Pick {
+    pub(crate) choice: u64,
+    pub(crate) load: u64,
+    pub(crate) cost: u64,
 }
 
 // Refusing an item, where it need not be kept.
@@ -55,7 +48,7 @@ fn cheaper(picked: Pick, level: Pick, capacity: u64) -> Pick
 }
 
 // The first cheapest choice of item i.
-fn first_cheapest(
+pub(crate) fn first_cheapest(
     i: usize,
     levels: usize,
     capacity: u64,
@@ -86,42 +79,4 @@ fn first_cheapest(
         l += 1;
     }
     picked
-}
-
-// The cost and the key of the first cheapest choices of all items, where core 0 takes them together.
-pub(crate) fn light_plan(
-    shape: Shape,
-    load: &[u64],
-    cost: &[u64],
-    refusal: &[u64],
-    must: &[bool],
-) -> Worth
-    requires { ⌜ OfferLimited shape (now load) (now cost) (now refusal) (now must) ⌝ }
-    ensures { λ r. ⌜ (r .cost < noCost → BestKey
-        (optionsOf shape (now (load .entry)) (now (cost .entry)) (now (refusal .entry)) (now (must .entry)))
-        (shape .items) r) ⌝ }
-{
-    let levels = shape.levels;
-    let capacity = shape.capacity as u64;
-    let mut used = 0;
-    let mut total = 0;
-    let mut key = 0;
-    let mut i = 0;
-    while i < shape.items {
-        let pick = first_cheapest(i, levels, capacity, load, cost, refusal, must);
-        used += pick.load;
-        if capacity < used {
-            return Worth {
-                cost: NO_COST,
-                key: 0,
-            };
-        }
-        total += pick.cost;
-        key = key * KEY_BASE + pick.choice;
-        i += 1;
-    }
-    Worth {
-        cost: total,
-        key: key,
-    }
 }

@@ -22,18 +22,15 @@ use Rattle.assignment.specs.CheapestChoiceLaws.{
   cheapest-choices-are-best,
 }
 use Rattle.assignment.specs.Choice.{digits}
-use Rattle.search.specs.Found.{optionsOf}
-use Rattle.search.specs.FoundLaws.{searchable}
 use Rattle.assignment.specs.Keeping.{planKey}
 use Rattle.assignment.specs.KeepingLaws.{refused-load, some-level}
 use Rattle.assignment.specs.KeyLaws.{InBase, nothing, digit, key-below, digits-key}
-use Rattle.search.specs.Light.{BestKey, LightBelow}
-use Rattle.search.specs.Limits.{WithinLimits}
+use Rattle.light.specs.Light.{OfferFits, LightBelow}
 use Rattle.assignment.specs.Offered.{mostCost, itemAt, itemsOf, offered}
-use Rattle.search.specs.Picks.{LowChoice, refusing, keeping, PickedBelow}
+use Rattle.light.specs.Picks.{LowChoice, refusing, keeping, PickedBelow}
 use Rattle.assignment.specs.Knapsacks.{keyBase}
-use Rattle.search.specs.declared.Shape.{Shape}
-use Rattle.search.specs.declared.light.Pick.{Pick}
+use Rattle.light.specs.declared.picks.Pick.{Pick}
+use Rattle.values.specs.BestKeys.{BestKey}
 use Rattle.values.specs.declared.value.Worth.{Worth}
 
 module _ (o : Options) {item : Item} where
@@ -114,12 +111,13 @@ in-base : (o : Options) {items : List Item} {plan : List ℕ} → o .cores * o .
 in-base o small none = nothing
 in-base o small (more {c = c} here rest) = digit c (omega (arith, here .possible .allowed .in-range)) (in-base o small rest)
 
-pub no-items : (shape : Shape) (load cost refusal : List ℕ) (must : List Bool) → LightBelow shape load cost refusal must 0 0 0 0
+pub no-items : (n levels capacity : ℕ) (load cost refusal : List ℕ) (must : List Bool) →
+    LightBelow n levels capacity load cost refusal must 0 0 0 0
 unfolding listOf coreLoad totalCost planKey
-no-items shape load cost refusal must =
+no-items n levels capacity load cost refusal must =
     record {
       plan = [];
-      cheapest = none;
+      cheapest = λ cores some. none;
       load-is = refl;
       cost-is = refl;
       key-is = refl;
@@ -127,36 +125,39 @@ no-items shape load cost refusal must =
       total-low = omega arith;
     }
 
-module _ {shape : Shape} {load cost refusal : List ℕ} {must : List Bool} {lent : List ℕ}
-    (limits : WithinLimits shape load cost refusal must lent) where
-  picked-cost : {i c w v : ℕ} → i < shape .items → c ≤ shape .levels → w ≤ shape .capacity →
-      LowChoice (itemAt load cost refusal must i) c w v → v ≤ mostCost
+module _ {n levels capacity : ℕ} {load cost refusal : List ℕ} {must : List Bool}
+    (fit : OfferFits n levels capacity load cost refusal must) where
+  picked-cost : {i c w v : ℕ} → i < n → c ≤ levels → w ≤ capacity → LowChoice (itemAt load cost refusal must i) c w v → v ≤ mostCost
   unfolding itemAt
-  picked-cost {i} item low fits (refusing free) = limits .refusals-limited i item
-  picked-cost {i} item low fits (keeping l) = limits .costs-limited i item l low fits
+  picked-cost {i} item low fits (refusing free) = fit .refusals-limited i item
+  picked-cost {i} item low fits (keeping l) = fit .affordable .cheap i l item low fits
 
-  module _ {i used total key : ℕ} (before : LightBelow shape load cost refusal must i used total key) where
+  module _ {i used total key : ℕ} (before : LightBelow n levels capacity load cost refusal must i used total key) where
+    plan-in-base : InBase (listOf (itemAt load cost refusal must) i) (before .plan)
+    unfolding offered keyBase
+    plan-in-base =
+        in-base (offered 1 levels capacity load cost refusal must n) (omega (arith, fit .affordable .levels-limited)) (before .cheapest 1 (omega arith))
+
     pub key-low : key < keyBase ^ i
-    key-low =
-        let below = key-below (in-base _ (searchable limits .few-choices) (before .cheapest)) in
-        rw (before .key-is, length-listOf) at below
+    key-low = let below = key-below plan-in-base in rw (before .key-is, length-listOf) at below
 
     -- the pick of item i beside those before it
-    pub one-more-item : {pick : Pick} → i < shape .items →
-        PickedBelow (shape .capacity) (itemAt load cost refusal must i) (shape .levels) pick →
-        used + pick .load ≤ shape .capacity →
-        LightBelow shape load cost refusal must (i + 1) (used + pick .load) (total + pick .cost) (key * 33 + pick .choice)
-    unfolding optionsOf offered listOf keyBase
+    pub one-more-item : {pick : Pick} → i < n → PickedBelow capacity (itemAt load cost refusal must i) levels pick →
+        used + pick .load ≤ capacity →
+        LightBelow n levels capacity load cost refusal must (i + 1) (used + pick .load) (total + pick .cost) (key * 33 + pick .choice)
+    unfolding offered listOf keyBase
     one-more-item {pick} next picked room =
-        let o = optionsOf shape load cost refusal must in
-        let fits : pick .load ≤ shape .capacity = omega arith in
+        let fits : pick .load ≤ capacity = omega arith in
         let choice = picked .is-choice fits in
-        let last = picked-is-cheapest o (limits .shape-limited .some-core) picked fits in
-        let all = longer o (before .cheapest) last in
+        let o = offered 1 levels capacity load cost refusal must n in
+        let all = longer o (before .cheapest 1 (omega arith)) (picked-is-cheapest o (omega arith) picked fits) in
         rw add-one
         (record {
           plan = before .plan ++ (pick .choice ∷ []);
-          cheapest = all .cheapest;
+          cheapest = λ cores some.
+              longer _ (before .cheapest cores some)
+              (picked-is-cheapest (offered cores levels capacity load cost refusal must n) some picked fits)
+              .cheapest;
           load-is = all .load ∙ rw (before .load-is, low-load o (picked .choice-low) choice);
           cost-is = all .cost ∙ rw (before .cost-is, low-cost o (picked .choice-low) choice);
           key-is = all .key ∙ rw (before .key-is);
@@ -165,16 +166,17 @@ module _ {shape : Shape} {load cost refusal : List ℕ} {must : List Bool} {lent
         })
 
   -- all items
-  pub light-is-best : {used : ℕ} {worth : Worth} → LightBelow shape load cost refusal must (shape .items) used (worth .cost) (worth .key) →
-      BestKey (optionsOf shape load cost refusal must) (shape .items) worth
-  unfolding optionsOf offered itemsOf
-  light-is-best {used} {worth} all =
-      let o = optionsOf shape load cost refusal must in
-      let counted = length-listOf (itemAt load cost refusal must) (shape .items) in
-      let digits-are = digits-key (in-base o (searchable limits .few-choices) (all .cheapest)) in
-      let is-plan : digits (shape .items) (worth .key) ≡ all .plan = rw (counted, all .key-is) at digits-are in
+  pub light-is-best : {used : ℕ} {worth : Worth} →
+      LightBelow n levels capacity load cost refusal must n used (worth .cost) (worth .key) →
+      (cores : ℕ) → 0 < cores → BestKey (offered cores levels capacity load cost refusal must n) n worth
+  unfolding offered itemsOf
+  light-is-best {used} {worth} all cores some =
+      let o = offered cores levels capacity load cost refusal must n in
+      let counted = length-listOf (itemAt load cost refusal must) n in
+      let digits-are = digits-key (plan-in-base all) in
+      let is-plan : digits n (worth .key) ≡ all .plan = rw (counted, all .key-is) at digits-are in
       record {
-        is-best = rw is-plan (cheapest-choices-are-best o (all .cheapest) (omega (arith, all .load-is, all .used-low)));
+        is-best = rw is-plan (cheapest-choices-are-best o (all .cheapest cores some) (omega (arith, all .load-is, all .used-low)));
         costs = rw is-plan (all .cost-is);
         key-below = key-low all;
       }

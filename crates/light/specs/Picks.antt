@@ -8,7 +8,7 @@ use native.Mathlib.Omega.{arith}
 use Rattle.laws.specs.Below.{lt-or-le}
 use Rattle.laws.specs.Truth.{false-not-true}
 use Rattle.assignment.specs.Assignment.{Item}
-use Rattle.search.specs.declared.light.Pick.{Pick}
+use Rattle.light.specs.declared.picks.Pick.{Pick}
 
 -- the choices that load no core but core 0, with their loads and costs
 pub data LowChoice (item : Item) : (choice load cost : ℕ) → Type 0 where

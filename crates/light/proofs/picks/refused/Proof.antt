@@ -1,9 +1,9 @@
 -- `refused` picks the refusal, or nothing where the item must be kept.
 use mathlib.Core.Path.{refl, sym, _∙_}
 use borrow.Author.Needs.{needs}
-use Rattle.search.specs.Picks.{none-yet, refusing-first}
-use Rattle.search.proofs.light.refused.Statement.{statement}
-use Rattle.search.proofs.light.refused.Tie as tie
+use Rattle.light.specs.Picks.{none-yet, refusing-first}
+use Rattle.light.proofs.picks.refused.Statement.{statement}
+use Rattle.light.proofs.picks.refused.Tie as tie
 
 add-t5 : tie.Need-add-t5
 add-t5 c = search needs

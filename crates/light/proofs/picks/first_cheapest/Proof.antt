@@ -4,9 +4,9 @@ use mathlib.Core.Path.{_≡_, refl}
 use native.Mathlib.Omega.{arith}
 use borrow.Author.Needs.{needs}
 use Rattle.assignment.specs.Offered.{itemAt}
-use Rattle.search.specs.Picks.{PickedBelow, with-level}
-use Rattle.search.proofs.light.first_cheapest.Statement.{statement}
-use Rattle.search.proofs.light.first_cheapest.Tie as tie
+use Rattle.light.specs.Picks.{PickedBelow, with-level}
+use Rattle.light.proofs.picks.first_cheapest.Statement.{statement}
+use Rattle.light.proofs.picks.first_cheapest.Tie as tie
 
 abbrev Inv-loop : tie.InvT-loop
 Inv-loop i levels capacity load cost refusal must picked₀ l₀ picked l = (l ≤ levels) × PickedBelow capacity (itemAt load cost refusal must i) l picked
