@@ -5,15 +5,16 @@ set -eu
 cd "$(dirname "$0")/.."
 room=target/bench/entries
 mkdir -p "$room/crates/timed/src"
-crates=(laws ranges instance dispatch schedule assignment values knapsack choice_lists knapsack_tables partition light search)
-for crate in "${crates[@]}"; do
-    ln -sfn "../../../../crates/$crate" "$room/crates/$crate"
-    grep "^$crate:" crates.txt
-done >"$room/crates.txt"
+for crate in crates/*; do
+    ln -sfn "../../../../$crate" "$room/$crate"
+done
 ln -sfn ../.. "$room/target"
-echo 'timed: instance schedule search' >>"$room/crates.txt"
+{
+    cat crates.txt
+    echo 'timed: refusals schedule search'
+} >"$room/crates.txt"
 cat >"$room/crates/timed/src/lib.rt" <<'END'
-use instance::Verdict;
+use refusals::Verdict;
 use schedule::tabulate;
 use search::Found;
 use search::Shape;
