@@ -1,8 +1,8 @@
 // The listing of a site's text: read, planned and put into lines.
-use crate::lines::put_refusal;
-use crate::plans::put_plan;
 use instance::Instance;
 use instance::read_instance;
+use listing_lines::put_plan;
+use listing_lines::put_refusal;
 use planner::plan;
 use refusals::Verdict;
 use schedule::Priced;
@@ -14,7 +14,7 @@ ghost use Rattle.laws.specs.Lists.{onto};
 ghost use Rattle.instance.specs.SiteFile.{problemOf};
 ghost use Rattle.schedule.specs.ReadLaws.{HoldsProblemOf};
 ghost use Rattle.listings.specs.Listing.{listingOfProblem, listingOf};
-ghost use Rattle.listings.specs.Placing.{Room, Put};
+ghost use Rattle.listing_lines.specs.Placing.{Room, Put};
 
 // Plans the instance that the words are, and puts its lines.
 fn put_best(out: &mut [u8], words: &[u32], inst: Instance) -> usize
