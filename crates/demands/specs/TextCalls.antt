@@ -25,7 +25,7 @@ use Rattle.planner.specs.Planning.{bestPlan}
 use Rattle.desk.specs.DeskOutcomes.{plannedOf}
 use Rattle.desk.specs.declared.answers.Checked.{Checked}
 use Rattle.desk.specs.declared.answers.Planned.{Planned}
-use Rattle.listings.specs.Listing.{refusalLine, planLines}
+use Rattle.listing_lines.specs.ListingLines.{refusalLine, planLines}
 
 -- the text is one of the instance p
 pub record WritesProblem (text : List ℕ) (p : Problem) : Type 0 where

@@ -4,6 +4,8 @@ use crate::answers::planned_of;
 use crate::choices::bytes_of_words;
 use instance::read_instance;
 use planner::plan;
+use ranges::MOST_TASKS;
+use ranges::MOST_TEXT_WORDS;
 use refusals::Refusal;
 use refusals::Verdict;
 use schedule::Priced;
@@ -21,7 +23,7 @@ fn plan_with_room(words: &[u32], n: usize, choices: &mut [u8], table: &mut [u8])
     ensures { λ _. ⌜ now (choices .exit) ≡ planOutcome (now (words .entry)) (now (choices .entry)) (now (table .entry)) .plan ⌝ }
     ensures { λ _. ⌜ now (table .exit) ≡ planOutcome (now (words .entry)) (now (choices .entry)) (now (table .entry)) .table ⌝ }
 {
-    let mut front = [0; 12];
+    let mut front = [0; MOST_TASKS as usize];
     match plan(words, &mut front[..n], table) {
         Priced::Refused(refusal) => return Priced::Refused(refusal),
         Priced::Cost(price) => {
@@ -57,7 +59,7 @@ pub extern "C" fn towhepamu_plan(text: &[u8], plan: &mut [u8], table: &mut [u8])
     ensures { λ _. ⌜ now (plan .exit) ≡ textPlanOutcome (now (text .entry)) (now (plan .entry)) (now (table .entry)) .plan ⌝ }
     ensures { λ _. ⌜ now (table .exit) ≡ textPlanOutcome (now (text .entry)) (now (plan .entry)) (now (table .entry)) .table ⌝ }
 {
-    let mut words = [0; 2048];
+    let mut words = [0; MOST_TEXT_WORDS as usize];
     match words_of_text(text, &mut words) {
         TextRead::Refused(refusal) => planned_of(Priced::Refused(refusal)),
         TextRead::Words(n) => planned_of(plan_words(&words[..n], plan, table)),

@@ -2,10 +2,12 @@
 use libc::STDERR_FILENO;
 use libc::STDIN_FILENO;
 use libc::STDOUT_FILENO;
+use listings::MOST_LISTING;
 use listings::list_site;
+use ranges::MOST_TEXT_BYTES;
 
 fn print_listing(text: &[u8]) {
-    let mut out = [0u8; 51200];
+    let mut out = [0u8; MOST_LISTING];
     let n = list_site(text, &mut out);
     io::write_all(STDOUT_FILENO, &out[..n]);
 }
@@ -16,11 +18,11 @@ fn is_at_end() -> bool {
     libc::read(STDIN_FILENO, &mut byte) == 0
 }
 
-// A text has at most 4,096 bytes. One more is read, so that a text that is too long is refused and never cut.
+// One byte more than a text may have is read, so that a text that is too long is refused and never cut.
 fn main() {
-    let mut text = [0u8; 4097];
+    let mut text = [0u8; MOST_TEXT_BYTES as usize + 1];
     let n = io::read_full(STDIN_FILENO, &mut text);
-    if n < 4097 && !is_at_end() {
+    if n <= MOST_TEXT_BYTES as usize && !is_at_end() {
         io::write_all(STDERR_FILENO, b"standard input cannot be read\n");
         return;
     }

@@ -1,5 +1,6 @@
 // Texts that are refused.
 use crate::show;
+use ranges::MOST_TEXT_BYTES;
 
 pub(crate) fn text() {
     printing::print_line(b"-- another byte, and a number above the largest word");
@@ -9,7 +10,7 @@ pub(crate) fn text() {
 
 pub(crate) fn long_text() {
     printing::print_line(b"-- a byte beyond the 4,096th");
-    let spaces = [32u8; 4097];
+    let spaces = [32u8; MOST_TEXT_BYTES as usize + 1];
     show::listing(&spaces);
 }
 

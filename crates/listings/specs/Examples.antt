@@ -17,8 +17,9 @@ use Rattle.schedule.specs.Quantities.{keeps, ticks, jobTicks, ticksOn, jobs, lo
 use Rattle.dispatch.specs.Rows.{dueAt, afterRelease, earliest, chosen, afterRun, step, dispatched, row}
 use Rattle.schedule.specs.Tables.{coreTasks, tableOf, slotAt}
 use Rattle.planner.specs.Planning.{choiceLists, isAllowed, better, firstCheapest, bestPlan}
-use Rattle.listings.specs.Lines.{bytes, ended, line}
-use Rattle.listings.specs.Listing.{numbersLine, refusalLine, spanLine, costLine, keptLine, refusedLine, taskLine, coreLine, planLines, listingOf}
+use Rattle.listing_lines.specs.Lines.{bytes, ended, line}
+use Rattle.listing_lines.specs.ListingLines.{numbersLine, refusalLine, spanLine, costLine, keptLine, refusedLine, taskLine, coreLine, planLines}
+use Rattle.listings.specs.Listing.{listingOf}
 
 -- a text, and what is printed for it
 record Listed : Type 0 where

@@ -1,10 +1,5 @@
-pub mod Lines
 pub mod Listing
 pub mod Examples
-pub mod Placing
-pub mod PlacingParts
-pub mod LineLaws
-pub mod HeldLines
 pub mod LineLengths
 pub mod ListingLength
 pub mod ListingLaws

@@ -10,9 +10,9 @@ use Rattle.laws.specs.Lists.{joined}
 use Rattle.text.specs.Decimal.{decimal}
 use Rattle.text.specs.DecimalLaws.{decimal-of-digit, decimal-by-tens}
 use Rattle.schedule.specs.declared.prices.Price.{Price}
-use Rattle.listings.specs.Lines.{bytes, ended, line}
-use Rattle.listings.specs.Listing.{numbersLine, spanLine, costLine, keptLine, refusedLine}
-use Rattle.listings.specs.LineLaws.{numbers-line-parts, spaced-one-by-one}
+use Rattle.listing_lines.specs.Lines.{bytes, ended, line}
+use Rattle.listing_lines.specs.ListingLines.{numbersLine, spanLine, costLine, keptLine, refusedLine}
+use Rattle.listing_lines.specs.LineLaws.{numbers-line-parts, spaced-one-by-one}
 
 -- a number below 10 ^ suc most has at most suc most digits
 pub digits-at-most : (most n : ℕ) → n < 10 ^ suc most → length (decimal n) ≤ suc most

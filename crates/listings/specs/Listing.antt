@@ -1,64 +1,15 @@
 -- The paper's section 'The listing program': the bytes that are printed for a text, whatever its bytes are.
-use Prim.Native.Nat.{ℕ, suc}
-use Prim.Native.String.{String}
-use mathlib.Core.Bool.{cond}
-use mathlib.Core.List.{List, [], _∷_, _++_, map}
+use Prim.Native.Nat.{ℕ}
+use mathlib.Core.List.{List}
 use mathlib.Core.Option.{Option, none, some}
-use Rattle.laws.specs.Lists.{listOf, joined}
-use Rattle.text.specs.Decimal.{decimal}
-use Rattle.instance.specs.Node.{Problem, taskCount, span}
-use Rattle.refusals.specs.Refusals.{Reading, refused, accepted, numberOf, placeOf}
+use Rattle.instance.specs.Node.{Problem}
+use Rattle.refusals.specs.Refusals.{Reading, refused, accepted}
 use Rattle.instance.specs.SiteFile.{problemOf}
 use Rattle.text.specs.Text.{wordsOf}
-use Rattle.refusals.specs.declared.Refusal.{Refusal}
 use Rattle.refusals.specs.declared.Refusal.the-variants.{NoPlan}
-use Rattle.schedule.specs.Quantities.{isRefused, coreOf, levelOf, jobTicks, priceOf}
-use Rattle.schedule.specs.Tables.{tableOf, slotAt}
-use Rattle.schedule.specs.declared.prices.Price.{Price}
+use Rattle.schedule.specs.Tables.{tableOf}
 use Rattle.planner.specs.Planning.{bestPlan}
-use Rattle.listings.specs.Lines.{bytes, line}
-
--- a line whose fields are all numbers
-unfoldable pub numbersLine : String → List ℕ → List ℕ
-numbersLine word numbers = line word (map decimal numbers)
-
--- "A refusal prints one line, `refused`, its number and place."
-unfoldable pub refusalLine : Refusal → List ℕ
-refusalLine r = numbersLine "refused" (numberOf r ∷ placeOf r ∷ [])
-
--- "`span`: L."
-unfoldable pub spanLine : ℕ → List ℕ
-spanLine ticks = numbersLine "span" (ticks ∷ [])
-
--- "`cost`: energy, penalty, weighted cost."
-unfoldable pub costLine : Price → List ℕ
-costLine price = numbersLine "cost" (price .energy ∷ price .penalty ∷ price .cost ∷ [])
-
--- "number, then core, level and ticks .. `core`, `level` and `ticks` stand before their numbers"
-unfoldable pub keptLine : ℕ → ℕ → ℕ → ℕ → List ℕ
-keptLine number core level ticks =
-    line "task" (decimal number ∷ bytes "core" ∷ decimal core ∷ bytes "level" ∷ decimal level ∷ bytes "ticks" ∷ decimal ticks ∷ [])
-
--- "or `refused`"
-unfoldable pub refusedLine : ℕ → List ℕ
-refusedLine number = line "task" (decimal number ∷ bytes "refused" ∷ [])
-
--- "One line per task": task i's number is suc i, and so for cores and levels
-unfoldable pub taskLine : Problem → List ℕ → ℕ → List ℕ
-taskLine p plan i =
-    cond (isRefused plan i)
-    (refusedLine (suc i))
-    (keptLine (suc i) (suc (coreOf p plan i)) (suc (levelOf p plan i)) (jobTicks p plan i))
-
--- "One line per core: its number, then its slots."
-unfoldable pub coreLine : Problem → List ℕ → ℕ → List ℕ
-coreLine p table k = numbersLine "core" (suc k ∷ listOf (slotAt p table k) (span p))
-
--- "tasks, then cores, go by number"
-unfoldable pub planLines : Problem → List ℕ → List ℕ → List ℕ
-planLines p plan table =
-    spanLine (span p)
-    ++ (costLine (priceOf p plan) ++ (joined (taskLine p plan) (taskCount p) ++ joined (coreLine p table) (p .cores)))
+use Rattle.listing_lines.specs.ListingLines.{refusalLine, planLines}
 
 abbrev pub listingOfPlan : Problem → Option (List ℕ) → List ℕ
 listingOfPlan p none = refusalLine NoPlan

@@ -27,7 +27,8 @@ use Rattle.planner.specs.Outcomes.{planAnswered, planOutcome}
 use Rattle.planner.specs.PlannedLaws.{where-room}
 use Rattle.planner.specs.Planning.{bestPlan}
 use Rattle.refusals.specs.RoomLaws.{enough-room, front-of-onto}
-use Rattle.listings.specs.Listing.{refusalLine, planLines, listingOfPlan, listingOfProblem, listingOf}
+use Rattle.listing_lines.specs.ListingLines.{refusalLine, planLines}
+use Rattle.listings.specs.Listing.{listingOfPlan, listingOfProblem, listingOf}
 
 pub refused-text-listing : (text : List ℕ) {r : Refusal} → wordsOf text ≡ refused r → listingOf text ≡ refusalLine r
 unfolding listingOf

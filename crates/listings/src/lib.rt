@@ -1,9 +1,5 @@
 // What the listing program prints for a site's text.
-mod bytes;
-mod cores;
-mod lines;
-mod plans;
 mod site;
-mod tasks;
 
+pub use site::MOST_LISTING;
 pub use site::list_site;

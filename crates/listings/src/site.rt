@@ -1,9 +1,13 @@
 // The listing of a site's text: read, planned and put into lines.
-use crate::lines::put_refusal;
-use crate::plans::put_plan;
 use instance::Instance;
 use instance::read_instance;
+use listing_lines::put_plan;
+use listing_lines::put_refusal;
 use planner::plan;
+use ranges::MOST_CORES;
+use ranges::MOST_SPAN;
+use ranges::MOST_TASKS;
+use ranges::MOST_TEXT_WORDS;
 use refusals::Verdict;
 use schedule::Priced;
 use text::TextRead;
@@ -14,7 +18,10 @@ ghost use Rattle.laws.specs.Lists.{onto};
 ghost use Rattle.instance.specs.SiteFile.{problemOf};
 ghost use Rattle.schedule.specs.ReadLaws.{HoldsProblemOf};
 ghost use Rattle.listings.specs.Listing.{listingOfProblem, listingOf};
-ghost use Rattle.listings.specs.Placing.{Room, Put};
+ghost use Rattle.listing_lines.specs.Placing.{Room, Put};
+
+// Room for every listing.
+pub const MOST_LISTING: usize = 51_200;
 
 // Plans the instance that the words are, and puts its lines.
 fn put_best(out: &mut [u8], words: &[u32], inst: Instance) -> usize
@@ -22,8 +29,8 @@ fn put_best(out: &mut [u8], words: &[u32], inst: Instance) -> usize
     requires { ⌜ Room (now out) 0 (listingOfProblem (problemOf (now words))) ⌝ }
     ensures { λ r. ⌜ Put (now (out .entry)) 0 (listingOfProblem (problemOf (now (words .entry)))) (now (out .exit)) r ⌝ }
 {
-    let mut choices = [0u32; 12];
-    let mut table = [0u8; 16384];
+    let mut choices = [0u32; MOST_TASKS as usize];
+    let mut table = [0u8; MOST_CORES as usize * MOST_SPAN as usize];
     match plan(words, &mut choices, &mut table) {
         Priced::Refused(r) => put_refusal(out, 0, r),
         Priced::Cost(price) => {
@@ -51,7 +58,7 @@ fn put_listing(out: &mut [u8], text: &[u8]) -> usize
     requires { ⌜ Room (now out) 0 (listingOf (now text)) ⌝ }
     ensures { λ r. ⌜ Put (now (out .entry)) 0 (listingOf (now (text .entry))) (now (out .exit)) r ⌝ }
 {
-    let mut words = [0u32; 2048];
+    let mut words = [0u32; MOST_TEXT_WORDS as usize];
     match words_of_text(text, &mut words) {
         TextRead::Refused(r) => put_refusal(out, 0, r),
         TextRead::Words(n) => put_words(out, &words[..n]),
@@ -59,7 +66,7 @@ fn put_listing(out: &mut [u8], text: &[u8]) -> usize
 }
 
 // Writes what is printed for a text to the front of an array that has room for every listing.
-pub fn list_site(text: &[u8], out: &mut [u8; 51200]) -> usize
+pub fn list_site(text: &[u8], out: &mut [u8; MOST_LISTING]) -> usize
     ensures { λ r. ⌜ r ≡ length (listingOf (now (text .entry))) ⌝ }
     ensures { λ _. ⌜ now (out .exit) ≡ onto (listingOf (now (text .entry))) (now (out .entry)) ⌝ }
 {

@@ -1,5 +1,9 @@
 // The numbers of document 01 that inputs are tested against, each once: the ranges of its section 'Site file', and the largest
-// span.
+// span. And how many words a text has at most: two numbers are parted by a byte.
+
+pub const MOST_TEXT_BYTES: u32 = 4_096;
+
+pub const MOST_TEXT_WORDS: u32 = 2_048;
 
 pub const SETTINGS_COUNT: u32 = 3;
 

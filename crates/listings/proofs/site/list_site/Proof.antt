@@ -1,6 +1,6 @@
 use native.Mathlib.Omega.{arith}
 use Rattle.listings.specs.ListingLength.{listing-at-most}
-use Rattle.listings.specs.Placing.{put-from-start}
+use Rattle.listing_lines.specs.Placing.{put-from-start}
 use Rattle.listings.proofs.site.list_site.Statement.{statement}
 use Rattle.listings.proofs.site.list_site.Tie as tie
 

@@ -6,7 +6,8 @@ use borrow.Author.Needs.{needs}
 use Rattle.instance.specs.Held.{held-taskcount}
 use Rattle.instance.specs.SiteFile.{problemOf}
 use Rattle.schedule.specs.HeldSlots.{held-table-size, table-size-at-most}
-use Rattle.listings.specs.Listing.{refusalLine, listingOfProblem}
+use Rattle.listing_lines.specs.ListingLines.{refusalLine}
+use Rattle.listings.specs.Listing.{listingOfProblem}
 use Rattle.listings.specs.ListingLaws.{AtHand, front-within, no-plan-listing, planned-listing}
 use Rattle.listings.proofs.site.put_best.Statement.{statement}
 use Rattle.listings.proofs.site.put_best.Tie as tie

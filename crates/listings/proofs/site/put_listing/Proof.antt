@@ -3,7 +3,8 @@ use native.Mathlib.Omega.{arith}
 use lib.Seq.{length-take-le}
 use borrow.Author.Needs.{needs}
 use Rattle.text.specs.NumberCountLaws.{FrontIsText, text-is-refused, words-at-front}
-use Rattle.listings.specs.Listing.{refusalLine, listingOf}
+use Rattle.listing_lines.specs.ListingLines.{refusalLine}
+use Rattle.listings.specs.Listing.{listingOf}
 use Rattle.listings.specs.ListingLaws.{refused-text-listing, read-text-listing}
 use Rattle.listings.proofs.site.put_listing.Statement.{statement}
 use Rattle.listings.proofs.site.put_listing.Tie as tie

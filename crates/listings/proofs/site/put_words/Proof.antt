@@ -2,7 +2,8 @@ use mathlib.Core.Path.{_≡_}
 use borrow.Author.Needs.{needs}
 use Rattle.instance.specs.SiteFile.{problemOf}
 use Rattle.schedule.specs.ReadLaws.{accepted-read-holds-problem, refused-read-refuses-words}
-use Rattle.listings.specs.Listing.{refusalLine, listingOfProblem}
+use Rattle.listing_lines.specs.ListingLines.{refusalLine}
+use Rattle.listings.specs.Listing.{listingOfProblem}
 use Rattle.listings.specs.ListingLaws.{refused-words-listing}
 use Rattle.listings.proofs.site.put_words.Statement.{statement}
 use Rattle.listings.proofs.site.put_words.Tie as tie

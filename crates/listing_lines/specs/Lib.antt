@@ -1,0 +1,6 @@
+pub mod Lines
+pub mod ListingLines
+pub mod Placing
+pub mod PlacingParts
+pub mod LineLaws
+pub mod HeldLines
