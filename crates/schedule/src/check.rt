@@ -2,11 +2,11 @@
 use crate::plan::choices_pass;
 use crate::plan::smaller;
 use crate::quantities::core_of;
-use crate::quantities::is_kept_on;
 use crate::quantities::job_ticks;
 use crate::quantities::jobs_in;
 use crate::quantities::task_of;
 use crate::table::table_size;
+use dispatch::Slot;
 use instance::Instance;
 use instance::read_instance;
 use refusals::Refusal;
@@ -19,63 +19,65 @@ ghost use Rattle.laws.specs.Search.{count};
 ghost use Rattle.instance.specs.Held.{Sound, problemIn};
 ghost use Rattle.instance.specs.Node.{taskCount};
 ghost use Rattle.schedule.specs.Drawings.{AllowedPlan};
-ghost use Rattle.schedule.specs.Checks.{strayValue, slotsPass, isServed, jobsPass};
+ghost use Rattle.schedule.specs.Checks.{slotsPass, isServed, jobsPass};
 ghost use Rattle.schedule.specs.Outcomes.{checkOutcome, CheckingEnds};
 ghost use Rattle.schedule.specs.HeldJobs.{jobsServed};
+ghost use Rattle.schedule.specs.HeldSlots.{isStray, slotsNamed};
 ghost use Rattle.schedule.specs.Tables.{tableSize};
 
 // Whether a slot of core k, counted from 0, is not 0 and names no task that is kept there.
-fn is_stray(inst: Instance, plan: &[u32], k: usize, slot: u8) -> bool
-    requires { ⌜ Sound inst ⌝ }
-    ensures { λ r. ⌜ r ≡ strayValue (problemIn inst) (now (plan .entry)) k slot ⌝ }
+fn is_stray(plan: &[u32], levels: usize, k: usize, slot: Slot) -> bool
+    requires { ⌜ 0 < levels ⌝ }
+    ensures { λ r. ⌜ r ≡ isStray (now (plan .entry)) levels k slot ⌝ }
 {
     if slot == 0 {
         return false;
     }
     let i = slot as usize - 1;
     if i < plan.len() {
-        return !is_kept_on(inst, plan, k, i);
+        let choice = plan[i];
+        return choice == 0 || core_of(choice, levels) != k;
     }
     true
 }
 
 // The test of the slots, where a table has as many as it must: x is the slot that is looked at, k the core that it is of,
-// and next the slot at which the next core's row begins.
-fn slots_named(inst: Instance, plan: &[u32], table: &[u8]) -> Verdict
-    requires { ⌜ Sound inst ⌝ }
-    requires { ⌜ length (now table) ≡ tableSize (problemIn inst) ⌝ }
-    ensures { λ r. ⌜ r ≡ slotsPass (problemIn inst) (now (plan .entry)) (now (table .entry)) ⌝ }
+// and left how many of its core's slots are not yet looked at.
+fn slots_named(plan: &[u32], levels: usize, span: usize, table: &[Slot]) -> Verdict
+    requires { ⌜ 0 < levels ⌝ }
+    requires { ⌜ 0 < span ⌝ }
+    ensures { λ r. ⌜ r ≡ slotsNamed (now (plan .entry)) levels span (now (table .entry)) ⌝ }
 {
-    let span = inst.span as usize;
     let mut k = 0;
-    let mut next = span;
+    let mut left = span;
     let mut x = 0;
     while x < table.len() {
-        if x == next {
+        if left == 0 {
             k += 1;
-            next += span;
+            left = span;
         }
-        if is_stray(inst, plan, k, table[x]) {
+        if is_stray(plan, levels, k, table[x]) {
             return Verdict::Refused(Refusal::GivenTable(x));
         }
+        left -= 1;
         x += 1;
     }
     Verdict::Accepted
 }
 
-fn slots_pass(inst: Instance, plan: &[u32], table: &[u8]) -> Verdict
+fn slots_pass(inst: Instance, plan: &[u32], table: &[Slot]) -> Verdict
     requires { ⌜ Sound inst ⌝ }
     ensures { λ r. ⌜ r ≡ slotsPass (problemIn inst) (now (plan .entry)) (now (table .entry)) ⌝ }
 {
     let size = table_size(inst);
     if table.len() == size {
-        return slots_named(inst, plan, table);
+        return slots_named(plan, inst.levelcount, inst.span as usize, table);
     }
     Verdict::Refused(Refusal::GivenTable(smaller(table.len(), size)))
 }
 
 // How many slots of a part of a row hold a number.
-fn slots_of(part: &[u8], number: u8) -> usize
+fn slots_of(part: &[Slot], number: Slot) -> usize
     ensures { λ r. ⌜ r ≡ count (λ x. eqb (getD (now (part .entry)) x 0) number) (length (now (part .entry))) ⌝ }
 {
     let mut n = 0;
@@ -91,9 +93,9 @@ fn slots_of(part: &[u8], number: u8) -> usize
 
 // Whether each of a task's jobs has as many slots as ticks: `from` is the slot at which the first is released.
 fn jobs_served(
-    table: &[u8],
+    table: &[Slot],
     from: usize,
-    number: u8,
+    number: Slot,
     period: usize,
     jobs: usize,
     ticks: usize,
@@ -114,7 +116,7 @@ fn jobs_served(
 }
 
 // Whether task i is refused, or each of its jobs has as many slots as ticks.
-fn is_served(inst: Instance, plan: &[u32], table: &[u8], i: usize) -> bool
+fn is_served(inst: Instance, plan: &[u32], table: &[Slot], i: usize) -> bool
     requires { ⌜ Sound inst ⌝ }
     requires { ⌜ AllowedPlan (problemIn inst) (now plan) ⌝ }
     requires { ⌜ length (now table) ≡ tableSize (problemIn inst) ⌝ }
@@ -133,7 +135,7 @@ fn is_served(inst: Instance, plan: &[u32], table: &[u8], i: usize) -> bool
 }
 
 // The test of the jobs: none has more or fewer slots than ticks.
-fn jobs_pass(inst: Instance, plan: &[u32], table: &[u8]) -> Verdict
+fn jobs_pass(inst: Instance, plan: &[u32], table: &[Slot]) -> Verdict
     requires { ⌜ Sound inst ⌝ }
     requires { ⌜ AllowedPlan (problemIn inst) (now plan) ⌝ }
     requires { ⌜ length (now table) ≡ tableSize (problemIn inst) ⌝ }
@@ -151,7 +153,7 @@ fn jobs_pass(inst: Instance, plan: &[u32], table: &[u8]) -> Verdict
 
 // Whether a table is one of the plan's for the instance: every kept job has its ticks between release and due tick, and
 // no other slot is taken.
-pub fn check_table(instance: &[u32], plan: &[u32], table: &[u8]) -> Verdict
+pub fn check_table(instance: &[u32], plan: &[u32], table: &[Slot]) -> Verdict
     ensures { λ r. ⌜ r ≡ checkOutcome (now (instance .entry)) (now (plan .entry)) (now (table .entry)) ⌝ }
     ensures promise { λ r. ⌜ CheckingEnds (now (instance .entry)) (now (plan .entry)) (now (table .entry)) r ⌝ }
 {
