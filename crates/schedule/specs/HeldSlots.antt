@@ -1,73 +1,95 @@
 -- The test of a table's slots, from the fields of the struct that holds the problem: of a slot, and along the rows.
-use Prim.Native.Nat.{ℕ, _+_, _*_, _-_, _/_, _≤_, _<_}
-use mathlib.Core.Bool.{true, false, not}
+use Prim.Native.Nat.{ℕ, pred, _+_, _*_, _-_, _/_, _≤_, _<_}
+use mathlib.Core.Bool.{Bool, true, false, cond, not, _&&_}
 use mathlib.Core.List.{List}
-use mathlib.Core.Path.{_≡_, refl, ap}
+use mathlib.Core.Path.{_≡_, refl, sym, ap}
 use native.Mathlib.Nat.{le-mul-of-pos-right, mul-le-mul, mul-le-mul-right}
 use native.Mathlib.Numerals.{sub-one}
 use native.Mathlib.Omega.{arith}
 use lib.Arith.{digits-div}
+use lib.Dec.{ltb, eqb}
 use lib.ListN.{length, getD, List·getD-eq-default}
 use borrow.Author.Tests.{eq-eqb, ne-eqb}
+use Rattle.laws.specs.Search.{first}
 use Rattle.instance.specs.Held.{problemIn, Sound, held-span}
 use Rattle.ranges.specs.Limits.{mostCores, mostSpan}
-use Rattle.instance.specs.Node.{Problem, span}
+use Rattle.instance.specs.Node.{Problem, levelCount, span}
 use Rattle.instance.specs.Valid.{Valid}
 use Rattle.instance.specs.declared.Instance.{Instance}
-use Rattle.schedule.specs.Checks.{strayValue, straySlot}
-use Rattle.schedule.specs.Quantities.{keeps}
+use Rattle.refusals.specs.declared.Refusal.the-variants.{GivenTable}
+use Rattle.refusals.specs.declared.Verdict.{Verdict}
+use Rattle.refusals.specs.declared.Verdict.the-variants.{Accepted, Refused}
+use Rattle.schedule.specs.Checks.{strayValue, straySlot, slotsPass}
+use Rattle.schedule.specs.Quantities.{choiceAt, isRefused, keeps}
 use Rattle.schedule.specs.Tables.{tableSize}
 
-module _ (p : Problem) (plan : List ℕ) (k slot : ℕ) where
-  pub idle-slot-is-not-stray : slot ≡ 0 → false ≡ strayValue p plan k slot
-  unfolding strayValue
+-- the test of a slot of core k, by the count of the levels
+unfoldable pub isStray : List ℕ → (levels k slot : ℕ) → Bool
+isStray plan levels k slot = not (eqb slot 0) && not (not (isRefused plan (pred slot)) && eqb (pred (choiceAt plan (pred slot)) / levels) k)
+
+-- the test of a table's slots, by the count of the levels and the length of a row
+unfoldable pub slotsNamed : List ℕ → (levels w : ℕ) → List ℕ → Verdict
+slotsNamed plan levels w table =
+    let x = first (λ x. isStray plan levels (x / w) (getD table x 0)) (length table) in
+    cond (ltb x (length table)) (Refused (GivenTable x)) Accepted
+
+pub slots-named-pass : (p : Problem) (plan table : List ℕ) (levels w : ℕ) → levels ≡ levelCount p → w ≡ span p → length table ≡ tableSize p →
+    slotsNamed plan levels w table ≡ slotsPass p plan table
+unfolding slotsNamed isStray slotsPass straySlot strayValue keeps
+slots-named-pass p plan table levels w many wide whole = rw (many, wide, whole, eq-eqb (tableSize p) (tableSize p) refl) refl
+
+module _ (plan : List ℕ) (levels k slot : ℕ) where
+  pub idle-slot-is-not-stray : slot ≡ 0 → false ≡ isStray plan levels k slot
+  unfolding isStray
   idle-slot-is-not-stray idle = rw (eq-eqb slot 0 idle) refl
 
-  pub slot-is-stray-unless-kept : (slot ≡ 0 → ⊥) → not (keeps p plan k (slot - 1)) ≡ strayValue p plan k slot
-  unfolding strayValue
-  slot-is-stray-unless-kept busy = rw (ne-eqb slot 0 busy, sub-one) refl
+  module _ (busy : slot ≡ 0 → ⊥) where
+    pub slot-past-tasks-is-stray : length plan ≤ slot - 1 → true ≡ isStray plan levels k slot
+    unfolding isStray
+    slot-past-tasks-is-stray past =
+        rw (ne-eqb slot 0 busy, ← sub-one slot, List·getD-eq-default plan 0 {n = slot - 1} past) refl
 
-  pub slot-past-tasks-is-stray : (slot ≡ 0 → ⊥) → length plan ≤ slot - 1 → true ≡ strayValue p plan k slot
-  unfolding strayValue keeps
-  slot-past-tasks-is-stray busy past =
-      rw (ne-eqb slot 0 busy, ← sub-one slot, List·getD-eq-default plan 0 {n = slot - 1} past) refl
+    pub refused-slot-is-stray : choiceAt plan (slot - 1) ≡ 0 → true ≡ isStray plan levels k slot
+    unfolding isStray
+    refused-slot-is-stray refused = rw (ne-eqb slot 0 busy, ← sub-one slot, refused) refl
+
+    pub slot-is-stray-on-other-core : (choiceAt plan (slot - 1) ≡ 0 → ⊥) →
+        not (eqb (pred (choiceAt plan (slot - 1)) / levels) k) ≡ isStray plan levels k slot
+    unfolding isStray
+    slot-is-stray-on-other-core kept = rw (ne-eqb slot 0 busy, ← sub-one slot, ne-eqb (choiceAt plan (slot - 1)) 0 kept) refl
 
 pub row-within-table : (p : Problem) (w n k : ℕ) → w ≡ span p → tableSize p ≤ n → k < p .cores → k * w + w ≤ n
 row-within-table p w n k wide room h = let whole : p .cores * w ≤ n = rw wide room in omega (arith, mul-le-mul-right w h)
 
--- a walk over rows of w slots stands at slot x: in core k's row, which ends before the slot `next`, or at its end
-pub record AtSlot (w k next x : ℕ) : Type 0 where
-  pub row-end : next ≡ k * w + w
-  pub from : k * w ≤ x
-  pub to : x ≤ next
+-- a walk over rows of w slots stands at slot x: in core k's row, of which so many slots are left
+pub record AtSlot (w k left x : ℕ) : Type 0 where
+  pub row-end : k * w + w ≡ x + left
+  pub at-most : left ≤ w
 
-pub record InRow (w k next x : ℕ) : Type 0 where
-  pub row-end : next ≡ k * w + w
-  pub from : k * w ≤ x
-  pub below : x < next
+pub record InRow (w k left x : ℕ) : Type 0 where
+  pub row-end : k * w + w ≡ x + left
+  pub at-most : left ≤ w
+  pub some : 0 < left
 
-module _ {w k next x : ℕ} where
-  pub core-at-most : 0 < w → AtSlot w k next x → k ≤ x
-  core-at-most some at = omega (arith, le-mul-of-pos-right k some, at .from)
+module _ {w k left x : ℕ} where
+  pub core-at-most : 0 < w → AtSlot w k left x → k ≤ x
+  core-at-most wide at = omega (arith, le-mul-of-pos-right k wide, at .row-end, at .at-most)
 
-  pub row-goes-on : AtSlot w k next x → (x ≡ next → ⊥) → InRow w k next x
-  row-goes-on at differs = record { row-end = at .row-end; from = at .from; below = omega (arith, at .to) }
+  pub row-goes-on : AtSlot w k left x → (left ≡ 0 → ⊥) → InRow w k left x
+  row-goes-on at more = record { row-end = at .row-end; at-most = at .at-most; some = omega (arith, more) }
 
-  pub next-row-begins : 0 < w → AtSlot w k next x → x ≡ next → InRow w (k + 1) (next + w) x
-  next-row-begins some at same =
-      record { row-end = omega (arith, at .row-end); from = omega (arith, at .row-end); below = omega arith }
+  pub next-row-begins : 0 < w → AtSlot w k left x → left ≡ 0 → InRow w (k + 1) w x
+  next-row-begins wide at none = record { row-end = omega (arith, at .row-end); at-most = omega arith; some = wide }
 
-  pub slot-passed : InRow w k next x → AtSlot w k next (x + 1)
-  slot-passed at = record { row-end = at .row-end; from = omega (arith, at .from); to = omega (arith, at .below) }
+  pub slot-passed : InRow w k left x → AtSlot w k (left - 1) (x + 1)
+  slot-passed at = record { row-end = omega (arith, at .row-end, at .some); at-most = omega (arith, at .at-most) }
 
   -- the row that a slot is in is its core's
-  pub slot-of-core : (p : Problem) (plan table : List ℕ) → w ≡ span p → InRow w k next x →
-      strayValue p plan k (getD table x 0) ≡ straySlot p plan table x
-  unfolding straySlot
-  slot-of-core p plan table wide at =
-      let split : k * w + (x - k * w) ≡ x = omega (arith, at .from) in
-      let core : (k * w + (x - k * w)) / w ≡ k = digits-div k (omega (arith, at .from, at .below, at .row-end)) in
-      rw (← wide, rw split at core) refl
+  pub slot-of-core : InRow w k left x → k ≡ x / w
+  slot-of-core at =
+      let split : k * w + (x - k * w) ≡ x = omega (arith, at .row-end, at .at-most) in
+      let core : (k * w + (x - k * w)) / w ≡ k = digits-div k (omega (arith, at .row-end, at .at-most, at .some)) in
+      sym (rw split at core)
 
 pub table-size-at-most : (p : Problem) → Valid p → tableSize p ≤ mostCores * mostSpan
 table-size-at-most p v = mul-le-mul (v .cores .at-most) (v .span-at-most)

@@ -2,80 +2,79 @@
 use crate::plan::choices_pass;
 use crate::plan::smaller;
 use crate::quantities::core_of;
-use crate::quantities::is_kept_on;
-use crate::quantities::job_ticks;
-use crate::quantities::jobs_in;
-use crate::quantities::task_of;
+use crate::quantities::ticks_of;
 use crate::table::table_size;
+use dispatch::Slot;
 use instance::Instance;
 use instance::read_instance;
 use refusals::Refusal;
 use refusals::Verdict;
 ghost use mathlib.Core.Path.{_≡_};
-ghost use Prim.Native.Nat.{_+_, _*_, _≤_, _<_};
+ghost use Prim.Native.Nat.{pred, _+_, _*_, _/_, _%_, _≤_, _<_};
 ghost use lib.Dec.{eqb};
 ghost use lib.ListN.{length, getD};
 ghost use Rattle.laws.specs.Search.{count};
 ghost use Rattle.instance.specs.Held.{Sound, problemIn};
-ghost use Rattle.instance.specs.Node.{taskCount};
 ghost use Rattle.schedule.specs.Drawings.{AllowedPlan};
-ghost use Rattle.schedule.specs.Checks.{strayValue, slotsPass, isServed, jobsPass};
+ghost use Rattle.schedule.specs.Checks.{slotsPass, jobsPass};
 ghost use Rattle.schedule.specs.Outcomes.{checkOutcome, CheckingEnds};
-ghost use Rattle.schedule.specs.HeldJobs.{jobsServed};
+ghost use Rattle.schedule.specs.HeldJobs.{jobsServed, taskServed};
+ghost use Rattle.schedule.specs.HeldSlots.{isStray, slotsNamed};
 ghost use Rattle.schedule.specs.Tables.{tableSize};
 
 // Whether a slot of core k, counted from 0, is not 0 and names no task that is kept there.
-fn is_stray(inst: Instance, plan: &[u32], k: usize, slot: u8) -> bool
-    requires { ⌜ Sound inst ⌝ }
-    ensures { λ r. ⌜ r ≡ strayValue (problemIn inst) (now (plan .entry)) k slot ⌝ }
+fn is_stray(plan: &[u32], levels: usize, k: usize, slot: Slot) -> bool
+    requires { ⌜ 0 < levels ⌝ }
+    ensures { λ r. ⌜ r ≡ isStray (now (plan .entry)) levels k slot ⌝ }
 {
     if slot == 0 {
         return false;
     }
     let i = slot as usize - 1;
     if i < plan.len() {
-        return !is_kept_on(inst, plan, k, i);
+        let choice = plan[i];
+        return choice == 0 || core_of(choice, levels) != k;
     }
     true
 }
 
 // The test of the slots, where a table has as many as it must: x is the slot that is looked at, k the core that it is of,
-// and next the slot at which the next core's row begins.
-fn slots_named(inst: Instance, plan: &[u32], table: &[u8]) -> Verdict
-    requires { ⌜ Sound inst ⌝ }
-    requires { ⌜ length (now table) ≡ tableSize (problemIn inst) ⌝ }
-    ensures { λ r. ⌜ r ≡ slotsPass (problemIn inst) (now (plan .entry)) (now (table .entry)) ⌝ }
+// and left how many of its core's slots are not yet looked at.
+fn slots_named(plan: &[u32], levels: usize, span: usize, table: &[Slot]) -> Verdict
+    requires { ⌜ 0 < levels ⌝ }
+    requires { ⌜ 0 < span ⌝ }
+    ensures { λ r. ⌜ r ≡ slotsNamed (now (plan .entry)) levels span (now (table .entry)) ⌝ }
 {
-    let span = inst.span as usize;
     let mut k = 0;
-    let mut next = span;
+    let mut left = span;
     let mut x = 0;
     while x < table.len() {
-        if x == next {
+        if left == 0 {
             k += 1;
-            next += span;
+            left = span;
         }
-        if is_stray(inst, plan, k, table[x]) {
+        if is_stray(plan, levels, k, table[x]) {
             return Verdict::Refused(Refusal::GivenTable(x));
         }
+        left -= 1;
         x += 1;
     }
     Verdict::Accepted
 }
 
-fn slots_pass(inst: Instance, plan: &[u32], table: &[u8]) -> Verdict
+fn slots_pass(inst: Instance, plan: &[u32], table: &[Slot]) -> Verdict
     requires { ⌜ Sound inst ⌝ }
     ensures { λ r. ⌜ r ≡ slotsPass (problemIn inst) (now (plan .entry)) (now (table .entry)) ⌝ }
 {
     let size = table_size(inst);
     if table.len() == size {
-        return slots_named(inst, plan, table);
+        return slots_named(plan, inst.levelcount, inst.span as usize, table);
     }
     Verdict::Refused(Refusal::GivenTable(smaller(table.len(), size)))
 }
 
 // How many slots of a part of a row hold a number.
-fn slots_of(part: &[u8], number: u8) -> usize
+fn slots_of(part: &[Slot], number: Slot) -> usize
     ensures { λ r. ⌜ r ≡ count (λ x. eqb (getD (now (part .entry)) x 0) number) (length (now (part .entry))) ⌝ }
 {
     let mut n = 0;
@@ -89,22 +88,24 @@ fn slots_of(part: &[u8], number: u8) -> usize
     n
 }
 
-// Whether each of a task's jobs has as many slots as ticks: `from` is the slot at which the first is released.
+// Whether each of a task's jobs has as many slots as ticks in its window: `from` is the slot at which the first is released.
 fn jobs_served(
-    table: &[u8],
+    table: &[Slot],
     from: usize,
-    number: u8,
+    number: Slot,
     period: usize,
+    window: usize,
     jobs: usize,
     ticks: usize,
 ) -> bool
+    requires { ⌜ window ≤ period ⌝ }
     requires { ⌜ from + jobs * period ≤ length (now table) ⌝ }
-    ensures { λ r. ⌜ r ≡ jobsServed (now (table .entry)) from number period jobs ticks ⌝ }
+    ensures { λ r. ⌜ r ≡ jobsServed (now (table .entry)) from number period window jobs ticks ⌝ }
 {
     let mut j = 0;
     while j < jobs {
         let release = from + j * period;
-        let due = release + period;
+        let due = release + window;
         if slots_of(&table[release..due], number) != ticks {
             return false;
         }
@@ -113,36 +114,71 @@ fn jobs_served(
     true
 }
 
-// Whether task i is refused, or each of its jobs has as many slots as ticks.
-fn is_served(inst: Instance, plan: &[u32], table: &[u8], i: usize) -> bool
-    requires { ⌜ Sound inst ⌝ }
-    requires { ⌜ AllowedPlan (problemIn inst) (now plan) ⌝ }
-    requires { ⌜ length (now table) ≡ tableSize (problemIn inst) ⌝ }
-    requires { ⌜ i < taskCount (problemIn inst) ⌝ }
-    ensures { λ r. ⌜ r ≡ isServed (problemIn inst) (now (plan .entry)) (now (table .entry)) i ⌝ }
+// Whether a task is refused, or each of its jobs has as many slots as ticks in its window.
+fn is_served(
+    table: &[Slot],
+    span: usize,
+    levels: usize,
+    number: Slot,
+    choice: u32,
+    period: usize,
+    window: usize,
+    ticks: usize,
+) -> bool
+    requires { ⌜ 0 < levels ⌝ }
+    requires { ⌜ 0 < period ⌝ }
+    requires { ⌜ window ≤ period ⌝ }
+    requires { ⌜ pred choice / levels * span + span ≤ length (now table) ⌝ }
+    ensures { λ r. ⌜ r ≡ taskServed (now (table .entry)) span levels number choice period window ticks ⌝ }
 {
-    let choice = plan[i];
     if choice == 0 {
         return true;
     }
-    let task = task_of(inst, i);
-    let from = core_of(choice, inst.levelcount) * inst.span as usize;
-    let jobs = jobs_in(inst.span, task.period) as usize;
-    let ticks = job_ticks(inst, plan, i) as usize;
-    jobs_served(table, from, i as u8 + 1, task.period as usize, jobs, ticks)
+    let from = core_of(choice, levels) * span;
+    let jobs = span / period;
+    jobs_served(table, from, number, period, window, jobs, ticks)
+}
+
+// The level that a choice names, counted from 0.
+fn level_of(choice: u32, levels: usize) -> usize
+    requires { ⌜ 0 < levels ⌝ }
+    ensures { λ r. ⌜ r ≡ pred choice % levels ⌝ }
+{
+    if choice == 0 {
+        return 0;
+    }
+    (choice - 1) as usize % levels
 }
 
 // The test of the jobs: none has more or fewer slots than ticks.
-fn jobs_pass(inst: Instance, plan: &[u32], table: &[u8]) -> Verdict
+fn jobs_pass(inst: Instance, plan: &[u32], table: &[Slot]) -> Verdict
     requires { ⌜ Sound inst ⌝ }
     requires { ⌜ AllowedPlan (problemIn inst) (now plan) ⌝ }
     requires { ⌜ length (now table) ≡ tableSize (problemIn inst) ⌝ }
     ensures { λ r. ⌜ r ≡ jobsPass (problemIn inst) (now (plan .entry)) (now (table .entry)) ⌝ }
 {
+    let levels = inst.levelcount;
+    let span = inst.span as usize;
     let mut i = 0;
     while i < inst.taskcount {
-        if !is_served(inst, plan, table, i) {
-            return Verdict::Refused(Refusal::JobSlots(i + 1));
+        let number = i + 1;
+        let choice = plan[i];
+        let task = inst.tasks[i];
+        let level = inst.levels[level_of(choice, levels)];
+        let period = task.period as usize;
+        let window = period;
+        let ticks = ticks_of(task.cycles, level.speed) as usize;
+        if !is_served(
+            table,
+            span,
+            levels,
+            number as Slot,
+            choice,
+            period,
+            window,
+            ticks,
+        ) {
+            return Verdict::Refused(Refusal::JobSlots(number));
         }
         i += 1;
     }
@@ -151,7 +187,7 @@ fn jobs_pass(inst: Instance, plan: &[u32], table: &[u8]) -> Verdict
 
 // Whether a table is one of the plan's for the instance: every kept job has its ticks between release and due tick, and
 // no other slot is taken.
-pub fn check_table(instance: &[u32], plan: &[u32], table: &[u8]) -> Verdict
+pub fn check_table(instance: &[u32], plan: &[u32], table: &[Slot]) -> Verdict
     ensures { λ r. ⌜ r ≡ checkOutcome (now (instance .entry)) (now (plan .entry)) (now (table .entry)) ⌝ }
     ensures promise { λ r. ⌜ CheckingEnds (now (instance .entry)) (now (plan .entry)) (now (table .entry)) r ⌝ }
 {

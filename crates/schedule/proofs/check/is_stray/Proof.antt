@@ -1,7 +1,10 @@
+use Prim.Native.Nat.{ℕ}
 use mathlib.Core.Bool.{not}
 use mathlib.Core.Path.{ap, _∙_}
+use lib.Dec.{eqb}
 use borrow.Author.Needs.{needs}
-use Rattle.schedule.specs.HeldSlots.{idle-slot-is-not-stray, slot-is-stray-unless-kept, slot-past-tasks-is-stray}
+use borrow.Author.Tests.{eq-eqb}
+use Rattle.schedule.specs.HeldSlots.{idle-slot-is-not-stray, refused-slot-is-stray, slot-is-stray-on-other-core, slot-past-tasks-is-stray}
 use Rattle.schedule.proofs.check.is_stray.Statement.{statement}
 use Rattle.schedule.proofs.check.is_stray.Tie as tie
 
@@ -11,14 +14,35 @@ returns c = idle-slot-is-not-stray _ _ _ _ (c .if1 .taken)
 sub-i : tie.Need-sub-i
 sub-i c = search needs
 
-is-kept-on-requires : tie.Need-is-kept-on-requires
-is-kept-on-requires c κs = search needs
+mul-choice : tie.Need-mul-choice
+mul-choice c = search needs
+
+shared-slice-read-choice : tie.Need-shared-slice-read-choice
+shared-slice-read-choice c = search needs
+
+core-of-requires : tie.Need-core-of-requires
+core-of-requires c κs = search needs
 
 returns-2 : tie.Need-returns-2
-returns-2 c = ap not (c .is-kept-on .ensures) ∙ slot-is-stray-unless-kept _ _ _ _ (c .before .before .if1 .left)
+returns-2 c = eq-eqb _ _ (c .if3 .taken) ∙ refused-slot-is-stray _ _ _ _ (c .before .before .before .if1 .left) (c .if3 .taken)
 
 returns-3 : tie.Need-returns-3
-returns-3 c = slot-past-tasks-is-stray _ _ _ _ (c .before .if1 .left) (c .if2 .left)
+returns-3 c = let start = c .before .before .before .before .before .before in
+    ap (λ (core : ℕ). not (eqb core (start .args .k))) (c .core-of .ensures)
+    ∙ slot-is-stray-on-other-core _ _ _ _ (c .before .before .before .before .if1 .left) (c .before .if3 .left)
+
+returns-4 : tie.Need-returns-4
+returns-4 c = slot-past-tasks-is-stray _ _ _ _ (c .before .if1 .left) (c .if2 .left)
 
 pub is-stray-spec : {M : Type 1} → statement M
-is-stray-spec = tie.close (tie.spec returns sub-i is-kept-on-requires returns-2 returns-3)
+is-stray-spec =
+    tie.close
+    (tie.spec
+    returns
+    sub-i
+    mul-choice
+    shared-slice-read-choice
+    core-of-requires
+    returns-2
+    returns-3
+    returns-4)

@@ -15,19 +15,19 @@ use Rattle.schedule.proofs.check.jobs_served.Statement.{statement}
 use Rattle.schedule.proofs.check.jobs_served.Tie as tie
 
 abbrev Inv-loop : tie.InvT-loop
-Inv-loop table from number period jobs ticks j₀ j =
-    (j ≤ jobs) × ((x : ℕ) → x < j → count (λ y. eqb (getD table (from + (x * period + y)) 0) number) period ≡ ticks)
+Inv-loop table from number period window jobs ticks j₀ j =
+    (j ≤ jobs) × ((x : ℕ) → x < j → count (λ y. eqb (getD table (from + (x * period + y)) 0) number) window ≡ ticks)
 
 abbrev μ-loop : tie.MeasureT-loop
-μ-loop table from number period jobs ticks j₀ j = jobs - j
+μ-loop table from number period window jobs ticks j₀ j = jobs - j
 
-job-fits : (c : tie.In-loop Inv-loop μ-loop) → let a = c .before .before .before .args in (a .from + c .before .loop .j * a .period) + a .period ≤ length (a .table .now)
+job-fits : (c : tie.In-loop Inv-loop μ-loop) → let a = c .before .before .before .args in (a .from + c .before .loop .j * a .period) + a .window ≤ length (a .table .now)
 job-fits c = let start = c .before .before .before in
-    job-within (start .args .table .now) (start .args .from) (start .args .number) (start .args .period) _ _ (start .pre) (c .loop-test .taken)
+    job-within (start .args .table .now) (start .args .from) (start .args .number) (start .args .period) (start .args .window) _ _ (start .pre .0) (start .pre .1) (c .loop-test .taken)
 
 counted : (c : tie.After-slots-of Inv-loop μ-loop) → let a = c .before .before .before .before .before .args in
-    c .slots-of .result ≡ count (λ y. eqb (getD (a .table .now) (a .from + (c .before .before .before .loop .j * a .period + y)) 0) (a .number)) (a .period)
-counted c = let a = c .before .before .before .before .before .args in c .slots-of .ensures ∙ counted-in-job (a .table .now) (a .from) (a .number) (a .period) _ (job-fits (c .before .before))
+    c .slots-of .result ≡ count (λ y. eqb (getD (a .table .now) (a .from + (c .before .before .before .loop .j * a .period + y)) 0) (a .number)) (a .window)
+counted c = let a = c .before .before .before .before .before .args in c .slots-of .ensures ∙ counted-in-job (a .table .now) (a .from) (a .number) (a .period) (a .window) _ (job-fits (c .before .before))
 
 loop-holds : tie.Need-loop-holds Inv-loop μ-loop
 loop-holds c = (omega arith, below-none _)

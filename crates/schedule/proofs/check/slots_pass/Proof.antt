@@ -1,6 +1,12 @@
+use mathlib.Core.Path.{_∙_}
+use native.Mathlib.Omega.{arith}
 use borrow.Author.Needs.{needs}
+use Rattle.instance.specs.Held.{held-levelcount, held-span}
+use Rattle.instance.specs.SpanLaws.{span-above-zero}
 use Rattle.refusals.specs.declared.Refusal.the-variants.{GivenTable}
 use Rattle.schedule.specs.Checks.{slotsPass}
+use Rattle.schedule.specs.HeldQuantities.{level-count-above-zero}
+use Rattle.schedule.specs.HeldSlots.{slots-named-pass}
 use Rattle.schedule.specs.VerdictLaws.{other-length-is-refused}
 use Rattle.schedule.proofs.check.slots_pass.Statement.{statement}
 use Rattle.schedule.proofs.check.slots_pass.Tie as tie
@@ -8,11 +14,17 @@ use Rattle.schedule.proofs.check.slots_pass.Tie as tie
 table-size-requires : tie.Need-table-size-requires
 table-size-requires c κs = search needs
 
+cast-slots-named : tie.Need-cast-slots-named
+cast-slots-named c = search needs
+
 slots-named-requires : tie.Need-slots-named-requires
-slots-named-requires c κs = search needs
+slots-named-requires c κs = let s = c .before .before .before .before .before .pre in
+    (level-count-above-zero _ s, omega (arith, held-span _ s, span-above-zero (s .valid)))
 
 returns : tie.Need-returns
-returns c = search needs
+returns c = let s = c .before .before .before .before .before .before .pre in
+    c .slots-named .ensures
+    ∙ slots-named-pass _ _ _ _ _ (held-levelcount _ s) (held-span _ s) (c .before .before .if1 .taken ∙ c .before .before .before .table-size .ensures)
 
 smaller-requires : tie.Need-smaller-requires
 smaller-requires c κs = search needs
@@ -25,4 +37,4 @@ returns-2 c = rw (c .smaller .ensures)
 pub slots-pass-spec : {M : Type 1} → statement M
 slots-pass-spec =
     tie.close
-    (tie.spec table-size-requires slots-named-requires returns smaller-requires returns-2)
+    (tie.spec table-size-requires cast-slots-named slots-named-requires returns smaller-requires returns-2)
