@@ -14,7 +14,7 @@ ghost use Rattle.text.specs.TextSteps.{Counted, Writable};
 ghost use Rattle.text.specs.Tokens.{numberFrom, tokenAt};
 ghost use Rattle.text.specs.TokenSteps.{BlanksSkipped};
 
-const MOST_TEXT_BYTES: usize = 4_096;
+const MOST_TEXT_BYTES: usize = ranges::MOST_TEXT_BYTES as usize;
 
 // The largest 32-bit word.
 const MOST_WORD: u64 = 4_294_967_295;
