@@ -119,7 +119,7 @@ ServedJobs p plan table =
     (i j : ℕ) → i < taskCount p → (choiceAt plan i ≡ 0 → ⊥) → j < jobs p i →
     jobSlots p plan table i j ≡ jobTicks p plan i
 
-pub task-is-served : (p : Problem) (plan table : List ℕ) (i : ℕ) → (isServed p plan table i ≡ true) ↔
+task-is-served : (p : Problem) (plan table : List ℕ) (i : ℕ) → (isServed p plan table i ≡ true) ↔
     ((choiceAt plan i ≡ 0 → ⊥) → (j : ℕ) → j < jobs p i → jobSlots p plan table i j ≡ jobTicks p plan i)
 unfolding isServed
 task-is-served p plan table i = (

@@ -1,4 +1,4 @@
--- The count of a job's slots, from the fields of the struct that holds the problem.
+-- The test of a table's jobs by numbers, and these from the fields of the struct that holds the problem.
 use Prim.Native.Nat.{ℕ, pred, _+_, _*_, _-_, _/_, _%_, _≤_, _<_}
 use mathlib.Core.Bool.{Bool, true, _||_}
 use mathlib.Core.List.{List}
@@ -26,7 +26,7 @@ use Rattle.schedule.specs.Quantities.{choiceAt, coreOf, ticks, jobs, job
 use Rattle.schedule.specs.Tables.{window, tableSize, slotAt}
 
 -- a choice of at most M × H names one of the M cores
-pub core-in-range : (p : Problem) → Valid p → (plan : List ℕ) → AllowedPlan p plan → (i : ℕ) → i < taskCount p → coreOf p plan i < p .cores
+core-in-range : (p : Problem) → Valid p → (plan : List ℕ) → AllowedPlan p plan → (i : ℕ) → i < taskCount p → coreOf p plan i < p .cores
 core-in-range p v plan allowed i h =
     let some : p .cores ≤ p .cores * levelCount p = le-mul-of-pos-right (p .cores) (v .level-count .at-least) in
     div-lt-iff-lt-mul (v .level-count .at-least) .1 (omega (arith, allowed .choices-in-range i h, v .cores .at-least))
@@ -58,10 +58,10 @@ module _ (table : List ℕ) (w levels number choice period d t : ℕ) where
   unfolding taskServed
   refused-task-is-served refused = rw (eq-eqb choice 0 refused) refl
 
-  pub kept-task-is-served : (choice ≡ 0 → ⊥) → (from : ℕ) → from ≡ pred choice / levels * w →
+  pub kept-task-is-served-if-its-jobs-are : (choice ≡ 0 → ⊥) → (from : ℕ) → from ≡ pred choice / levels * w →
       jobsServed table from number period d (w / period) t ≡ taskServed table w levels number choice period d t
   unfolding taskServed
-  kept-task-is-served kept from row = rw (ne-eqb choice 0 kept, row) refl
+  kept-task-is-served-if-its-jobs-are kept from row = rw (ne-eqb choice 0 kept, row) refl
 
 pub task-served-is-served : (p : Problem) (plan table : List ℕ) (i : ℕ) {w levels period d t : ℕ} → w ≡ span p → levels ≡ levelCount p →
     period ≡ taskAt p i .period → d ≡ window (taskAt p i) → t ≡ jobTicks p plan i →

@@ -1,4 +1,4 @@
--- The test of a table's slots, from the fields of the struct that holds the problem: of a slot, and along the rows.
+-- The test of a table's slots by numbers: of a slot, and along the rows.
 use Prim.Native.Nat.{ℕ, pred, _+_, _*_, _-_, _/_, _≤_, _<_}
 use mathlib.Core.Bool.{Bool, true, false, cond, not, _&&_}
 use mathlib.Core.List.{List}
@@ -33,10 +33,10 @@ slotsNamed plan levels w table =
     let x = first (λ x. isStray plan levels (x / w) (getD table x 0)) (length table) in
     cond (ltb x (length table)) (Refused (GivenTable x)) Accepted
 
-pub slots-named-pass : (p : Problem) (plan table : List ℕ) (levels w : ℕ) → levels ≡ levelCount p → w ≡ span p → length table ≡ tableSize p →
+pub slots-named-is-slots-pass : (p : Problem) (plan table : List ℕ) (levels w : ℕ) → levels ≡ levelCount p → w ≡ span p → length table ≡ tableSize p →
     slotsNamed plan levels w table ≡ slotsPass p plan table
 unfolding slotsNamed isStray slotsPass straySlot strayValue keeps
-slots-named-pass p plan table levels w many wide whole = rw (many, wide, whole, eq-eqb (tableSize p) (tableSize p) refl) refl
+slots-named-is-slots-pass p plan table levels w many wide whole = rw (many, wide, whole, eq-eqb (tableSize p) (tableSize p) refl) refl
 
 module _ (plan : List ℕ) (levels k slot : ℕ) where
   pub idle-slot-is-not-stray : slot ≡ 0 → false ≡ isStray plan levels k slot
@@ -49,14 +49,14 @@ module _ (plan : List ℕ) (levels k slot : ℕ) where
     slot-past-tasks-is-stray past =
         rw (ne-eqb slot 0 busy, ← sub-one slot, List·getD-eq-default plan 0 {n = slot - 1} past) refl
 
-    pub refused-slot-is-stray : choiceAt plan (slot - 1) ≡ 0 → true ≡ isStray plan levels k slot
+    pub slot-of-refused-task-is-stray : choiceAt plan (slot - 1) ≡ 0 → true ≡ isStray plan levels k slot
     unfolding isStray
-    refused-slot-is-stray refused = rw (ne-eqb slot 0 busy, ← sub-one slot, refused) refl
+    slot-of-refused-task-is-stray refused = rw (ne-eqb slot 0 busy, ← sub-one slot, refused) refl
 
-    pub slot-is-stray-on-other-core : (choiceAt plan (slot - 1) ≡ 0 → ⊥) →
+    pub slot-of-kept-task-is-stray-on-other-cores : (choiceAt plan (slot - 1) ≡ 0 → ⊥) →
         not (eqb (pred (choiceAt plan (slot - 1)) / levels) k) ≡ isStray plan levels k slot
     unfolding isStray
-    slot-is-stray-on-other-core kept = rw (ne-eqb slot 0 busy, ← sub-one slot, ne-eqb (choiceAt plan (slot - 1)) 0 kept) refl
+    slot-of-kept-task-is-stray-on-other-cores kept = rw (ne-eqb slot 0 busy, ← sub-one slot, ne-eqb (choiceAt plan (slot - 1)) 0 kept) refl
 
 pub row-within-table : (p : Problem) (w n k : ℕ) → w ≡ span p → tableSize p ≤ n → k < p .cores → k * w + w ≤ n
 row-within-table p w n k wide room h = let whole : p .cores * w ≤ n = rw wide room in omega (arith, mul-le-mul-right w h)
@@ -67,8 +67,7 @@ pub record AtSlot (w k left x : ℕ) : Type 0 where
   pub at-most : left ≤ w
 
 pub record InRow (w k left x : ℕ) : Type 0 where
-  pub row-end : k * w + w ≡ x + left
-  pub at-most : left ≤ w
+  pub here : AtSlot w k left x
   pub some : 0 < left
 
 module _ {w k left x : ℕ} where
@@ -76,19 +75,19 @@ module _ {w k left x : ℕ} where
   core-at-most wide at = omega (arith, le-mul-of-pos-right k wide, at .row-end, at .at-most)
 
   pub row-goes-on : AtSlot w k left x → (left ≡ 0 → ⊥) → InRow w k left x
-  row-goes-on at more = record { row-end = at .row-end; at-most = at .at-most; some = omega (arith, more) }
+  row-goes-on at more = record { here = at; some = omega (arith, more) }
 
   pub next-row-begins : 0 < w → AtSlot w k left x → left ≡ 0 → InRow w (k + 1) w x
-  next-row-begins wide at none = record { row-end = omega (arith, at .row-end); at-most = omega arith; some = wide }
+  next-row-begins wide at none = record { here = record { row-end = omega (arith, at .row-end); at-most = omega arith }; some = wide }
 
   pub slot-passed : InRow w k left x → AtSlot w k (left - 1) (x + 1)
-  slot-passed at = record { row-end = omega (arith, at .row-end, at .some); at-most = omega (arith, at .at-most) }
+  slot-passed at = record { row-end = omega (arith, at .here .row-end, at .some); at-most = omega (arith, at .here .at-most) }
 
   -- the row that a slot is in is its core's
-  pub slot-of-core : InRow w k left x → k ≡ x / w
-  slot-of-core at =
-      let split : k * w + (x - k * w) ≡ x = omega (arith, at .row-end, at .at-most) in
-      let core : (k * w + (x - k * w)) / w ≡ k = digits-div k (omega (arith, at .row-end, at .at-most, at .some)) in
+  pub core-of-slot : InRow w k left x → k ≡ x / w
+  core-of-slot at =
+      let split : k * w + (x - k * w) ≡ x = omega (arith, at .here .row-end, at .here .at-most) in
+      let core : (k * w + (x - k * w)) / w ≡ k = digits-div k (omega (arith, at .here .row-end, at .here .at-most, at .some)) in
       sym (rw split at core)
 
 pub table-size-at-most : (p : Problem) → Valid p → tableSize p ≤ mostCores * mostSpan

@@ -2,7 +2,7 @@ use Prim.Native.Nat.{ℕ, pred, _*_, _/_}
 use mathlib.Core.Path.{_≡_, ap, _∙_}
 use native.Mathlib.Nat.{div-mul-le-self}
 use native.Mathlib.Omega.{arith}
-use Rattle.schedule.specs.HeldJobs.{kept-task-is-served, refused-task-is-served}
+use Rattle.schedule.specs.HeldJobs.{kept-task-is-served-if-its-jobs-are, refused-task-is-served}
 use borrow.Author.Needs.{needs}
 use Rattle.schedule.proofs.check.is_served.Statement.{statement}
 use Rattle.schedule.proofs.check.is_served.Tie as tie
@@ -27,7 +27,7 @@ jobs-served-requires c κs = let start = c .before .before .before in
     (start .pre .1 .1 .0, omega (arith, row-begins c, start .pre .1 .1 .1, div-mul-le-self (start .args .span) (start .args .period)))
 
 returns-2 : tie.Need-returns-2
-returns-2 c = c .jobs-served .ensures ∙ kept-task-is-served _ _ _ _ _ _ _ _ (c .before .before .if1 .left) _ (row-begins (c .before))
+returns-2 c = c .jobs-served .ensures ∙ kept-task-is-served-if-its-jobs-are _ _ _ _ _ _ _ _ (c .before .before .if1 .left) _ (row-begins (c .before))
 
 pub is-served-spec : {M : Type 1} → statement M
 is-served-spec = tie.close (tie.spec returns core-of-requires mul-from div-jobs jobs-served-requires returns-2)

@@ -4,7 +4,7 @@ use mathlib.Core.Path.{ap, _∙_}
 use lib.Dec.{eqb}
 use borrow.Author.Needs.{needs}
 use borrow.Author.Tests.{eq-eqb}
-use Rattle.schedule.specs.HeldSlots.{idle-slot-is-not-stray, refused-slot-is-stray, slot-is-stray-on-other-core, slot-past-tasks-is-stray}
+use Rattle.schedule.specs.HeldSlots.{idle-slot-is-not-stray, slot-of-refused-task-is-stray, slot-of-kept-task-is-stray-on-other-cores, slot-past-tasks-is-stray}
 use Rattle.schedule.proofs.check.is_stray.Statement.{statement}
 use Rattle.schedule.proofs.check.is_stray.Tie as tie
 
@@ -24,12 +24,12 @@ core-of-requires : tie.Need-core-of-requires
 core-of-requires c κs = search needs
 
 returns-2 : tie.Need-returns-2
-returns-2 c = eq-eqb _ _ (c .if3 .taken) ∙ refused-slot-is-stray _ _ _ _ (c .before .before .before .if1 .left) (c .if3 .taken)
+returns-2 c = eq-eqb _ _ (c .if3 .taken) ∙ slot-of-refused-task-is-stray _ _ _ _ (c .before .before .before .if1 .left) (c .if3 .taken)
 
 returns-3 : tie.Need-returns-3
 returns-3 c = let start = c .before .before .before .before .before .before in
     ap (λ (core : ℕ). not (eqb core (start .args .k))) (c .core-of .ensures)
-    ∙ slot-is-stray-on-other-core _ _ _ _ (c .before .before .before .before .if1 .left) (c .before .if3 .left)
+    ∙ slot-of-kept-task-is-stray-on-other-cores _ _ _ _ (c .before .before .before .before .if1 .left) (c .before .if3 .left)
 
 returns-4 : tie.Need-returns-4
 returns-4 c = slot-past-tasks-is-stray _ _ _ _ (c .before .if1 .left) (c .if2 .left)

@@ -10,7 +10,7 @@ use borrow.Author.Count.{below-none, below-more}
 use Rattle.laws.specs.FirstLaws.{first-unique}
 use Rattle.laws.specs.SearchFacts.{first-of-none}
 use Rattle.refusals.specs.declared.Refusal.the-variants.{GivenTable}
-use Rattle.schedule.specs.HeldSlots.{AtSlot, InRow, isStray, slotsNamed, core-at-most, row-goes-on, next-row-begins, slot-passed, slot-of-core}
+use Rattle.schedule.specs.HeldSlots.{AtSlot, InRow, isStray, slotsNamed, core-at-most, row-goes-on, next-row-begins, slot-passed, core-of-slot}
 use Rattle.schedule.specs.VerdictLaws.{found-is-refused, none-found-passes}
 use borrow.Author.Needs.{needs}
 use Rattle.schedule.proofs.check.slots_named.Statement.{statement}
@@ -32,7 +32,7 @@ in-row c = let start = c .before .before .before .before .before in
 
 tested : (c : tie.After-is-stray Inv-loop μ-loop) → let start = c .before .before .before .before .before .before .before in let x = c .before .before .before .before .loop .x in
     isStray (start .args .plan .now) (start .args .levels) (x / start .args .span) (getD (start .args .table .now) x 0) ≡ c .is-stray .result
-tested c = rw (← slot-of-core (in-row (c .before .before))) (sym (c .is-stray .ensures))
+tested c = rw (← core-of-slot (in-row (c .before .before))) (sym (c .is-stray .ensures))
 
 loop-holds : tie.Need-loop-holds Inv-loop μ-loop
 loop-holds c = (record { row-end = omega arith; at-most = omega arith }, omega arith, below-none _)

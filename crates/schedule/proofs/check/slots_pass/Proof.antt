@@ -6,7 +6,7 @@ use Rattle.instance.specs.SpanLaws.{span-above-zero}
 use Rattle.refusals.specs.declared.Refusal.the-variants.{GivenTable}
 use Rattle.schedule.specs.Checks.{slotsPass}
 use Rattle.schedule.specs.HeldQuantities.{level-count-above-zero}
-use Rattle.schedule.specs.HeldSlots.{slots-named-pass}
+use Rattle.schedule.specs.HeldSlots.{slots-named-is-slots-pass}
 use Rattle.schedule.specs.VerdictLaws.{other-length-is-refused}
 use Rattle.schedule.proofs.check.slots_pass.Statement.{statement}
 use Rattle.schedule.proofs.check.slots_pass.Tie as tie
@@ -24,7 +24,7 @@ slots-named-requires c κs = let s = c .before .before .before .before .before .
 returns : tie.Need-returns
 returns c = let s = c .before .before .before .before .before .before .pre in
     c .slots-named .ensures
-    ∙ slots-named-pass _ _ _ _ _ (held-levelcount _ s) (held-span _ s) (c .before .before .if1 .taken ∙ c .before .before .before .table-size .ensures)
+    ∙ slots-named-is-slots-pass _ _ _ _ _ (held-levelcount _ s) (held-span _ s) (c .before .before .if1 .taken ∙ c .before .before .before .table-size .ensures)
 
 smaller-requires : tie.Need-smaller-requires
 smaller-requires c κs = search needs
