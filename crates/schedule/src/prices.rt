@@ -74,7 +74,7 @@ fn all_penalty(inst: Instance, plan: &[u32]) -> u64
 }
 
 // The price of a plan that passes.
-pub(crate) fn price_of(inst: Instance, plan: &[u32]) -> Price
+pub fn price_of(inst: Instance, plan: &[u32]) -> Price
     requires { ⌜ Sound inst ⌝ }
     requires { ⌜ planPasses (problemIn inst) (now plan) ≡ Accepted ⌝ }
     ensures { λ r. ⌜ r ≡ priceOf (problemIn inst) (now (plan .entry)) ⌝ }

@@ -114,7 +114,7 @@ fn fill_core(inst: Instance, plan: &[u32], k: usize, slots: &mut [Slot])
 }
 
 // The slots of a table.
-pub(crate) fn table_size(inst: Instance) -> usize
+pub fn table_size(inst: Instance) -> usize
     requires { ⌜ Sound inst ⌝ }
     ensures { λ r. ⌜ r ≡ tableSize (problemIn inst) ⌝ }
 {
@@ -122,7 +122,7 @@ pub(crate) fn table_size(inst: Instance) -> usize
 }
 
 // Writes the rows of all cores, one after another, to the front of the table.
-fn fill_table(inst: Instance, plan: &[u32], table: &mut [Slot])
+pub fn fill_table(inst: Instance, plan: &[u32], table: &mut [Slot])
     requires { ⌜ Sound inst ⌝ }
     requires { ⌜ length (now plan) ≡ taskCount (problemIn inst) ⌝ }
     requires { ⌜ tableSize (problemIn inst) ≤ length (now table) ⌝ }
