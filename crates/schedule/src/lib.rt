@@ -1,5 +1,6 @@
 // What a plan costs, the slot table that it gives, and the check of a table.
 mod check;
+mod columns;
 mod plan;
 mod prices;
 mod pricing;

@@ -1,90 +1,140 @@
-use Prim.Native.Nat.{_+_, _*_, _-_, _≤_}
+use Prim.Native.Nat.{_+_, _*_, _-_, _≤_, _<_}
 use mathlib.Core.Path.{_≡_, refl, ap, ap₂, _∙_}
 use native.Mathlib.Numerals.{add-one}
 use native.Mathlib.Omega.{arith}
+use borrow.Author.Needs.{needs}
+use lib.ListN.{getD}
 use Rattle.laws.specs.SumBounds.{sum-and-next-at-most}
 use Rattle.laws.specs.Sums.{sum}
-use Rattle.instance.specs.Held.{problemIn, held-taskcount}
-use Rattle.instance.specs.Node.{taskCount}
-use Rattle.instance.specs.declared.Level.{Level}
-use Rattle.schedule.specs.PriceBounds.{energyOn, mostEnergyOn, energyOn-at-most}
-use Rattle.schedule.specs.Quantities.{coreEnergy}
-use borrow.Author.Needs.{needs}
+use Rattle.instance.specs.Held.{problemIn, held-span}
+use Rattle.ranges.specs.Limits.{mostTasks}
+use Rattle.schedule.specs.KeptColumns.{placeOf}
+use Rattle.schedule.specs.KeptRowLaws.{is-task}
+use Rattle.schedule.specs.KeptSumLaws.{energy-over-kept, energy-in-columns, load-in-columns}
+use Rattle.schedule.specs.PriceBounds.{energyOn, mostEnergyOn, power-at-most, energyOn-at-most}
+use Rattle.schedule.specs.QuantityBounds.{loadOn-at-most}
+use Rattle.schedule.specs.Quantities.{loadOn}
 use Rattle.schedule.proofs.prices.core_energy.Statement.{statement}
 use Rattle.schedule.proofs.prices.core_energy.Tie as tie
 
 abbrev Inv-loop : tie.InvT-loop
-Inv-loop inst plan k energy₀ i₀ energy i = (i ≤ inst .taskcount) × (energy ≡ sum (energyOn (problemIn inst) plan k) i)
+Inv-loop inst plan k kept energy₀ j₀ energy j =
+    (j ≤ kept .count) × (energy ≡ sum (λ j. energyOn (problemIn inst) plan k (placeOf kept j)) j)
 
 abbrev μ-loop : tie.MeasureT-loop
-μ-loop inst plan k energy₀ i₀ energy i = inst .taskcount - i
+μ-loop inst plan k kept energy₀ j₀ energy j = kept .count - j
+
+its-load : (c : tie.After-jobs-in Inv-loop μ-loop) →
+    let args = c .before .before .before .before .before .before .args in
+    let kept = c .before .before .before .before .kept-tasks .result in
+    let j = c .before .before .before .loop .j in
+    c .jobs-in .result * getD (kept .ticks) j 0 ≡ loadOn (problemIn (args .inst)) (args .plan .now) (args .k) (placeOf kept j)
+its-load c = load-in-columns _ _ _ _ (c .before .before .before .before .kept-tasks .ensures) _ (c .before .before .loop-test .taken) _ _ (held-span _ (c .before .before .before .before .before .before .pre .0)) (c .jobs-in .ensures)
+
+-- what is added up so far, and the next term
+energy-so-far : (c : tie.In-loop Inv-loop μ-loop) →
+    let args = c .before .before .before .before .args in
+    let kept = c .before .before .kept-tasks .result in
+    let p = problemIn (args .inst) in
+    let j = c .before .loop .j in
+    sum (λ j. energyOn p (args .plan .now) (args .k) (placeOf kept j)) j + energyOn p (args .plan .now) (args .k) (placeOf kept j) ≤ mostTasks * (mostEnergyOn)
+energy-so-far c =
+    let args = c .before .before .before .before .args in
+    let v = c .before .before .before .before .pre .0 .valid in
+    let kept = c .before .before .kept-tasks .result in
+    let columns = c .before .before .kept-tasks .ensures in
+    omega (
+      arith,
+      sum-and-next-at-most (λ j. energyOn (problemIn (args .inst)) (args .plan .now) (args .k) (placeOf kept j)) (mostEnergyOn) (kept .count) (c .before .loop .j)
+          (λ j l. energyOn-at-most _ v (args .plan .now) (args .k) (placeOf kept j) (is-task _ (args .plan .now) (args .k) kept columns j l)) (c .loop-test .taken),
+      columns .no-more,
+      v .task-count,
+    )
+
+its-energy : (c : tie.After-load Inv-loop μ-loop) →
+    let args = c .before .before .before .before .before .before .before .args in
+    let kept = c .before .before .before .before .before .kept-tasks .result in
+    let j = c .before .before .before .before .loop .j in
+    c .before .jobs-in .result * getD (kept .ticks) j 0 * getD (kept .powers) j 0
+    ≡ energyOn (problemIn (args .inst)) (args .plan .now) (args .k) (placeOf kept j)
+its-energy c = energy-in-columns _ _ _ _ (c .before .before .before .before .before .kept-tasks .ensures) _ (c .before .before .before .loop-test .taken) _ (its-load (c .before))
+
+kept-tasks-requires : tie.Need-kept-tasks-requires Inv-loop μ-loop
+kept-tasks-requires c κs = search needs
 
 loop-holds : tie.Need-loop-holds Inv-loop μ-loop
 unfolding sum
 loop-holds c = (omega arith, refl)
 
-mul-chosen-level : tie.Need-mul-chosen-level Inv-loop μ-loop
-mul-chosen-level c = let start = c .before .before .before .before in omega (arith, held-taskcount _ (start .pre .0), start .pre .0 .valid .task-count, c .if1 .taken)
+mul-jobs-in : tie.Need-mul-jobs-in Inv-loop μ-loop
+mul-jobs-in c = search needs
 
-shared-slice-read-chosen-level : tie.Need-shared-slice-read-chosen-level Inv-loop μ-loop
-shared-slice-read-chosen-level c = let start = c .before .before .before .before .before in omega (arith, held-taskcount _ (start .pre .0), start .pre .1, c .before .if1 .taken)
+element-copy-out-jobs-in : tie.Need-element-copy-out-jobs-in Inv-loop μ-loop
+element-copy-out-jobs-in c = search needs
 
-chosen-level-requires : tie.Need-chosen-level-requires Inv-loop μ-loop
-chosen-level-requires c κs = c .before .before .before .before .before .pre .0
+jobs-in-requires : tie.Need-jobs-in-requires Inv-loop μ-loop
+jobs-in-requires c κs = search needs
 
-load-on-requires : tie.Need-load-on-requires Inv-loop μ-loop
-load-on-requires c κs = let start = c .before .before .before .before .before .before in
-    let count = held-taskcount _ (start .pre .0) in
-    (start .pre .0, (omega (arith, c .before .before .if1 .taken), omega (arith, start .pre .1, c .before .before .if1 .taken)))
+cast-load : tie.Need-cast-load Inv-loop μ-loop
+cast-load c = search needs
 
-added : (c : tie.After-load-on Inv-loop μ-loop) → let start = c .before .before .before .before .before .before .before in
-    c .load-on .result * c .before .chosen-level .result .power ≡ energyOn (problemIn (start .args .inst)) (start .args .plan .now) (start .args .k) (c .before .before .before .before .before .loop .i)
-added c = ap₂ _*_ (c .load-on .ensures) (ap (λ (v : Level). v .power) (c .before .chosen-level .ensures))
+mul-load : tie.Need-mul-load Inv-loop μ-loop
+mul-load c = search needs
 
-cast-energy : tie.Need-cast-energy Inv-loop μ-loop
-cast-energy c = search needs
+element-copy-out-load : tie.Need-element-copy-out-load Inv-loop μ-loop
+element-copy-out-load c = search needs
+
+cast-load-2 : tie.Need-cast-load-2 Inv-loop μ-loop
+cast-load-2 c = search needs
+
+mul-load-2 : tie.Need-mul-load-2 Inv-loop μ-loop
+mul-load-2 c =
+    let start = c .before .before .before .before .before .before .before in
+    let kept = c .before .before .before .before .before .kept-tasks .result in
+    let j = c .before .before .before .before .loop .j in
+    omega (
+      arith,
+      its-load (c .before),
+      loadOn-at-most _ (start .pre .0 .valid) (start .args .plan .now) (placeOf kept j) (is-task _ _ _ _ (c .before .before .before .before .before .kept-tasks .ensures) j (c .before .before .before .loop-test .taken)) (start .args .k),
+    )
 
 mul-energy : tie.Need-mul-energy Inv-loop μ-loop
-mul-energy c = let start = c .before .before .before .before .before .before .before .before in
-    omega (
-      arith,
-      added (c .before),
-      energyOn-at-most _ (start .pre .0 .valid) (start .args .plan .now) (start .args .k) (c .before .before .before .before .before .before .loop .i) (omega (arith, held-taskcount _ (start .pre .0), c .before .before .before .before .if1 .taken)),
-    )
+mul-energy c = search needs
+
+element-copy-out-energy : tie.Need-element-copy-out-energy Inv-loop μ-loop
+element-copy-out-energy c = search needs
+
+cast-energy : tie.Need-cast-energy Inv-loop μ-loop
+cast-energy c =
+    let start = c .before .before .before .before .before .before .before .before in
+    let its = c .before .before .before .before .before .before .kept-tasks .ensures .held _ (c .before .before .before .before .loop-test .taken) in
+    omega (arith, its .same-power, power-at-most _ (start .pre .0 .valid) (start .args .plan .now) (placeOf (c .before .before .before .before .before .before .kept-tasks .result) (c .before .before .before .before .before .loop .j)))
+
+mul-energy-2 : tie.Need-mul-energy-2 Inv-loop μ-loop
+mul-energy-2 c = omega (arith, its-energy (c .before), energy-so-far (c .before .before .before .before))
 
 add-energy : tie.Need-add-energy Inv-loop μ-loop
-add-energy c = let start = c .before .before .before .before .before .before .before .before in
-    let s = start .pre .0 in
-    let p = problemIn (start .args .inst) in
-    let same = ap₂ _+_ (c .before .before .before .before .before .before .loop .inv .1) (added (c .before)) in
-    omega (
-      arith,
-      sum-and-next-at-most
-          (energyOn p (start .args .plan .now) (start .args .k))
-          mostEnergyOn
-          (taskCount p)
-          (c .before .before .before .before .before .before .loop .i)
-          (energyOn-at-most p (s .valid) (start .args .plan .now) (start .args .k))
-          (omega (arith, held-taskcount _ s, c .before .before .before .before .if1 .taken)),
-      s .valid .task-count,
-    )
+add-energy c =
+    let same = ap₂ _+_ (c .before .before .before .before .before .loop .inv .1) (its-energy (c .before)) in omega (arith, energy-so-far (c .before .before .before .before))
 
-add-i : tie.Need-add-i Inv-loop μ-loop
-add-i c = omega arith
+add-j : tie.Need-add-j Inv-loop μ-loop
+add-j c = search needs
 
 loop-less : tie.Need-loop-less Inv-loop μ-loop
-loop-less c = omega arith
+loop-less c = search needs
 
 loop-again : tie.Need-loop-again Inv-loop μ-loop
 unfolding sum
-loop-again c = (omega arith, rw add-one (ap₂ _+_ (c .before .before .before .before .before .before .loop .inv .1) (added (c .before))))
+loop-again c =
+    (omega (arith, c .before .before .before .before .loop-test .taken), rw add-one (ap₂ _+_ (c .before .before .before .before .before .loop .inv .1) (its-energy (c .before))))
 
 returns : tie.Need-returns Inv-loop μ-loop
-unfolding coreEnergy
-returns c = let start = c .before .before .before .before in
-    let at-end : c .before .before .loop .i ≡ taskCount (problemIn (start .args .inst)) =
-    omega (arith, c .before .before .loop .inv .0, held-taskcount _ (start .pre .0), c .if1 .left) in
-    c .before .before .loop .inv .1 ∙ ap (sum (energyOn _ _ _)) at-end
+returns c =
+    let args = c .before .before .before .before .args in
+    let kept = c .before .before .kept-tasks .result in
+    let at-end : c .before .loop .j ≡ kept .count = omega (arith, c .before .loop .inv .0, c .loop-test .left) in
+    c .before .loop .inv .1 ∙ ap (sum (λ j. energyOn (problemIn (args .inst)) (args .plan .now) (args .k) (placeOf kept j))) at-end
+    ∙ energy-over-kept _ _ _ _ (c .before .before .kept-tasks .ensures)
 
 pub core-energy-spec : {M : Type 1} → statement M
 core-energy-spec =
@@ -92,15 +142,22 @@ core-energy-spec =
     (tie.spec
     Inv-loop
     μ-loop
+    kept-tasks-requires
     loop-holds
-    mul-chosen-level
-    shared-slice-read-chosen-level
-    chosen-level-requires
-    load-on-requires
-    cast-energy
+    mul-jobs-in
+    element-copy-out-jobs-in
+    jobs-in-requires
+    cast-load
+    mul-load
+    element-copy-out-load
+    cast-load-2
+    mul-load-2
     mul-energy
+    element-copy-out-energy
+    cast-energy
+    mul-energy-2
     add-energy
-    add-i
+    add-j
     loop-less
     loop-again
     returns)
