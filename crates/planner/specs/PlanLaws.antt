@@ -8,7 +8,7 @@ use lib.ListN.{length, take}
 use Rattle.laws.specs.Lists.{onto}
 use Rattle.instance.specs.Node.{Problem, taskCount}
 use Rattle.instance.specs.SiteFile.{problemOf}
-use Rattle.refusals.specs.Refusals.{Reading, refused, accepted}
+use Rattle.refusals.specs.Refusals.{Reading, accepted}
 use Rattle.refusals.specs.RoomLaws.{enough-room, no-room, front-of-onto}
 use Rattle.refusals.specs.declared.Refusal.the-variants as Refusal
 use Rattle.refusals.specs.declared.Refusal.{Refusal}

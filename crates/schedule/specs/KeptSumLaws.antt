@@ -30,7 +30,7 @@ sum-without-rest f n (suc m) l none =
     (eq-or-lt-of-le l)
 
 -- places in ascending order, with every place where f is not 0 among them
-pub sum-over-places : (f place : ℕ → ℕ) (n m : ℕ) → ((j : ℕ) → j < n → place j < m) → ((i j : ℕ) → i < j → j < n → place i < place j) →
+sum-over-places : (f place : ℕ → ℕ) (n m : ℕ) → ((j : ℕ) → j < n → place j < m) → ((i j : ℕ) → i < j → j < n → place i < place j) →
     ((i : ℕ) → i < m → 0 < f i → (j : ℕ) × (j < n) × (place j ≡ i)) → sum (λ j. f (place j)) n ≡ sum f m
 unfolding sum
 sum-over-places f place zero m inside ascending every =
@@ -84,9 +84,9 @@ module _ (p : Problem) (plan : List ℕ) (k : ℕ) (kept : KeptTasks) (columns :
   energy-over-kept = sum-over-kept (energyOn p plan k) (λ i e. rw (unkept-load i e) (zero-mul _))
 
   module _ (j : ℕ) (l : j < kept .count) where
-    pub load-in-columns : (w jobs : ℕ) → w ≡ span p → jobs ≡ w / getD (kept .periods) j 0 → jobs * getD (kept .ticks) j 0 ≡ loadOn p plan k (placeOf kept j)
+    pub load-in-columns : (w : ℕ) → w ≡ span p → w / getD (kept .periods) j 0 * getD (kept .ticks) j 0 ≡ loadOn p plan k (placeOf kept j)
     unfolding loadOn jobs
-    load-in-columns w jobs wide e = rw (e, wide, columns .held j l .same-period, columns .held j l .same-ticks) refl
+    load-in-columns w wide = rw (wide, columns .held j l .same-period, columns .held j l .same-ticks) refl
 
     pub energy-in-columns : (load : ℕ) → load ≡ loadOn p plan k (placeOf kept j) → load * getD (kept .powers) j 0 ≡ energyOn p plan k (placeOf kept j)
     energy-in-columns load e = rw (e, columns .held j l .same-power) refl

@@ -33,7 +33,7 @@ job-penalty-at-most p v i h =
     ⊎-elim (λ range. omega (arith, range .at-most)) (λ must. omega arith) (v .task i h .penalty)
 
 module _ (p : Problem) (v : Valid p) (plan : List ℕ) where
-  pub power-at-most : (i : ℕ) → levelAt p (levelOf p plan i) .power ≤ mostPower
+  power-at-most : (i : ℕ) → levelAt p (levelOf p plan i) .power ≤ mostPower
   power-at-most i = v .level (levelOf p plan i) (mod-lt _ (v .level-count .at-least)) .power .at-most
 
   pub energyOn-at-most : (k i : ℕ) → i < taskCount p → energyOn p plan k i ≤ mostEnergyOn

@@ -1,6 +1,6 @@
 // Which plans may be given: the refusals 7 and 8.
 use crate::columns::kept_tasks;
-use crate::quantities::jobs_in;
+use crate::quantities::of_all_jobs;
 use instance::Instance;
 use ranges::MAY_NOT_BE_REFUSED;
 use refusals::Refusal;
@@ -65,7 +65,7 @@ fn core_load(inst: Instance, plan: &[u32], k: usize) -> u64
     let mut load = 0;
     let mut j = 0;
     while j < kept.count {
-        load += jobs_in(inst.span, kept.periods[j]) as u64 * kept.ticks[j] as u64;
+        load += of_all_jobs(inst.span, kept.periods[j], kept.ticks[j]);
         j += 1;
     }
     load

@@ -1,6 +1,6 @@
 // Energy, penalty and cost of a plan, added up core by core and task by task.
 use crate::columns::kept_tasks;
-use crate::quantities::jobs_in;
+use crate::quantities::of_all_jobs;
 use instance::Instance;
 use refusals::Refusal;
 ghost use mathlib.Core.Path.{_≡_};
@@ -32,7 +32,7 @@ fn core_energy(inst: Instance, plan: &[u32], k: usize) -> u64
     let mut energy = 0;
     let mut j = 0;
     while j < kept.count {
-        let load = jobs_in(inst.span, kept.periods[j]) as u64 * kept.ticks[j] as u64;
+        let load = of_all_jobs(inst.span, kept.periods[j], kept.ticks[j]);
         energy += load * kept.powers[j] as u64;
         j += 1;
     }
@@ -65,7 +65,7 @@ fn all_penalty(inst: Instance, plan: &[u32]) -> u64
     while i < inst.taskcount {
         if plan[i] == 0 {
             let task = inst.tasks[i];
-            penalty += jobs_in(inst.span, task.period) as u64 * task.penalty as u64;
+            penalty += of_all_jobs(inst.span, task.period, task.penalty);
         }
         i += 1;
     }

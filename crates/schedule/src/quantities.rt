@@ -4,7 +4,7 @@ use instance::Level;
 use instance::Task;
 ghost use mathlib.Core.Bool.{not, _&&_};
 ghost use mathlib.Core.Path.{_≡_};
-ghost use Prim.Native.Nat.{pred, _/_, _%_, _<_};
+ghost use Prim.Native.Nat.{pred, _*_, _/_, _%_, _<_};
 ghost use lib.Dec.{eqb};
 ghost use lib.ListN.{length};
 ghost use Rattle.instance.specs.Held.{Sound, problemIn};
@@ -31,6 +31,13 @@ pub fn jobs_in(span: u32, period: u32) -> u32
         return 0;
     }
     span / period
+}
+
+// What all jobs in a span come to, at so much a job.
+pub(crate) fn of_all_jobs(span: u32, period: u32, each: u32) -> u64
+    ensures { λ r. ⌜ r ≡ span / period * each ⌝ }
+{
+    jobs_in(span, period) as u64 * each as u64
 }
 
 // From a job's release to its due tick.

@@ -9,7 +9,7 @@ use Rattle.laws.specs.Search.{first}
 use Rattle.instance.specs.Held.{problemIn, held-task, held-taskcount}
 use Rattle.instance.specs.Node.{taskCount}
 use Rattle.refusals.specs.declared.Refusal.the-variants.{GivenPlan}
-use Rattle.schedule.specs.HeldPlans.{most-choice-at-most, held-bad-choice, cores-at-most}
+use Rattle.schedule.specs.HeldPlans.{most-choice-at-most, held-bad-choice}
 use Rattle.schedule.specs.HeldQuantities.{level-count-at-most}
 use Rattle.schedule.specs.Plans.{badChoice, choicesPass}
 use Rattle.schedule.specs.VerdictLaws.{found-is-refused, none-found-passes, other-length-is-refused, same-length-goes-on}

@@ -1,9 +1,8 @@
-use Prim.Native.Nat.{_+_, _*_, _-_, _≤_, _<_}
+use Prim.Native.Nat.{_+_, _*_, _-_, _≤_}
 use mathlib.Core.Path.{_≡_, refl, ap, ap₂, _∙_}
 use native.Mathlib.Numerals.{add-one}
 use native.Mathlib.Omega.{arith}
 use borrow.Author.Needs.{needs}
-use lib.ListN.{getD}
 use Rattle.laws.specs.SumBounds.{sum-and-next-at-most}
 use Rattle.laws.specs.Sums.{sum}
 use Rattle.instance.specs.Held.{problemIn, held-span}
@@ -23,12 +22,13 @@ Inv-loop inst plan k kept load₀ j₀ load j =
 abbrev μ-loop : tie.MeasureT-loop
 μ-loop inst plan k kept load₀ j₀ load j = kept .count - j
 
-its-load : (c : tie.After-jobs-in Inv-loop μ-loop) →
-    let args = c .before .before .before .before .before .before .args in
-    let kept = c .before .before .before .before .kept-tasks .result in
-    let j = c .before .before .before .loop .j in
-    c .jobs-in .result * getD (kept .ticks) j 0 ≡ loadOn (problemIn (args .inst)) (args .plan .now) (args .k) (placeOf kept j)
-its-load c = load-in-columns _ _ _ _ (c .before .before .before .before .kept-tasks .ensures) _ (c .before .before .loop-test .taken) _ _ (held-span _ (c .before .before .before .before .before .before .pre .0)) (c .jobs-in .ensures)
+its-load : (c : tie.After-of-all-jobs Inv-loop μ-loop) →
+    let args = c .before .before .before .before .before .before .before .args in
+    let kept = c .before .before .before .before .before .kept-tasks .result in
+    c .of-all-jobs .result ≡ loadOn (problemIn (args .inst)) (args .plan .now) (args .k) (placeOf kept (c .before .before .before .before .loop .j))
+its-load c =
+    c .of-all-jobs .ensures
+    ∙ load-in-columns _ _ _ _ (c .before .before .before .before .before .kept-tasks .ensures) _ (c .before .before .before .loop-test .taken) _ (held-span _ (c .before .before .before .before .before .before .before .pre .0))
 
 -- what is added up so far, and the next term
 load-so-far : (c : tie.In-loop Inv-loop μ-loop) →
@@ -57,33 +57,24 @@ loop-holds : tie.Need-loop-holds Inv-loop μ-loop
 unfolding sum
 loop-holds c = (omega arith, refl)
 
-mul-jobs-in : tie.Need-mul-jobs-in Inv-loop μ-loop
-mul-jobs-in c = search needs
+mul-of-all-jobs : tie.Need-mul-of-all-jobs Inv-loop μ-loop
+mul-of-all-jobs c = search needs
 
-element-copy-out-jobs-in : tie.Need-element-copy-out-jobs-in Inv-loop μ-loop
-element-copy-out-jobs-in c = search needs
+element-copy-out-of-all-jobs : tie.Need-element-copy-out-of-all-jobs Inv-loop μ-loop
+element-copy-out-of-all-jobs c = search needs
 
-jobs-in-requires : tie.Need-jobs-in-requires Inv-loop μ-loop
-jobs-in-requires c κs = search needs
+mul-of-all-jobs-2 : tie.Need-mul-of-all-jobs-2 Inv-loop μ-loop
+mul-of-all-jobs-2 c = search needs
 
-cast-load : tie.Need-cast-load Inv-loop μ-loop
-cast-load c = search needs
+element-copy-out-of-all-jobs-2 : tie.Need-element-copy-out-of-all-jobs-2 Inv-loop μ-loop
+element-copy-out-of-all-jobs-2 c = search needs
 
-mul-load : tie.Need-mul-load Inv-loop μ-loop
-mul-load c = search needs
-
-element-copy-out-load : tie.Need-element-copy-out-load Inv-loop μ-loop
-element-copy-out-load c = search needs
-
-cast-load-2 : tie.Need-cast-load-2 Inv-loop μ-loop
-cast-load-2 c = search needs
-
-mul-load-2 : tie.Need-mul-load-2 Inv-loop μ-loop
-mul-load-2 c = omega (arith, its-load (c .before), load-so-far (c .before .before .before))
+of-all-jobs-requires : tie.Need-of-all-jobs-requires Inv-loop μ-loop
+of-all-jobs-requires c κs = search needs
 
 add-load : tie.Need-add-load Inv-loop μ-loop
 add-load c =
-    let same = ap₂ _+_ (c .before .before .before .before .loop .inv .1) (its-load (c .before)) in omega (arith, load-so-far (c .before .before .before))
+    let same = ap₂ _+_ (c .before .before .before .before .loop .inv .1) (its-load c) in omega (arith, load-so-far (c .before .before .before))
 
 add-j : tie.Need-add-j Inv-loop μ-loop
 add-j c = search needs
@@ -94,7 +85,7 @@ loop-less c = search needs
 loop-again : tie.Need-loop-again Inv-loop μ-loop
 unfolding sum
 loop-again c =
-    (omega (arith, c .before .before .before .loop-test .taken), rw add-one (ap₂ _+_ (c .before .before .before .before .loop .inv .1) (its-load (c .before))))
+    (omega (arith, c .before .before .before .loop-test .taken), rw add-one (ap₂ _+_ (c .before .before .before .before .loop .inv .1) (its-load c)))
 
 returns : tie.Need-returns Inv-loop μ-loop
 returns c =
@@ -112,14 +103,11 @@ core-load-spec =
     μ-loop
     kept-tasks-requires
     loop-holds
-    mul-jobs-in
-    element-copy-out-jobs-in
-    jobs-in-requires
-    cast-load
-    mul-load
-    element-copy-out-load
-    cast-load-2
-    mul-load-2
+    mul-of-all-jobs
+    element-copy-out-of-all-jobs
+    mul-of-all-jobs-2
+    element-copy-out-of-all-jobs-2
+    of-all-jobs-requires
     add-load
     add-j
     loop-less

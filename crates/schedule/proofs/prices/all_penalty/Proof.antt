@@ -1,4 +1,4 @@
-use Prim.Native.Nat.{_+_, _*_, _-_, _≤_, _<_}
+use Prim.Native.Nat.{_+_, _-_, _≤_, _<_}
 use mathlib.Core.Logic.{⊎-elim}
 use mathlib.Core.Path.{_≡_, refl, ap, ap₂, _∙_}
 use native.Mathlib.Numerals.{add-one}
@@ -7,8 +7,7 @@ use borrow.Author.Tests.{ne-eqb}
 use Rattle.laws.specs.SumBounds.{sum-and-next-at-most}
 use Rattle.laws.specs.Sums.{sum}
 use Rattle.instance.specs.Held.{problemIn, held-task, held-taskcount}
-use Rattle.instance.specs.Node.{taskCount, noTask}
-use lib.ListN.{getD}
+use Rattle.instance.specs.Node.{taskCount}
 use Rattle.schedule.specs.HeldPrices.{held-penalty-of}
 use Rattle.schedule.specs.PriceBounds.{penaltyOf, mostPenaltyOf, penaltyOf-at-most}
 use Rattle.schedule.specs.Quantities.{penalty}
@@ -25,11 +24,12 @@ abbrev μ-loop : tie.MeasureT-loop
 task-below : (c : tie.In-loop Inv-loop μ-loop) → c .before .loop .i < taskCount (problemIn (c .before .before .before .args .t1))
 task-below c = omega (arith, held-taskcount _ (c .before .before .before .pre .0), c .loop-test .taken)
 
-added : (c : tie.After-jobs-in Inv-loop μ-loop) → let start = c .before .before .before .before .before .before .before in
-    c .jobs-in .result * getD (start .args .t1 .tasks) (c .before .before .before .before .before .loop .i) noTask .penalty
-    ≡ penaltyOf (problemIn (start .args .t1)) (start .args .plan .now) (c .before .before .before .before .before .loop .i)
-added c = let start = c .before .before .before .before .before .before .before in
-    held-penalty-of _ (start .pre .0) _ (start .args .plan .now) _ _ (c .before .before .if1 .taken) (held-task _ (start .pre .0) _ (task-below (c .before .before .before .before))) (c .jobs-in .ensures)
+added : (c : tie.After-of-all-jobs Inv-loop μ-loop) →
+    let start = c .before .before .before .before .before .before .before in c .of-all-jobs .result ≡ penaltyOf (problemIn (start .args .t1)) (start .args .plan .now) (c .before .before .before .before .before .loop .i)
+added c =
+    let start = c .before .before .before .before .before .before .before in
+    c .of-all-jobs .ensures
+    ∙ held-penalty-of _ (start .pre .0) _ (start .args .plan .now) _ (c .before .before .if1 .taken) (held-task _ (start .pre .0) _ (task-below (c .before .before .before .before)))
 
 loop-holds : tie.Need-loop-holds Inv-loop μ-loop
 unfolding sum
@@ -49,31 +49,20 @@ element-copy-out-task : tie.Need-element-copy-out-task Inv-loop μ-loop
 element-copy-out-task c =
     omega (arith, task-below (c .before .before), c .before .before .before .before .before .pre .0 .valid .task-count)
 
-jobs-in-requires : tie.Need-jobs-in-requires Inv-loop μ-loop
-jobs-in-requires c κs = search needs
-
-cast-penalty : tie.Need-cast-penalty Inv-loop μ-loop
-cast-penalty c = search needs
-
-cast-penalty-2 : tie.Need-cast-penalty-2 Inv-loop μ-loop
-cast-penalty-2 c = search needs
-
-mul-penalty : tie.Need-mul-penalty Inv-loop μ-loop
-mul-penalty c =
-    let start = c .before .before .before .before .before .before .before .before in
-    omega (arith, added (c .before), penaltyOf-at-most _ (start .pre .0 .valid) (start .args .plan .now) (c .before .before .before .before .before .before .loop .i) (task-below (c .before .before .before .before .before)))
+of-all-jobs-requires : tie.Need-of-all-jobs-requires Inv-loop μ-loop
+of-all-jobs-requires c κs = search needs
 
 add-penalty : tie.Need-add-penalty Inv-loop μ-loop
 add-penalty c =
-    let start = c .before .before .before .before .before .before .before .before in
-    let s = start .pre .0 in
+    let start = c .before .before .before .before .before .before .before in
+    let v = start .pre .0 .valid in
     let p = problemIn (start .args .t1) in
-    let same = ap₂ _+_ (c .before .before .before .before .before .before .loop .inv .1) (added (c .before)) in
+    let same = ap₂ _+_ (c .before .before .before .before .before .loop .inv .1) (added c) in
     omega (
       arith,
-      sum-and-next-at-most (penaltyOf p (start .args .plan .now)) mostPenaltyOf (taskCount p) (c .before .before .before .before .before .before .loop .i)
-          (penaltyOf-at-most p (s .valid) (start .args .plan .now)) (task-below (c .before .before .before .before .before)),
-      s .valid .task-count,
+      sum-and-next-at-most (penaltyOf p (start .args .plan .now)) mostPenaltyOf (taskCount p) (c .before .before .before .before .before .loop .i)
+          (penaltyOf-at-most p v (start .args .plan .now)) (task-below (c .before .before .before .before)),
+      v .task-count,
     )
 
 add-i : tie.Need-add-i Inv-loop μ-loop
@@ -85,15 +74,12 @@ loop-less c = omega (arith, c .before .before .loop-test .taken)
 loop-again : tie.Need-loop-again Inv-loop μ-loop
 unfolding sum
 loop-again c =
-    let start = c .before .before .before .before .before in
     let at = c .before .before .before .loop in (
       omega (arith, c .before .before .loop-test .taken),
       rw add-one
           (⊎-elim
           (λ refused.
-          rw (refused .4)
-          (ap₂ _+_ (at .inv .1)
-          (held-penalty-of _ (start .pre .0) _ (start .args .plan .now) _ _ (refused .0 .taken) (held-task _ (start .pre .0) _ (task-below (c .before .before))) (refused .2 .ensures))))
+          rw (refused .3) (ap₂ _+_ (at .inv .1) (added (record { before = record { before = record { before = c .before; if1 = refused .0 }; task = refused .1 }; of-all-jobs = refused .2 }))))
           (λ kept. rw (kept .1, ne-eqb _ _ (kept .0 .left)) (omega (arith, at .inv .1)))
           (c .if1 .came)),
     )
@@ -117,10 +103,7 @@ all-penalty-spec =
     shared-slice-read-if1
     mul-task
     element-copy-out-task
-    jobs-in-requires
-    cast-penalty
-    cast-penalty-2
-    mul-penalty
+    of-all-jobs-requires
     add-penalty
     add-i
     loop-less

@@ -1,4 +1,4 @@
-use Prim.Native.Nat.{_+_, _*_, _-_, _≤_, _<_}
+use Prim.Native.Nat.{_+_, _*_, _-_, _≤_}
 use mathlib.Core.Path.{_≡_, refl, ap, ap₂, _∙_}
 use native.Mathlib.Numerals.{add-one}
 use native.Mathlib.Omega.{arith}
@@ -11,8 +11,7 @@ use Rattle.ranges.specs.Limits.{mostTasks}
 use Rattle.schedule.specs.KeptColumns.{placeOf}
 use Rattle.schedule.specs.KeptRowLaws.{is-task}
 use Rattle.schedule.specs.KeptSumLaws.{energy-over-kept, energy-in-columns, load-in-columns}
-use Rattle.schedule.specs.PriceBounds.{energyOn, mostEnergyOn, power-at-most, energyOn-at-most}
-use Rattle.schedule.specs.QuantityBounds.{loadOn-at-most}
+use Rattle.schedule.specs.PriceBounds.{energyOn, mostEnergyOn, energyOn-at-most}
 use Rattle.schedule.specs.Quantities.{loadOn}
 use Rattle.schedule.proofs.prices.core_energy.Statement.{statement}
 use Rattle.schedule.proofs.prices.core_energy.Tie as tie
@@ -24,12 +23,13 @@ Inv-loop inst plan k kept energy₀ j₀ energy j =
 abbrev μ-loop : tie.MeasureT-loop
 μ-loop inst plan k kept energy₀ j₀ energy j = kept .count - j
 
-its-load : (c : tie.After-jobs-in Inv-loop μ-loop) →
-    let args = c .before .before .before .before .before .before .args in
-    let kept = c .before .before .before .before .kept-tasks .result in
-    let j = c .before .before .before .loop .j in
-    c .jobs-in .result * getD (kept .ticks) j 0 ≡ loadOn (problemIn (args .inst)) (args .plan .now) (args .k) (placeOf kept j)
-its-load c = load-in-columns _ _ _ _ (c .before .before .before .before .kept-tasks .ensures) _ (c .before .before .loop-test .taken) _ _ (held-span _ (c .before .before .before .before .before .before .pre .0)) (c .jobs-in .ensures)
+its-load : (c : tie.After-of-all-jobs Inv-loop μ-loop) →
+    let args = c .before .before .before .before .before .before .before .args in
+    let kept = c .before .before .before .before .before .kept-tasks .result in
+    c .of-all-jobs .result ≡ loadOn (problemIn (args .inst)) (args .plan .now) (args .k) (placeOf kept (c .before .before .before .before .loop .j))
+its-load c =
+    c .of-all-jobs .ensures
+    ∙ load-in-columns _ _ _ _ (c .before .before .before .before .before .kept-tasks .ensures) _ (c .before .before .before .loop-test .taken) _ (held-span _ (c .before .before .before .before .before .before .before .pre .0))
 
 -- what is added up so far, and the next term
 energy-so-far : (c : tie.In-loop Inv-loop μ-loop) →
@@ -51,13 +51,12 @@ energy-so-far c =
       v .task-count,
     )
 
-its-energy : (c : tie.After-load Inv-loop μ-loop) →
+its-energy : (c : tie.After-of-all-jobs Inv-loop μ-loop) →
     let args = c .before .before .before .before .before .before .before .args in
     let kept = c .before .before .before .before .before .kept-tasks .result in
     let j = c .before .before .before .before .loop .j in
-    c .before .jobs-in .result * getD (kept .ticks) j 0 * getD (kept .powers) j 0
-    ≡ energyOn (problemIn (args .inst)) (args .plan .now) (args .k) (placeOf kept j)
-its-energy c = energy-in-columns _ _ _ _ (c .before .before .before .before .before .kept-tasks .ensures) _ (c .before .before .before .loop-test .taken) _ (its-load (c .before))
+    c .of-all-jobs .result * getD (kept .powers) j 0 ≡ energyOn (problemIn (args .inst)) (args .plan .now) (args .k) (placeOf kept j)
+its-energy c = energy-in-columns _ _ _ _ (c .before .before .before .before .before .kept-tasks .ensures) _ (c .before .before .before .loop-test .taken) _ (its-load c)
 
 kept-tasks-requires : tie.Need-kept-tasks-requires Inv-loop μ-loop
 kept-tasks-requires c κs = search needs
@@ -66,37 +65,20 @@ loop-holds : tie.Need-loop-holds Inv-loop μ-loop
 unfolding sum
 loop-holds c = (omega arith, refl)
 
-mul-jobs-in : tie.Need-mul-jobs-in Inv-loop μ-loop
-mul-jobs-in c = search needs
+mul-of-all-jobs : tie.Need-mul-of-all-jobs Inv-loop μ-loop
+mul-of-all-jobs c = search needs
 
-element-copy-out-jobs-in : tie.Need-element-copy-out-jobs-in Inv-loop μ-loop
-element-copy-out-jobs-in c = search needs
+element-copy-out-of-all-jobs : tie.Need-element-copy-out-of-all-jobs Inv-loop μ-loop
+element-copy-out-of-all-jobs c = search needs
 
-jobs-in-requires : tie.Need-jobs-in-requires Inv-loop μ-loop
-jobs-in-requires c κs = search needs
+mul-of-all-jobs-2 : tie.Need-mul-of-all-jobs-2 Inv-loop μ-loop
+mul-of-all-jobs-2 c = search needs
 
-cast-load : tie.Need-cast-load Inv-loop μ-loop
-cast-load c = search needs
+element-copy-out-of-all-jobs-2 : tie.Need-element-copy-out-of-all-jobs-2 Inv-loop μ-loop
+element-copy-out-of-all-jobs-2 c = search needs
 
-mul-load : tie.Need-mul-load Inv-loop μ-loop
-mul-load c = search needs
-
-element-copy-out-load : tie.Need-element-copy-out-load Inv-loop μ-loop
-element-copy-out-load c = search needs
-
-cast-load-2 : tie.Need-cast-load-2 Inv-loop μ-loop
-cast-load-2 c = search needs
-
-mul-load-2 : tie.Need-mul-load-2 Inv-loop μ-loop
-mul-load-2 c =
-    let start = c .before .before .before .before .before .before .before in
-    let kept = c .before .before .before .before .before .kept-tasks .result in
-    let j = c .before .before .before .before .loop .j in
-    omega (
-      arith,
-      its-load (c .before),
-      loadOn-at-most _ (start .pre .0 .valid) (start .args .plan .now) (placeOf kept j) (is-task _ _ _ _ (c .before .before .before .before .before .kept-tasks .ensures) j (c .before .before .before .loop-test .taken)) (start .args .k),
-    )
+of-all-jobs-requires : tie.Need-of-all-jobs-requires Inv-loop μ-loop
+of-all-jobs-requires c κs = search needs
 
 mul-energy : tie.Need-mul-energy Inv-loop μ-loop
 mul-energy c = search needs
@@ -105,10 +87,7 @@ element-copy-out-energy : tie.Need-element-copy-out-energy Inv-loop μ-loop
 element-copy-out-energy c = search needs
 
 cast-energy : tie.Need-cast-energy Inv-loop μ-loop
-cast-energy c =
-    let start = c .before .before .before .before .before .before .before .before in
-    let its = c .before .before .before .before .before .before .kept-tasks .ensures .held _ (c .before .before .before .before .loop-test .taken) in
-    omega (arith, its .same-power, power-at-most _ (start .pre .0 .valid) (start .args .plan .now) (placeOf (c .before .before .before .before .before .before .kept-tasks .result) (c .before .before .before .before .before .loop .j)))
+cast-energy c = search needs
 
 mul-energy-2 : tie.Need-mul-energy-2 Inv-loop μ-loop
 mul-energy-2 c = omega (arith, its-energy (c .before), energy-so-far (c .before .before .before .before))
@@ -144,14 +123,11 @@ core-energy-spec =
     μ-loop
     kept-tasks-requires
     loop-holds
-    mul-jobs-in
-    element-copy-out-jobs-in
-    jobs-in-requires
-    cast-load
-    mul-load
-    element-copy-out-load
-    cast-load-2
-    mul-load-2
+    mul-of-all-jobs
+    element-copy-out-of-all-jobs
+    mul-of-all-jobs-2
+    element-copy-out-of-all-jobs-2
+    of-all-jobs-requires
     mul-energy
     element-copy-out-energy
     cast-energy
