@@ -5,22 +5,25 @@ use instance::read_instance;
 use refusals::Refusal;
 use refusals::Verdict;
 use schedule::Priced;
-use schedule::price;
-use schedule::tabulate;
+use schedule::fill_table;
+use schedule::price_of;
+use schedule::table_size;
 use search::Found;
 ghost use mathlib.Core.Path.{_≡_};
-ghost use Rattle.schedule.specs.ReadLaws.{HoldsProblemOf};
-ghost use Rattle.planner.specs.Outcomes.{planOutcome};
+ghost use Rattle.instance.specs.Held.{Sound, problemIn};
+ghost use Rattle.refusals.specs.Refusals.{accepted};
+ghost use Rattle.planner.specs.Outcomes.{planOutcome, planOutcomeOf};
 ghost use Rattle.planner.specs.PlanLaws.{planGiven};
 ghost use Rattle.planner.specs.Planned.{Planned};
 
-// Plans the instance that the words are.
-fn plan_read(words: &[u32], inst: Instance, plan: &mut [u32], table: &mut [u8]) -> Priced
-    requires { ⌜ HoldsProblemOf (now words) inst ⌝ }
-    ensures { λ r. ⌜ planGiven r (now (plan .exit)) (now (table .exit)) ≡ planOutcome (now (words .entry)) (now (plan .entry)) (now (table .entry)) ⌝ }
+// Plans an instance that was read.
+fn plan_read(inst: Instance, plan: &mut [u32], table: &mut [u8]) -> Priced
+    requires { ⌜ Sound inst ⌝ }
+    ensures { λ r. ⌜ planGiven r (now (plan .exit)) (now (table .exit))
+        ≡ planOutcomeOf (accepted (problemIn inst)) (now (plan .entry)) (now (table .entry)) ⌝ }
 {
     let n = inst.taskcount;
-    let size = inst.cores as usize * inst.span as usize;
+    let size = table_size(inst);
     if plan.len() < n {
         return Priced::Refused(Refusal::ShortBuffer(n));
     }
@@ -30,8 +33,8 @@ fn plan_read(words: &[u32], inst: Instance, plan: &mut [u32], table: &mut [u8]) 
     match best_choices(inst, plan) {
         Found::Cheapest(_) => {
             let chosen = &plan[..n];
-            tabulate(words, chosen, table);
-            return price(words, chosen);
+            fill_table(inst, chosen, table);
+            return Priced::Cost(price_of(inst, chosen));
         }
         // never out of limits: an instance is within those of the search
         Found::NoPlan | Found::OutOfLimits => return Priced::Refused(Refusal::NoPlan),
@@ -49,6 +52,6 @@ pub fn plan(instance: &[u32], plan: &mut [u32], table: &mut [u8]) -> Priced
     let verdict = read.verdict;
     match verdict {
         Verdict::Refused(r) => return Priced::Refused(r),
-        Verdict::Accepted => return plan_read(instance, read.instance, plan, table),
+        Verdict::Accepted => return plan_read(read.instance, plan, table),
     }
 }

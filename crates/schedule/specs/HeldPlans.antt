@@ -1,16 +1,18 @@
 -- Which plans may be given, from the fields of the struct that holds the problem, test by test as the code makes them.
 use Prim.Native.Nat.{ℕ, _*_, _≤_}
-use mathlib.Core.Bool.{Bool, true, false, not, _||_}
+use mathlib.Core.Bool.{Bool, true, false, not, _&&_, _||_}
 use mathlib.Core.List.{List}
 use mathlib.Core.Path.{_≡_, refl, ap, ap₂, _∙_}
+use native.Mathlib.Nat.{mul-le-mul}
 use native.Mathlib.Omega.{arith}
 use lib.Dec.{leb, ltb, eqb}
 use borrow.Author.Tests.{lt-ltb, le-ltb, leb-true, leb-false, eq-eqb, ne-eqb}
 use Rattle.instance.specs.Held.{problemIn, Sound, held-levelcount, held-span}
-use Rattle.ranges.specs.Limits.{mostCores, mayNotBeRefused}
+use Rattle.ranges.specs.Limits.{mostCores, mostLevels, mayNotBeRefused}
 use Rattle.instance.specs.Node.{taskAt, span}
 use Rattle.instance.specs.declared.Instance.{Instance}
 use Rattle.instance.specs.declared.Task.{Task}
+use Rattle.schedule.specs.HeldQuantities.{level-count-at-most}
 use Rattle.schedule.specs.Plans.{isMust, mostChoice, badChoice, fits}
 use Rattle.schedule.specs.Quantities.{choiceAt, coreLoad}
 
@@ -25,6 +27,13 @@ or-nothing : (a : Bool) → a ≡ a || false
 or-nothing true = refl
 or-nothing false = refl
 
+module _ (choice penalty most : ℕ) where
+  pub refused-is-bad-if-must : choice ≡ 0 → eqb penalty mayNotBeRefused ≡ (ltb most choice || (eqb choice 0 && eqb penalty mayNotBeRefused))
+  refused-is-bad-if-must none = rw (le-ltb most choice (omega arith), eq-eqb choice 0 none) refl
+
+  pub kept-is-bad-above-most : (choice ≡ 0 → ⊥) → ltb most choice ≡ (ltb most choice || (eqb choice 0 && eqb penalty mayNotBeRefused))
+  kept-is-bad-above-most kept = rw (ne-eqb choice 0 kept) (or-nothing (ltb most choice))
+
 module _ (inst : Instance) (s : Sound inst) where
   pub held-cores : inst .cores ≡ problemIn inst .cores
   unfolding problemIn
@@ -36,18 +45,16 @@ module _ (inst : Instance) (s : Sound inst) where
   held-most-choice : inst .cores * inst .levelcount ≡ mostChoice (problemIn inst)
   held-most-choice = ap₂ (λ (m h : ℕ). m * h) held-cores (held-levelcount inst s)
 
-  pub refused-is-bad-if-must : (plan : List ℕ) (i : ℕ) (task : Task) → choiceAt plan i ≡ 0 → task ≡ taskAt (problemIn inst) i →
-      eqb (task .penalty) mayNotBeRefused ≡ badChoice (problemIn inst) plan i
-  unfolding badChoice isMust
-  refused-is-bad-if-must plan i task none same =
-      rw (le-ltb (mostChoice (problemIn inst)) (choiceAt plan i) (omega arith), eq-eqb (choiceAt plan i) 0 none)
-      (ap (λ (t : Task). eqb (t .penalty) mayNotBeRefused) same)
+  pub most-choice-at-most : inst .cores * inst .levelcount ≤ mostCores * mostLevels
+  most-choice-at-most = mul-le-mul cores-at-most (level-count-at-most inst s)
 
-  pub kept-is-bad-above-most : (plan : List ℕ) (i : ℕ) → (choiceAt plan i ≡ 0 → ⊥) →
-      ltb (inst .cores * inst .levelcount) (choiceAt plan i) ≡ badChoice (problemIn inst) plan i
-  unfolding badChoice
-  kept-is-bad-above-most plan i kept =
-      rw (ne-eqb (choiceAt plan i) 0 kept, held-most-choice) (or-nothing (ltb (mostChoice (problemIn inst)) (choiceAt plan i)))
+  pub held-bad-choice : (plan : List ℕ) (i : ℕ) (task : Task) → task ≡ taskAt (problemIn inst) i →
+      (ltb (inst .cores * inst .levelcount) (choiceAt plan i) || (eqb (choiceAt plan i) 0 && eqb (task .penalty) mayNotBeRefused))
+      ≡ badChoice (problemIn inst) plan i
+  unfolding badChoice isMust
+  held-bad-choice plan i task same =
+      ap₂ (λ (most penalty : ℕ). ltb most (choiceAt plan i) || (eqb (choiceAt plan i) 0 && eqb penalty mayNotBeRefused)) held-most-choice
+      (ap (λ (t : Task). t .penalty) same)
 
   pub load-above-span-does-not-fit : (plan : List ℕ) (k load : ℕ) → load ≡ coreLoad (problemIn inst) plan k →
       ltb (inst .span) load ≡ not (fits (problemIn inst) plan k)

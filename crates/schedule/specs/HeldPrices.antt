@@ -1,7 +1,7 @@
 -- The price of a plan, from the fields of the struct that holds the problem.
 use Prim.Native.Nat.{ℕ, _+_, _*_, _/_, _≤_}
 use mathlib.Core.List.{List}
-use mathlib.Core.Path.{_≡_, refl, ap, ap₂, _∙_}
+use mathlib.Core.Path.{_≡_, refl, ap, ap₂}
 use borrow.Author.Tests.{eq-eqb}
 use native.Mathlib.Nat.{mul-le-mul}
 use Rattle.instance.specs.Held.{problemIn, Sound}
@@ -16,10 +16,10 @@ use Rattle.schedule.specs.Quantities.{choiceAt, energy, penalty, cost, p
 use Rattle.schedule.specs.declared.prices.Price.{Price}
 
 module _ (inst : Instance) (s : Sound inst) where
-  pub held-penalty-of : (i : ℕ) (plan : List ℕ) (task : Task) (jobs : ℕ) → choiceAt plan i ≡ 0 → task ≡ taskAt (problemIn inst) i →
-      jobs ≡ inst .span / task .period → jobs * task .penalty ≡ penaltyOf (problemIn inst) plan i
-  held-penalty-of i plan task jobs none same e =
-      rw (eq-eqb (choiceAt plan i) 0 none) (ap₂ _*_ (e ∙ held-jobs inst s i task same) (ap (λ (t : Task). t .penalty) same))
+  pub held-penalty-of : (i : ℕ) (plan : List ℕ) (task : Task) → choiceAt plan i ≡ 0 → task ≡ taskAt (problemIn inst) i →
+      inst .span / task .period * task .penalty ≡ penaltyOf (problemIn inst) plan i
+  held-penalty-of i plan task none same =
+      rw (eq-eqb (choiceAt plan i) 0 none) (ap₂ _*_ (held-jobs inst s i task same) (ap (λ (t : Task). t .penalty) same))
 
 module _ (inst : Instance) (s : Sound inst) (plan : List ℕ) where
   pub weighted-energy-at-most : (all : ℕ) → PassingPlan (problemIn inst) plan → all ≡ energy (problemIn inst) plan →

@@ -33,6 +33,7 @@ pub mod HeldJobs
 pub mod KeptColumns
 pub mod KeptColumnLaws
 pub mod KeptRowLaws
+pub mod KeptSumLaws
 pub mod HeldTables
 pub mod OutcomeLaws
 pub mod PassingPlanLaws

@@ -1,8 +1,6 @@
 // Energy, penalty and cost of a plan, added up core by core and task by task.
-use crate::quantities::chosen_level;
-use crate::quantities::jobs_in;
-use crate::quantities::load_on;
-use crate::quantities::task_of;
+use crate::columns::kept_tasks;
+use crate::quantities::of_all_jobs;
 use instance::Instance;
 use refusals::Refusal;
 ghost use mathlib.Core.Path.{_≡_};
@@ -30,12 +28,13 @@ fn core_energy(inst: Instance, plan: &[u32], k: usize) -> u64
     requires { ⌜ length (now plan) ≡ taskCount (problemIn inst) ⌝ }
     ensures { λ r. ⌜ r ≡ coreEnergy (problemIn inst) (now (plan .entry)) k ⌝ }
 {
+    let kept = kept_tasks(inst, plan, k);
     let mut energy = 0;
-    let mut i = 0;
-    while i < inst.taskcount {
-        let level = chosen_level(inst, plan[i]);
-        energy += load_on(inst, plan, k, i) * level.power as u64;
-        i += 1;
+    let mut j = 0;
+    while j < kept.count {
+        let load = of_all_jobs(inst.span, kept.periods[j], kept.ticks[j]);
+        energy += load * kept.powers[j] as u64;
+        j += 1;
     }
     energy
 }
@@ -65,8 +64,8 @@ fn all_penalty(inst: Instance, plan: &[u32]) -> u64
     let mut i = 0;
     while i < inst.taskcount {
         if plan[i] == 0 {
-            let task = task_of(inst, i);
-            penalty += jobs_in(inst.span, task.period) as u64 * task.penalty as u64;
+            let task = inst.tasks[i];
+            penalty += of_all_jobs(inst.span, task.period, task.penalty);
         }
         i += 1;
     }
@@ -74,7 +73,7 @@ fn all_penalty(inst: Instance, plan: &[u32]) -> u64
 }
 
 // The price of a plan that passes.
-pub(crate) fn price_of(inst: Instance, plan: &[u32]) -> Price
+pub fn price_of(inst: Instance, plan: &[u32]) -> Price
     requires { ⌜ Sound inst ⌝ }
     requires { ⌜ planPasses (problemIn inst) (now plan) ≡ Accepted ⌝ }
     ensures { λ r. ⌜ r ≡ priceOf (problemIn inst) (now (plan .entry)) ⌝ }

@@ -1,13 +1,16 @@
-// Ticks, jobs and load of the tasks of a plan.
+// Ticks, jobs and windows of tasks, and what a choice names.
 use instance::Instance;
 use instance::Level;
 use instance::Task;
+ghost use mathlib.Core.Bool.{not, _&&_};
 ghost use mathlib.Core.Path.{_≡_};
-ghost use Prim.Native.Nat.{pred, _/_, _%_, _<_};
+ghost use Prim.Native.Nat.{pred, _*_, _/_, _%_, _<_};
+ghost use lib.Dec.{eqb};
 ghost use lib.ListN.{length};
 ghost use Rattle.instance.specs.Held.{Sound, problemIn};
 ghost use Rattle.instance.specs.Node.{taskCount, levelCount, levelAt, taskAt};
-ghost use Rattle.schedule.specs.Quantities.{ticks, keeps, jobTicks, ticksOn, loadOn, coreLoad};
+ghost use Rattle.schedule.specs.Quantities.{ticks, keeps, jobTicks};
+ghost use Rattle.schedule.specs.Tables.{window};
 
 // The ticks of a job: cycles divided by speed, rounded up; 0 at no speed.
 pub fn ticks_of(cycles: u32, speed: u32) -> u32
@@ -30,6 +33,20 @@ pub fn jobs_in(span: u32, period: u32) -> u32
     span / period
 }
 
+// What all jobs in a span come to, at so much a job.
+pub(crate) fn of_all_jobs(span: u32, period: u32, each: u32) -> u64
+    ensures { λ r. ⌜ r ≡ span / period * each ⌝ }
+{
+    jobs_in(span, period) as u64 * each as u64
+}
+
+// From a job's release to its due tick.
+pub(crate) fn window_of(task: Task) -> u32
+    ensures { λ r. ⌜ r ≡ window task ⌝ }
+{
+    task.period
+}
+
 // The core that a choice names, counted from 0.
 pub(crate) fn core_of(choice: u32, levels: usize) -> usize
     requires { ⌜ 0 < levels ⌝ }
@@ -39,6 +56,28 @@ pub(crate) fn core_of(choice: u32, levels: usize) -> usize
         return 0;
     }
     (choice - 1) as usize / levels
+}
+
+// Whether a choice keeps its task on core k, counted from 0.
+pub(crate) fn is_named(k: usize, choice: u32, levels: usize) -> bool
+    requires { ⌜ 0 < levels ⌝ }
+    ensures { λ r. ⌜ r ≡ (not (eqb choice 0) && eqb (pred choice / levels) k) ⌝ }
+{
+    if choice == 0 {
+        return false;
+    }
+    core_of(choice, levels) == k
+}
+
+// The level that a choice names, counted from 0.
+pub(crate) fn level_of(choice: u32, levels: usize) -> usize
+    requires { ⌜ 0 < levels ⌝ }
+    ensures { λ r. ⌜ r ≡ pred choice % levels ⌝ }
+{
+    if choice == 0 {
+        return 0;
+    }
+    (choice - 1) as usize % levels
 }
 
 // Task i, counted from 0.
@@ -55,11 +94,7 @@ pub(crate) fn chosen_level(inst: Instance, choice: u32) -> Level
     requires { ⌜ Sound inst ⌝ }
     ensures { λ r. ⌜ r ≡ levelAt (problemIn inst) (pred choice % levelCount (problemIn inst)) ⌝ }
 {
-    let mut l = 0;
-    if choice != 0 {
-        l = (choice - 1) as usize % inst.levelcount;
-    }
-    inst.levels[l]
+    inst.levels[level_of(choice, inst.levelcount)]
 }
 
 // The ticks of a job of task i at the level that its choice names.
@@ -80,47 +115,5 @@ pub(crate) fn is_kept_on(inst: Instance, plan: &[u32], k: usize, i: usize) -> bo
     requires { ⌜ i < length (now plan) ⌝ }
     ensures { λ r. ⌜ r ≡ keeps (problemIn inst) (now (plan .entry)) k i ⌝ }
 {
-    let choice = plan[i];
-    if choice == 0 {
-        return false;
-    }
-    core_of(choice, inst.levelcount) == k
-}
-
-// The ticks of a job of task i on core k: none where it is not kept there.
-pub(crate) fn ticks_on(inst: Instance, plan: &[u32], k: usize, i: usize) -> u32
-    requires { ⌜ Sound inst ⌝ }
-    requires { ⌜ i < taskCount (problemIn inst) ⌝ }
-    requires { ⌜ i < length (now plan) ⌝ }
-    ensures { λ r. ⌜ r ≡ ticksOn (problemIn inst) (now (plan .entry)) k i ⌝ }
-{
-    if is_kept_on(inst, plan, k, i) {
-        return job_ticks(inst, plan, i);
-    }
-    0
-}
-
-// What task i asks of core k over a span.
-pub(crate) fn load_on(inst: Instance, plan: &[u32], k: usize, i: usize) -> u64
-    requires { ⌜ Sound inst ⌝ }
-    requires { ⌜ i < taskCount (problemIn inst) ⌝ }
-    requires { ⌜ i < length (now plan) ⌝ }
-    ensures { λ r. ⌜ r ≡ loadOn (problemIn inst) (now (plan .entry)) k i ⌝ }
-{
-    let task = task_of(inst, i);
-    jobs_in(inst.span, task.period) as u64 * ticks_on(inst, plan, k, i) as u64
-}
-
-pub(crate) fn core_load(inst: Instance, plan: &[u32], k: usize) -> u64
-    requires { ⌜ Sound inst ⌝ }
-    requires { ⌜ length (now plan) ≡ taskCount (problemIn inst) ⌝ }
-    ensures { λ r. ⌜ r ≡ coreLoad (problemIn inst) (now (plan .entry)) k ⌝ }
-{
-    let mut load = 0;
-    let mut i = 0;
-    while i < inst.taskcount {
-        load += load_on(inst, plan, k, i);
-        i += 1;
-    }
-    load
+    is_named(k, plan[i], inst.levelcount)
 }

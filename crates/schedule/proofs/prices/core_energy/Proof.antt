@@ -2,89 +2,118 @@ use Prim.Native.Nat.{_+_, _*_, _-_, _≤_}
 use mathlib.Core.Path.{_≡_, refl, ap, ap₂, _∙_}
 use native.Mathlib.Numerals.{add-one}
 use native.Mathlib.Omega.{arith}
+use borrow.Author.Needs.{needs}
+use lib.ListN.{getD}
 use Rattle.laws.specs.SumBounds.{sum-and-next-at-most}
 use Rattle.laws.specs.Sums.{sum}
-use Rattle.instance.specs.Held.{problemIn, held-taskcount}
-use Rattle.instance.specs.Node.{taskCount}
-use Rattle.instance.specs.declared.Level.{Level}
+use Rattle.instance.specs.Held.{problemIn, held-span}
+use Rattle.ranges.specs.Limits.{mostTasks}
+use Rattle.schedule.specs.KeptColumns.{placeOf}
+use Rattle.schedule.specs.KeptRowLaws.{is-task}
+use Rattle.schedule.specs.KeptSumLaws.{energy-over-kept, energy-in-columns, load-in-columns}
 use Rattle.schedule.specs.PriceBounds.{energyOn, mostEnergyOn, energyOn-at-most}
-use Rattle.schedule.specs.Quantities.{coreEnergy}
-use borrow.Author.Needs.{needs}
+use Rattle.schedule.specs.Quantities.{loadOn}
 use Rattle.schedule.proofs.prices.core_energy.Statement.{statement}
 use Rattle.schedule.proofs.prices.core_energy.Tie as tie
 
 abbrev Inv-loop : tie.InvT-loop
-Inv-loop inst plan k energy₀ i₀ energy i = (i ≤ inst .taskcount) × (energy ≡ sum (energyOn (problemIn inst) plan k) i)
+Inv-loop inst plan k kept energy₀ j₀ energy j =
+    (j ≤ kept .count) × (energy ≡ sum (λ j. energyOn (problemIn inst) plan k (placeOf kept j)) j)
 
 abbrev μ-loop : tie.MeasureT-loop
-μ-loop inst plan k energy₀ i₀ energy i = inst .taskcount - i
+μ-loop inst plan k kept energy₀ j₀ energy j = kept .count - j
+
+its-load : (c : tie.After-of-all-jobs Inv-loop μ-loop) →
+    let args = c .before .before .before .before .before .before .before .args in
+    let kept = c .before .before .before .before .before .kept-tasks .result in
+    c .of-all-jobs .result ≡ loadOn (problemIn (args .inst)) (args .plan .now) (args .k) (placeOf kept (c .before .before .before .before .loop .j))
+its-load c =
+    c .of-all-jobs .ensures
+    ∙ load-in-columns _ _ _ _ (c .before .before .before .before .before .kept-tasks .ensures) _ (c .before .before .before .loop-test .taken) _ (held-span _ (c .before .before .before .before .before .before .before .pre .0))
+
+-- what is added up so far, and the next term
+energy-so-far : (c : tie.In-loop Inv-loop μ-loop) →
+    let args = c .before .before .before .before .args in
+    let kept = c .before .before .kept-tasks .result in
+    let p = problemIn (args .inst) in
+    let j = c .before .loop .j in
+    sum (λ j. energyOn p (args .plan .now) (args .k) (placeOf kept j)) j + energyOn p (args .plan .now) (args .k) (placeOf kept j) ≤ mostTasks * (mostEnergyOn)
+energy-so-far c =
+    let args = c .before .before .before .before .args in
+    let v = c .before .before .before .before .pre .0 .valid in
+    let kept = c .before .before .kept-tasks .result in
+    let columns = c .before .before .kept-tasks .ensures in
+    omega (
+      arith,
+      sum-and-next-at-most (λ j. energyOn (problemIn (args .inst)) (args .plan .now) (args .k) (placeOf kept j)) (mostEnergyOn) (kept .count) (c .before .loop .j)
+          (λ j l. energyOn-at-most _ v (args .plan .now) (args .k) (placeOf kept j) (is-task _ (args .plan .now) (args .k) kept columns j l)) (c .loop-test .taken),
+      columns .no-more,
+      v .task-count,
+    )
+
+its-energy : (c : tie.After-of-all-jobs Inv-loop μ-loop) →
+    let args = c .before .before .before .before .before .before .before .args in
+    let kept = c .before .before .before .before .before .kept-tasks .result in
+    let j = c .before .before .before .before .loop .j in
+    c .of-all-jobs .result * getD (kept .powers) j 0 ≡ energyOn (problemIn (args .inst)) (args .plan .now) (args .k) (placeOf kept j)
+its-energy c = energy-in-columns _ _ _ _ (c .before .before .before .before .before .kept-tasks .ensures) _ (c .before .before .before .loop-test .taken) _ (its-load c)
+
+kept-tasks-requires : tie.Need-kept-tasks-requires Inv-loop μ-loop
+kept-tasks-requires c κs = search needs
 
 loop-holds : tie.Need-loop-holds Inv-loop μ-loop
 unfolding sum
 loop-holds c = (omega arith, refl)
 
-mul-chosen-level : tie.Need-mul-chosen-level Inv-loop μ-loop
-mul-chosen-level c = let start = c .before .before .before .before in omega (arith, held-taskcount _ (start .pre .0), start .pre .0 .valid .task-count, c .if1 .taken)
+mul-of-all-jobs : tie.Need-mul-of-all-jobs Inv-loop μ-loop
+mul-of-all-jobs c = search needs
 
-shared-slice-read-chosen-level : tie.Need-shared-slice-read-chosen-level Inv-loop μ-loop
-shared-slice-read-chosen-level c = let start = c .before .before .before .before .before in omega (arith, held-taskcount _ (start .pre .0), start .pre .1, c .before .if1 .taken)
+element-copy-out-of-all-jobs : tie.Need-element-copy-out-of-all-jobs Inv-loop μ-loop
+element-copy-out-of-all-jobs c = search needs
 
-chosen-level-requires : tie.Need-chosen-level-requires Inv-loop μ-loop
-chosen-level-requires c κs = c .before .before .before .before .before .pre .0
+mul-of-all-jobs-2 : tie.Need-mul-of-all-jobs-2 Inv-loop μ-loop
+mul-of-all-jobs-2 c = search needs
 
-load-on-requires : tie.Need-load-on-requires Inv-loop μ-loop
-load-on-requires c κs = let start = c .before .before .before .before .before .before in
-    let count = held-taskcount _ (start .pre .0) in
-    (start .pre .0, (omega (arith, c .before .before .if1 .taken), omega (arith, start .pre .1, c .before .before .if1 .taken)))
+element-copy-out-of-all-jobs-2 : tie.Need-element-copy-out-of-all-jobs-2 Inv-loop μ-loop
+element-copy-out-of-all-jobs-2 c = search needs
 
-added : (c : tie.After-load-on Inv-loop μ-loop) → let start = c .before .before .before .before .before .before .before in
-    c .load-on .result * c .before .chosen-level .result .power ≡ energyOn (problemIn (start .args .inst)) (start .args .plan .now) (start .args .k) (c .before .before .before .before .before .loop .i)
-added c = ap₂ _*_ (c .load-on .ensures) (ap (λ (v : Level). v .power) (c .before .chosen-level .ensures))
+of-all-jobs-requires : tie.Need-of-all-jobs-requires Inv-loop μ-loop
+of-all-jobs-requires c κs = search needs
+
+mul-energy : tie.Need-mul-energy Inv-loop μ-loop
+mul-energy c = search needs
+
+element-copy-out-energy : tie.Need-element-copy-out-energy Inv-loop μ-loop
+element-copy-out-energy c = search needs
 
 cast-energy : tie.Need-cast-energy Inv-loop μ-loop
 cast-energy c = search needs
 
-mul-energy : tie.Need-mul-energy Inv-loop μ-loop
-mul-energy c = let start = c .before .before .before .before .before .before .before .before in
-    omega (
-      arith,
-      added (c .before),
-      energyOn-at-most _ (start .pre .0 .valid) (start .args .plan .now) (start .args .k) (c .before .before .before .before .before .before .loop .i) (omega (arith, held-taskcount _ (start .pre .0), c .before .before .before .before .if1 .taken)),
-    )
+mul-energy-2 : tie.Need-mul-energy-2 Inv-loop μ-loop
+mul-energy-2 c = omega (arith, its-energy (c .before), energy-so-far (c .before .before .before .before))
 
 add-energy : tie.Need-add-energy Inv-loop μ-loop
-add-energy c = let start = c .before .before .before .before .before .before .before .before in
-    let s = start .pre .0 in
-    let p = problemIn (start .args .inst) in
-    let same = ap₂ _+_ (c .before .before .before .before .before .before .loop .inv .1) (added (c .before)) in
-    omega (
-      arith,
-      sum-and-next-at-most
-          (energyOn p (start .args .plan .now) (start .args .k))
-          mostEnergyOn
-          (taskCount p)
-          (c .before .before .before .before .before .before .loop .i)
-          (energyOn-at-most p (s .valid) (start .args .plan .now) (start .args .k))
-          (omega (arith, held-taskcount _ s, c .before .before .before .before .if1 .taken)),
-      s .valid .task-count,
-    )
+add-energy c =
+    let same = ap₂ _+_ (c .before .before .before .before .before .loop .inv .1) (its-energy (c .before)) in omega (arith, energy-so-far (c .before .before .before .before))
 
-add-i : tie.Need-add-i Inv-loop μ-loop
-add-i c = omega arith
+add-j : tie.Need-add-j Inv-loop μ-loop
+add-j c = search needs
 
 loop-less : tie.Need-loop-less Inv-loop μ-loop
-loop-less c = omega arith
+loop-less c = search needs
 
 loop-again : tie.Need-loop-again Inv-loop μ-loop
 unfolding sum
-loop-again c = (omega arith, rw add-one (ap₂ _+_ (c .before .before .before .before .before .before .loop .inv .1) (added (c .before))))
+loop-again c =
+    (omega (arith, c .before .before .before .before .loop-test .taken), rw add-one (ap₂ _+_ (c .before .before .before .before .before .loop .inv .1) (its-energy (c .before))))
 
 returns : tie.Need-returns Inv-loop μ-loop
-unfolding coreEnergy
-returns c = let start = c .before .before .before .before in
-    let at-end : c .before .before .loop .i ≡ taskCount (problemIn (start .args .inst)) =
-    omega (arith, c .before .before .loop .inv .0, held-taskcount _ (start .pre .0), c .if1 .left) in
-    c .before .before .loop .inv .1 ∙ ap (sum (energyOn _ _ _)) at-end
+returns c =
+    let args = c .before .before .before .before .args in
+    let kept = c .before .before .kept-tasks .result in
+    let at-end : c .before .loop .j ≡ kept .count = omega (arith, c .before .loop .inv .0, c .loop-test .left) in
+    c .before .loop .inv .1 ∙ ap (sum (λ j. energyOn (problemIn (args .inst)) (args .plan .now) (args .k) (placeOf kept j))) at-end
+    ∙ energy-over-kept _ _ _ _ (c .before .before .kept-tasks .ensures)
 
 pub core-energy-spec : {M : Type 1} → statement M
 core-energy-spec =
@@ -92,15 +121,19 @@ core-energy-spec =
     (tie.spec
     Inv-loop
     μ-loop
+    kept-tasks-requires
     loop-holds
-    mul-chosen-level
-    shared-slice-read-chosen-level
-    chosen-level-requires
-    load-on-requires
-    cast-energy
+    mul-of-all-jobs
+    element-copy-out-of-all-jobs
+    mul-of-all-jobs-2
+    element-copy-out-of-all-jobs-2
+    of-all-jobs-requires
     mul-energy
+    element-copy-out-energy
+    cast-energy
+    mul-energy-2
     add-energy
-    add-i
+    add-j
     loop-less
     loop-again
     returns)

@@ -4,82 +4,59 @@ use borrow.Author.Needs.{needs}
 use Rattle.schedule.specs.KeptRowLaws.{columns-ok, length-front, row-of-columns}
 use Rattle.schedule.proofs.table.fill_core.Statement.{statement}
 use Rattle.schedule.proofs.table.fill_core.Tie as tie
+use Rattle.dispatch.proofs.fill_row.Reads as fill-row-reads
 
-slice-aggregate-kept-columns : tie.Need-slice-aggregate-kept-columns
-slice-aggregate-kept-columns c = search needs
-
-slice-aggregate-kept-columns-2 : tie.Need-slice-aggregate-kept-columns-2
-slice-aggregate-kept-columns-2 c = search needs
-
-slice-aggregate-kept-columns-3 : tie.Need-slice-aggregate-kept-columns-3
-slice-aggregate-kept-columns-3 c = search needs
-
-slice-aggregate-kept-columns-4 : tie.Need-slice-aggregate-kept-columns-4
-slice-aggregate-kept-columns-4 c = search needs
-
-kept-columns-requires : tie.Need-kept-columns-requires
-kept-columns-requires c κs = search needs
+kept-tasks-requires : tie.Need-kept-tasks-requires
+kept-tasks-requires c κs = search needs
 
 array-share-prefix-numbers : tie.Need-array-share-prefix-numbers
 array-share-prefix-numbers c = search needs
 
 slice-aggregate-fill-row : tie.Need-slice-aggregate-fill-row
 slice-aggregate-fill-row c =
-    let columns = c .before .before .before .before .before .kept-columns .ensures in
-    let start = c .before .before .before .before .before .before .before .before .before .before .before .before in
-    sym (length-front _ (start .pre .0 .valid) _ _ _ _ _ _ _ columns _ (columns .places .of-numbers))
+    let columns = c .before .before .before .before .before .kept-tasks .ensures in
+    sym (length-front _ (c .before .before .before .before .before .before .before .before .pre .0 .valid) _ _ _ columns _ (columns .places .of-numbers))
 
 array-share-prefix-periods : tie.Need-array-share-prefix-periods
 array-share-prefix-periods c = search needs
 
 slice-aggregate-fill-row-2 : tie.Need-slice-aggregate-fill-row-2
 slice-aggregate-fill-row-2 c =
-    let columns = c .before .before .before .before .before .before .kept-columns .ensures in
-    let start = c .before .before .before .before .before .before .before .before .before .before .before .before .before in
-    sym (length-front _ (start .pre .0 .valid) _ _ _ _ _ _ _ columns _ (columns .places .of-periods))
+    let columns = c .before .before .before .before .before .before .kept-tasks .ensures in
+    sym (length-front _ (c .before .before .before .before .before .before .before .before .before .pre .0 .valid) _ _ _ columns _ (columns .places .of-periods))
 
 array-share-prefix-windows : tie.Need-array-share-prefix-windows
 array-share-prefix-windows c = search needs
 
 slice-aggregate-fill-row-3 : tie.Need-slice-aggregate-fill-row-3
 slice-aggregate-fill-row-3 c =
-    let columns = c .before .before .before .before .before .before .before .kept-columns .ensures in
-    let start = c .before .before .before .before .before .before .before .before .before .before .before .before .before .before in
-    sym (length-front _ (start .pre .0 .valid) _ _ _ _ _ _ _ columns _ (columns .places .of-windows))
+    let columns = c .before .before .before .before .before .before .before .kept-tasks .ensures in
+    sym (length-front _ (c .before .before .before .before .before .before .before .before .before .before .pre .0 .valid) _ _ _ columns _ (columns .places .of-windows))
 
 array-share-prefix-ticks : tie.Need-array-share-prefix-ticks
 array-share-prefix-ticks c = search needs
 
 slice-aggregate-fill-row-4 : tie.Need-slice-aggregate-fill-row-4
 slice-aggregate-fill-row-4 c =
-    let columns = c .before .before .before .before .before .before .before .before .kept-columns .ensures in
-    let start = c .before .before .before .before .before .before .before .before .before .before .before .before .before .before .before in
-    sym (length-front _ (start .pre .0 .valid) _ _ _ _ _ _ _ columns _ (columns .places .of-ticks))
+    let columns = c .before .before .before .before .before .before .before .before .kept-tasks .ensures in
+    sym (length-front _ (c .before .before .before .before .before .before .before .before .before .before .before .pre .0 .valid) _ _ _ columns _ (columns .places .of-ticks))
 
 fill-row-requires : tie.Need-fill-row-requires
 fill-row-requires c κs =
-    let columns = c .before .before .before .before .before .before .before .before .before .kept-columns .ensures in
-    let start = c .before .before .before .before .before .before .before .before .before .before .before .before .before .before .before .before in
-    (columns-ok _ (start .pre .0 .valid) _ _ _ _ _ _ _ columns, start .pre .1 .1)
+    let start = c .before .before .before .before .before .before .before .before .before .before .before .before in (columns-ok _ (start .pre .0 .valid) _ _ _ (c .before .before .before .before .before .before .before .before .before .kept-tasks .ensures), start .pre .1 .1)
 
 same-length : tie.Need-same-length
 same-length c = search needs
 
 returns : tie.Need-returns
 returns c =
-    let columns = c .before .before .before .before .before .before .before .before .before .before .before .before .kept-columns .ensures in
-    let start = c .before .before .before .before .before .before .before .before .before .before .before .before .before .before .before .before .before .before .before in
-    c .before .before .fill-row .ensures ∙ row-of-columns _ (start .pre .0 .valid) _ _ _ _ _ _ _ columns _
+    let start = c .before .before .before .before .before .before .before .before .before .before .before .before .before .before .before in c .before .before .fill-row .ensures ∙ row-of-columns _ (start .pre .0 .valid) _ _ _ (c .before .before .before .before .before .before .before .before .before .before .before .before .kept-tasks .ensures) _
 
 pub fill-core-spec : {M : Type 1} → statement M
 fill-core-spec =
     tie.close
     (tie.spec
-    slice-aggregate-kept-columns
-    slice-aggregate-kept-columns-2
-    slice-aggregate-kept-columns-3
-    slice-aggregate-kept-columns-4
-    kept-columns-requires
+    kept-tasks-requires
     array-share-prefix-numbers
     slice-aggregate-fill-row
     array-share-prefix-periods

@@ -1,0 +1,92 @@
+-- What is summed over a core's kept tasks is summed over all: a task that is not kept there adds nothing.
+use Prim.Native.Nat.{ℕ, zero, suc, _+_, _*_, _/_, _≤_, _<_}
+use mathlib.Core.Bool.{Bool, true, false}
+use mathlib.Core.List.{List}
+use mathlib.Core.Logic.{⊎-elim}
+use mathlib.Core.Path.{_≡_, refl, sym, ap, _∙_}
+use native.Mathlib.Nat.{eq-zero-or-pos, eq-or-lt-of-le, le-of-suc-le-suc, mul-zero, zero-mul}
+use native.Mathlib.Omega.{arith}
+use lib.ListN.{getD}
+use Rattle.laws.specs.Below.{lt-or-le}
+use Rattle.laws.specs.SumLaws.{sum-zero}
+use Rattle.laws.specs.Sums.{sum}
+use Rattle.instance.specs.Node.{Problem, taskCount, span}
+use Rattle.schedule.specs.KeptColumns.{KeptColumns, placeOf}
+use Rattle.schedule.specs.KeptRowLaws.{is-task}
+use Rattle.schedule.specs.PriceBounds.{energyOn}
+use Rattle.schedule.specs.Quantities.{keeps, ticksOn, jobs, loadOn, coreLoad, coreEnergy}
+use Rattle.schedule.specs.declared.columns.KeptTasks.{KeptTasks}
+
+-- terms that are 0 add nothing
+sum-without-rest : (f : ℕ → ℕ) (n m : ℕ) → n ≤ m → ((i : ℕ) → n ≤ i → i < m → f i ≡ 0) → sum f n ≡ sum f m
+unfolding sum
+sum-without-rest f n zero l none = let e : n ≡ 0 = omega arith in ap (sum f) e
+sum-without-rest f n (suc m) l none =
+    ⊎-elim
+    (λ (e : n ≡ suc m). ap (sum f) e)
+    (λ (below : n < suc m).
+    let from = le-of-suc-le-suc below in
+    omega (arith, sum-without-rest f n m from (λ i b h. none i b (omega arith)), none m from (omega arith)))
+    (eq-or-lt-of-le l)
+
+-- places in ascending order, with every place where f is not 0 among them
+sum-over-places : (f place : ℕ → ℕ) (n m : ℕ) → ((j : ℕ) → j < n → place j < m) → ((i j : ℕ) → i < j → j < n → place i < place j) →
+    ((i : ℕ) → i < m → 0 < f i → (j : ℕ) × (j < n) × (place j ≡ i)) → sum (λ j. f (place j)) n ≡ sum f m
+unfolding sum
+sum-over-places f place zero m inside ascending every =
+    sym (sum-zero f m (λ i l. ⊎-elim (λ none. none) (λ some. let at = every i l some in absurd (omega (arith, at .1))) (eq-zero-or-pos (f i))))
+sum-over-places f place (suc n) m inside ascending every =
+    let last = place n in
+    let before : sum (λ j. f (place j)) n ≡ sum f last =
+    sum-over-places f place n last (λ j l. ascending j n l (omega arith)) (λ i j l b. ascending i j l (omega arith))
+    (λ i l some.
+    let at = every i (omega (arith, inside n (omega arith))) some in (
+      at .0,
+      ⊎-elim (λ b. b)
+          (λ (from : n ≤ at .0). let e : at .0 ≡ n = omega (arith, at .1) in absurd (omega (arith, at .2, ap place e)))
+          (lt-or-le (at .0) n),
+      at .2,
+    )) in
+    let rest : sum f (suc last) ≡ sum f m =
+    sum-without-rest f (suc last) m (inside n (omega arith))
+    (λ i from l.
+    ⊎-elim (λ none. none)
+    (λ some.
+    let at = every i l some in
+    ⊎-elim
+    (λ (b : at .0 < n). absurd (omega (arith, at .2, ascending (at .0) n b (omega arith))))
+    (λ (b : n ≤ at .0). let e : at .0 ≡ n = omega (arith, at .1) in absurd (omega (arith, at .2, ap place e)))
+    (lt-or-le (at .0) n))
+    (eq-zero-or-pos (f i))) in
+    ap (λ (t : ℕ). t + f last) before ∙ rest
+
+module _ (p : Problem) (plan : List ℕ) (k : ℕ) (kept : KeptTasks) (columns : KeptColumns p plan k (taskCount p) kept) where
+  sum-over-kept : (f : ℕ → ℕ) → ((i : ℕ) → keeps p plan k i ≡ false → f i ≡ 0) → sum (λ j. f (placeOf kept j)) (kept .count) ≡ sum f (taskCount p)
+  sum-over-kept f none =
+      sum-over-places f (placeOf kept) (kept .count) (taskCount p) (is-task p plan k kept columns)
+      (λ i j before l. omega (arith, columns .ascending i j before l, columns .held i (omega arith) .above-0, columns .held j l .above-0))
+      (λ i l some. let at = columns .every-kept i l (is-kept i some (keeps p plan k i) refl) in (at .0, at .1, omega (arith, at .2)))
+    where
+      is-kept : (i : ℕ) → 0 < f i → (its : Bool) → keeps p plan k i ≡ its → keeps p plan k i ≡ true
+      is-kept i some true e = e
+      is-kept i some false e = absurd (omega (arith, none i e))
+
+  unkept-load : (i : ℕ) → keeps p plan k i ≡ false → loadOn p plan k i ≡ 0
+  unfolding loadOn ticksOn
+  unkept-load i e = rw e (mul-zero (jobs p i))
+
+  pub load-over-kept : sum (λ j. loadOn p plan k (placeOf kept j)) (kept .count) ≡ coreLoad p plan k
+  unfolding coreLoad
+  load-over-kept = sum-over-kept (loadOn p plan k) unkept-load
+
+  pub energy-over-kept : sum (λ j. energyOn p plan k (placeOf kept j)) (kept .count) ≡ coreEnergy p plan k
+  unfolding coreEnergy
+  energy-over-kept = sum-over-kept (energyOn p plan k) (λ i e. rw (unkept-load i e) (zero-mul _))
+
+  module _ (j : ℕ) (l : j < kept .count) where
+    pub load-in-columns : (w : ℕ) → w ≡ span p → w / getD (kept .periods) j 0 * getD (kept .ticks) j 0 ≡ loadOn p plan k (placeOf kept j)
+    unfolding loadOn jobs
+    load-in-columns w wide = rw (wide, columns .held j l .same-period, columns .held j l .same-ticks) refl
+
+    pub energy-in-columns : (load : ℕ) → load ≡ loadOn p plan k (placeOf kept j) → load * getD (kept .powers) j 0 ≡ energyOn p plan k (placeOf kept j)
+    energy-in-columns load e = rw (e, columns .held j l .same-power) refl

@@ -1,0 +1,56 @@
+// The tasks that a plan keeps on one core, in columns.
+use crate::quantities::is_named;
+use crate::quantities::level_of;
+use crate::quantities::ticks_of;
+use crate::quantities::window_of;
+use dispatch::Slot;
+use instance::Instance;
+ghost use mathlib.Core.Path.{_≡_};
+ghost use lib.ListN.{length};
+ghost use Rattle.instance.specs.Held.{Sound, problemIn};
+ghost use Rattle.instance.specs.Node.{taskCount};
+ghost use Rattle.schedule.specs.KeptColumns.{KeptColumns};
+
+// The first `count` places of the columns are of a task each: its number, its period, the window and the ticks of a job, and
+// the power of its level.
+pub(crate) struct KeptTasks {
+    pub(crate) count: usize,
+    pub(crate) numbers: [Slot; ranges::MOST_TASKS as usize],
+    pub(crate) periods: [u32; ranges::MOST_TASKS as usize],
+    pub(crate) windows: [u32; ranges::MOST_TASKS as usize],
+    pub(crate) ticks: [u32; ranges::MOST_TASKS as usize],
+    pub(crate) powers: [u32; ranges::MOST_TASKS as usize],
+}
+
+// The tasks that the plan keeps on core k, counted from 0, in ascending order.
+pub(crate) fn kept_tasks(inst: Instance, plan: &[u32], k: usize) -> KeptTasks
+    requires { ⌜ Sound inst ⌝ }
+    requires { ⌜ length (now plan) ≡ taskCount (problemIn inst) ⌝ }
+    ensures { λ r. ⌜ KeptColumns (problemIn inst) (now (plan .entry)) k (taskCount (problemIn inst)) r ⌝ }
+{
+    let mut kept = KeptTasks {
+        count: 0,
+        numbers: [0; ranges::MOST_TASKS as usize],
+        periods: [0; ranges::MOST_TASKS as usize],
+        windows: [0; ranges::MOST_TASKS as usize],
+        ticks: [0; ranges::MOST_TASKS as usize],
+        powers: [0; ranges::MOST_TASKS as usize],
+    };
+    let mut i = 0;
+    while i < inst.taskcount {
+        let choice = plan[i];
+        if is_named(k, choice, inst.levelcount) {
+            let task = inst.tasks[i];
+            let level = inst.levels[level_of(choice, inst.levelcount)];
+            let n = kept.count;
+            kept.numbers[n] = (i + 1) as Slot;
+            kept.periods[n] = task.period;
+            kept.windows[n] = window_of(task);
+            kept.ticks[n] = ticks_of(task.cycles, level.speed);
+            kept.powers[n] = level.power;
+            kept.count = n + 1;
+        }
+        i += 1;
+    }
+    kept
+}
