@@ -2,7 +2,9 @@
 use crate::plan::choices_pass;
 use crate::plan::smaller;
 use crate::quantities::core_of;
+use crate::quantities::level_of;
 use crate::quantities::ticks_of;
+use crate::quantities::window_of;
 use crate::table::table_size;
 use dispatch::Slot;
 use instance::Instance;
@@ -10,7 +12,7 @@ use instance::read_instance;
 use refusals::Refusal;
 use refusals::Verdict;
 ghost use mathlib.Core.Path.{_≡_};
-ghost use Prim.Native.Nat.{pred, _+_, _*_, _/_, _%_, _≤_, _<_};
+ghost use Prim.Native.Nat.{pred, _+_, _*_, _/_, _≤_, _<_};
 ghost use lib.Dec.{eqb};
 ghost use lib.ListN.{length, getD};
 ghost use Rattle.laws.specs.Search.{count};
@@ -139,17 +141,6 @@ fn is_served(
     jobs_served(table, from, number, period, window, jobs, ticks)
 }
 
-// The level that a choice names, counted from 0.
-fn level_of(choice: u32, levels: usize) -> usize
-    requires { ⌜ 0 < levels ⌝ }
-    ensures { λ r. ⌜ r ≡ pred choice % levels ⌝ }
-{
-    if choice == 0 {
-        return 0;
-    }
-    (choice - 1) as usize % levels
-}
-
 // The test of the jobs: none has more or fewer slots than ticks.
 fn jobs_pass(inst: Instance, plan: &[u32], table: &[Slot]) -> Verdict
     requires { ⌜ Sound inst ⌝ }
@@ -166,7 +157,7 @@ fn jobs_pass(inst: Instance, plan: &[u32], table: &[Slot]) -> Verdict
         let task = inst.tasks[i];
         let level = inst.levels[level_of(choice, levels)];
         let period = task.period as usize;
-        let window = period;
+        let window = window_of(task) as usize;
         let ticks = ticks_of(task.cycles, level.speed) as usize;
         if !is_served(
             table,
