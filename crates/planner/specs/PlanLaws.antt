@@ -60,19 +60,29 @@ pub given-reading : (words plan table : List ℕ) {reading : Reading Problem} {g
     given ≡ planOutcomeOf reading plan table → given ≡ planOutcome words plan table
 given-reading words plan table e given = given ∙ sym (of-reading words plan table e)
 
-module _ (p : Problem) (n : ℕ) (is-count : n ≡ taskCount p) (plan table : List ℕ) where
-  pub short-plan-outcome : length plan < n → planRefused (Refusal.ShortBuffer n) plan table ≡ planOutcomeOf (accepted p) plan table
-  short-plan-outcome short = rw (is-count, no-room (taskCount p) plan (omega arith)) refl
+module _ (p : Problem) (n : ℕ) (is-count : n ≡ taskCount p) (plan : List ℕ) where
+  pub chosen-passes : (r : Found) (after : List ℕ) {total : ℕ} → r ≡ foundOf p (bestPlan p) → after ≡ chosenOnto (bestPlan p) plan →
+      r ≡ Found.Cheapest total → planPasses p (take n after) ≡ Accepted
+  chosen-passes r after {total} found chosen cheapest = rw chosen (go (bestPlan p) refl (sym found ∙ cheapest))
+    where
+      go : (best : Option (List ℕ)) → bestPlan p ≡ best → foundOf p best ≡ Found.Cheapest total →
+          planPasses p (take n (chosenOnto best plan)) ≡ Accepted
+      go none same other = let z : _≡_ {A = ℕ} 0 1 = cc in absurd (omega arith)
+      go (some best) same cheapest = rw (is-count, front-of-onto best plan (best-plan-length p same)) (best-plan-passes p same)
 
-  module _ (plan-room : n ≤ length plan) where
-    pub short-table-outcome : (size : ℕ) → size ≡ tableSize p → length table < size →
-        planRefused (Refusal.ShortBuffer size) plan table ≡ planOutcomeOf (accepted p) plan table
-    short-table-outcome size is-size short =
-        rw (is-size, enough-room (taskCount p) plan (omega arith), no-room (tableSize p) table (omega arith)) refl
+  module _ (table : List ℕ) where
+    pub short-plan-outcome : length plan < n → planRefused (Refusal.ShortBuffer n) plan table ≡ planOutcomeOf (accepted p) plan table
+    short-plan-outcome short = rw (is-count, no-room (taskCount p) plan (omega arith)) refl
 
-    module _ (r : Found) (after : List ℕ) (found : r ≡ foundOf p (bestPlan p)) (chosen : after ≡ chosenOnto (bestPlan p) plan) where
-      pub chosen-outcome : tableSize p ≤ length table → planFrom p n table r after ≡ planOutcomeOf (accepted p) plan table
-      chosen-outcome table-room =
+    module _ (plan-room : n ≤ length plan) where
+      pub short-table-outcome : (size : ℕ) → size ≡ tableSize p → length table < size →
+          planRefused (Refusal.ShortBuffer size) plan table ≡ planOutcomeOf (accepted p) plan table
+      short-table-outcome size is-size short =
+          rw (is-size, enough-room (taskCount p) plan (omega arith), no-room (tableSize p) table (omega arith)) refl
+
+      pub chosen-outcome : (r : Found) (after : List ℕ) → r ≡ foundOf p (bestPlan p) → after ≡ chosenOnto (bestPlan p) plan →
+          tableSize p ≤ length table → planFrom p n table r after ≡ planOutcomeOf (accepted p) plan table
+      chosen-outcome r after found chosen table-room =
           rw (found, chosen, enough-room (taskCount p) plan (omega arith), enough-room (tableSize p) table table-room)
           (go (bestPlan p) refl)
         where
@@ -80,11 +90,3 @@ module _ (p : Problem) (n : ℕ) (is-count : n ≡ taskCount p) (plan table : Li
               planFrom p n table (foundOf p best) (chosenOnto best plan) ≡ planAnswered p best plan table
           go none same = refl
           go (some best) same = rw (is-count, front-of-onto best plan (best-plan-length p same)) refl
-
-      pub chosen-passes : {total : ℕ} → r ≡ Found.Cheapest total → planPasses p (take n after) ≡ Accepted
-      chosen-passes {total} cheapest = rw chosen (go (bestPlan p) refl (sym found ∙ cheapest))
-        where
-          go : (best : Option (List ℕ)) → bestPlan p ≡ best → foundOf p best ≡ Found.Cheapest total →
-              planPasses p (take n (chosenOnto best plan)) ≡ Accepted
-          go none same other = let z : _≡_ {A = ℕ} 0 1 = cc in absurd (omega arith)
-          go (some best) same cheapest = rw (is-count, front-of-onto best plan (best-plan-length p same)) (best-plan-passes p same)

@@ -1,6 +1,6 @@
 // The tasks that a plan keeps on one core, in columns.
-use crate::quantities::is_named;
 use crate::quantities::level_of;
+use crate::quantities::names_core;
 use crate::quantities::ticks_of;
 use crate::quantities::window_of;
 use dispatch::Slot;
@@ -39,7 +39,7 @@ pub(crate) fn kept_tasks(inst: Instance, plan: &[u32], k: usize) -> KeptTasks
     let mut i = 0;
     while i < inst.taskcount {
         let choice = plan[i];
-        if is_named(k, choice, inst.levelcount) {
+        if names_core(choice, inst.levelcount, k) {
             let task = inst.tasks[i];
             let level = inst.levels[level_of(choice, inst.levelcount)];
             let n = kept.count;

@@ -53,8 +53,8 @@ pub(crate) fn core_of(choice: u32, levels: usize) -> usize
     (choice - 1) as usize / levels
 }
 
-// Whether a choice keeps its task on core k, counted from 0.
-pub(crate) fn is_named(k: usize, choice: u32, levels: usize) -> bool
+// Whether a choice names core k, counted from 0; 0 names none.
+pub(crate) fn names_core(choice: u32, levels: usize, k: usize) -> bool
     requires { ⌜ 0 < levels ⌝ }
     ensures { λ r. ⌜ r ≡ (not (eqb choice 0) && eqb (pred choice / levels) k) ⌝ }
 {

@@ -43,8 +43,7 @@ chosen-plan-passes : (c : tie.After-enum-told) →
 chosen-plan-passes c =
     let chosen = c .before .before .before .before in
     let start = c .before .before .before .before .before .before .before .before .before .before .before in
-    chosen-passes _ _ (held-taskcount _ (start .pre)) _ (start .args .table .now) (c .before .before .before .before .before .before .before .if1 .left) _ _ (chosen .best-choices .ensures .0)
-    (chosen .best-choices .ensures .1) (c .enum-told .given .1)
+    chosen-passes _ _ (held-taskcount _ (start .pre)) _ _ _ (chosen .best-choices .ensures .0) (chosen .best-choices .ensures .1) (c .enum-told .given .1)
 
 one-choice-each : (c : tie.After-enum-told) →
     let start = c .before .before .before .before .before .before .before .before .before .before .before in length (take (start .args .inst .taskcount) (c .before .before .before .before .best-choices .last .1 .0)) ≡ start .args .inst .taskcount

@@ -43,8 +43,8 @@ mul-choice c = omega (arith, task-is-few c)
 shared-slice-read-choice : tie.Need-shared-slice-read-choice Inv-loop μ-loop
 shared-slice-read-choice c = omega (arith, task-below (c .before), c .before .before .before .before .pre .1)
 
-is-named-requires : tie.Need-is-named-requires Inv-loop μ-loop
-is-named-requires c κs = level-count-above-zero _ (c .before .before .before .before .pre .0)
+names-core-requires : tie.Need-names-core-requires Inv-loop μ-loop
+names-core-requires c κs = level-count-above-zero _ (c .before .before .before .before .pre .0)
 
 mul-task : tie.Need-mul-task Inv-loop μ-loop
 mul-task c = omega (arith, task-is-few (c .before .before .before))
@@ -119,7 +119,7 @@ loop-again c =
     let plan = start .args .plan .now in
     let at = c .before .before .before .before .loop in
     let task = held-task _ s (at .i) (task-below (c .before .before .before)) in
-    let keeps-it = sym (c .before .is-named .ensures ∙ held-keeps _ s plan (start .args .k) (at .i)) in (
+    let keeps-it = sym (c .before .names-core .ensures ∙ held-keeps _ s plan (start .args .k) (at .i)) in (
       omega (arith, c .before .before .before .loop-test .taken),
       ⊎-elim
           (λ its.
@@ -147,7 +147,7 @@ kept-tasks-spec =
     loop-holds
     mul-choice
     shared-slice-read-choice
-    is-named-requires
+    names-core-requires
     mul-task
     element-copy-out-task
     level-of-requires
