@@ -64,16 +64,16 @@ module _ (words : List ℕ) (inst : Instance) (held : HoldsProblemOf words inst)
       (refl, (refl, refl))
 
 -- the outcomes of planning in a buffer of its own and in the lent one
-data InOwn (own plan table : List ℕ) : PlanOutcome → PlanOutcome → Type 0 where
-  refuses : (r : Refusal) → InOwn own plan table (planRefused r own table) (planRefused r plan table)
+data OwnBufferOutcome (own plan table : List ℕ) : PlanOutcome → PlanOutcome → Type 0 where
+  refuses : (r : Refusal) → OwnBufferOutcome own plan table (planRefused r own table) (planRefused r plan table)
   plans : (price : Price) (choices slots : List ℕ) → ByteList choices →
-      InOwn own plan table
+      OwnBufferOutcome own plan table
       (record { answer = Priced.Cost price; plan = choices; table = slots })
       (record { answer = Priced.Cost price; plan = onto choices plan; table = slots })
 
 module _ (words : List ℕ) (n : ℕ) (plan own table : List ℕ) (lent : RoomForPlan words n plan) (exact : length own ≡ n) where
-  in-own : InOwn own plan table (planOutcome words own table) (planOutcome words plan table)
-  in-own =
+  own-buffer-outcome : OwnBufferOutcome own plan table (planOutcome words own table) (planOutcome words plan table)
+  own-buffer-outcome =
       let tasks = lent .tasks in
       let enough = lent .enough in
       rw (
@@ -87,40 +87,40 @@ module _ (words : List ℕ) (n : ℕ) (plan own table : List ℕ) (lent : RoomFo
       v : Verdict
       v = room (tableSize p) table
 
-      answered : (best : Option (List ℕ)) → bestPlan p ≡ best → InOwn own plan table (planAnswered p best own table) (planAnswered p best plan table)
-      answered none e = InOwn.refuses _
+      answered : (best : Option (List ℕ)) → bestPlan p ≡ best → OwnBufferOutcome own plan table (planAnswered p best own table) (planAnswered p best plan table)
+      answered none e = OwnBufferOutcome.refuses _
       answered (some best) e =
           rw (onto-all best own (best-plan-length p e ∙ sym (lent .tasks) ∙ sym exact))
-          (InOwn.plans _ best _ (best-plan-fits-bytes p (accepted-is-valid words (lent .read)) e))
+          (OwnBufferOutcome.plans _ best _ (best-plan-fits-bytes p (accepted-is-valid words (lent .read)) e))
 
-      placed : (v : Verdict) → InOwn own plan table (planWhere v p own table) (planWhere v p plan table)
-      placed (Refused r) = InOwn.refuses r
+      placed : (v : Verdict) → OwnBufferOutcome own plan table (planWhere v p own table) (planWhere v p plan table)
+      placed (Refused r) = OwnBufferOutcome.refuses r
       placed Accepted = answered (bestPlan p) refl
 
   -- what planning in its own buffer came to
   module _ {answer : Priced} {choices slots : List ℕ} (came : IsOutcome (planOutcome words own table) answer choices slots) where
-    pub refused-in-own : {r : Refusal} → answer ≡ Priced.Refused r → IsOutcome (planOutcome words plan table) (Priced.Refused r) plan slots
-    refused-in-own {r} said = go in-own came
+    pub refused-own-buffer-outcome-buffer : {r : Refusal} → answer ≡ Priced.Refused r → IsOutcome (planOutcome words plan table) (Priced.Refused r) plan slots
+    refused-own-buffer-outcome-buffer {r} said = go own-buffer-outcome came
       where
-        go : {o q : PlanOutcome} → InOwn own plan table o q → IsOutcome o answer choices slots → IsOutcome q (Priced.Refused r) plan slots
-        go (InOwn.refuses other) is = (sym said ∙ is .0, (refl, is .1 .1))
-        go (InOwn.plans price best row bytes) is = let z : _≡_ {A = ℕ} 0 1 = cc in absurd (omega arith)
+        go : {o q : PlanOutcome} → OwnBufferOutcome own plan table o q → IsOutcome o answer choices slots → IsOutcome q (Priced.Refused r) plan slots
+        go (OwnBufferOutcome.refuses other) is = (sym said ∙ is .0, (refl, is .1 .1))
+        go (OwnBufferOutcome.plans price best row bytes) is = let z : _≡_ {A = ℕ} 0 1 = cc in absurd (omega arith)
 
-    planned-in-own : {price : Price} → answer ≡ Priced.Cost price →
+    planned-own-buffer-outcome : {price : Price} → answer ≡ Priced.Cost price →
         ByteList choices × IsOutcome (planOutcome words plan table) (Priced.Cost price) (onto choices plan) slots
-    planned-in-own {price} said = go in-own came
+    planned-own-buffer-outcome {price} said = go own-buffer-outcome came
       where
-        go : {o q : PlanOutcome} → InOwn own plan table o q → IsOutcome o answer choices slots →
+        go : {o q : PlanOutcome} → OwnBufferOutcome own plan table o q → IsOutcome o answer choices slots →
             ByteList choices × IsOutcome q (Priced.Cost price) (onto choices plan) slots
-        go (InOwn.refuses other) is = let z : _≡_ {A = ℕ} 0 1 = cc in absurd (omega arith)
-        go (InOwn.plans other best row bytes) is =
+        go (OwnBufferOutcome.refuses other) is = let z : _≡_ {A = ℕ} 0 1 = cc in absurd (omega arith)
+        go (OwnBufferOutcome.plans other best row bytes) is =
             rw (is .1 .0) (bytes, (sym said ∙ is .0, (refl, is .1 .1)))
 
     -- its front, copied
     module _ {price : Price} (said : answer ≡ Priced.Cost price) (rest : List ℕ) (kept : length choices ≡ n) where
       pub own-plan-is-bytes : ByteList (take n (choices ++ rest))
-      own-plan-is-bytes = rw (take-at choices rest n kept) (planned-in-own said .0)
+      own-plan-is-bytes = rw (take-at choices rest n kept) (planned-own-buffer-outcome said .0)
 
       pub own-plan-is-copied : {after : List ℕ} → after ≡ onto (take n (choices ++ rest)) plan →
           IsOutcome (planOutcome words plan table) (Priced.Cost price) after slots
-      own-plan-is-copied copied = rw (copied, take-at choices rest n kept) (planned-in-own said .1)
+      own-plan-is-copied copied = rw (copied, take-at choices rest n kept) (planned-own-buffer-outcome said .1)

@@ -14,7 +14,7 @@ use Rattle.schedule.specs.Plans.{planPasses}
 use Rattle.schedule.specs.RepeatedTableLaws.{drawing-serves-for-ever}
 use Rattle.schedule.specs.Tables.{tableOf}
 use Rattle.planner.specs.BestPlanLaws.{best-plan-is-best, best-plan-passes, no-best-plan, none-is-none}
-use Rattle.planner.specs.CheapestLaws.{Ahead}
+use Rattle.planner.specs.CheapestLaws.{NoWorsePlan}
 use Rattle.planner.specs.CostLaws.{cost-is-total}
 use Rattle.planner.specs.OptionsLaws.{passing-is-allowed}
 use Rattle.planner.specs.OptionsOf.{optionsOf}
@@ -34,9 +34,9 @@ module _ (p : Problem) (periodic : Periodic p) where
     passes : planPasses p plan ≡ Accepted
     passes = best-plan-passes p answered
 
-    ahead-of-drawings : {other slots : List ℕ} → Drawing p other slots → Ahead p plan other
+    no-worse-than-drawings : {other slots : List ℕ} → Drawing p other slots → NoWorsePlan p plan other
     unfolding optionsOf
-    ahead-of-drawings {other} d =
+    no-worse-than-drawings {other} d =
         let other-passes = drawn-plan-passes p periodic other d in
         let no-worse = best-plan-is-best p answered .no-worse other (passing-is-allowed p other .0 other-passes) in
         rw (cost-is-total p plan passes, cost-is-total p other other-passes) no-worse
@@ -47,9 +47,9 @@ module _ (p : Problem) (periodic : Periodic p) where
         record {
           is-drawing = d;
           passes-check = passing-table-passes p periodic plan passes;
-          no-drawing-cheaper = λ other slots rival. ⊎-elim (λ cheaper. omega arith) (λ equal. omega arith) (ahead-of-drawings rival);
+          no-drawing-cheaper = λ other slots rival. ⊎-elim (λ cheaper. omega arith) (λ equal. omega arith) (no-worse-than-drawings rival);
           first-of-equals = λ other slots rival same.
-              ⊎-elim (λ cheaper. absurd (omega arith)) (λ equal. equal .1) (ahead-of-drawings rival);
+              ⊎-elim (λ cheaper. absurd (omega arith)) (λ equal. equal .1) (no-worse-than-drawings rival);
           its-table = refl;
           for-ever = drawing-serves-for-ever p periodic plan (tableOf p plan) d;
         }

@@ -17,7 +17,7 @@ use Rattle.planner.specs.Planning.{passes, isAllowed, bestPlan, choiceLi
 use Rattle.planner.specs.OptionsOf.{optionsOf}
 use Rattle.planner.specs.OptionsLaws.{item-count, passing-is-allowed}
 use Rattle.planner.specs.CostLaws.{cost-is-total}
-use Rattle.planner.specs.CheapestLaws.{Ahead, Found, found, missing, firstCheapest-found}
+use Rattle.planner.specs.CheapestLaws.{NoWorsePlan, Found, found, missing, firstCheapest-found}
 use Rattle.planner.specs.ChoiceListLaws.{Choices, listed-iff, choiceLists-ascend}
 
 passes-iff : (v : Verdict) → (passes v ≡ true) ↔ (v ≡ Accepted)
@@ -58,10 +58,10 @@ module _ (p : Problem) where
   unfolding optionsOf
   allowed-is-tried plan allowed = listed-iff _ _ _ .1 (rw (item-count p) at (choices-in-range (allowed .choices)))
 
-  ahead-is-no-worse : {plan other : List ℕ} → Allowed (optionsOf p) plan → Allowed (optionsOf p) other →
-      Ahead p plan other → NoWorse (optionsOf p) plan other
+  no-worse-plan-is-no-worse : {plan other : List ℕ} → Allowed (optionsOf p) plan → Allowed (optionsOf p) other →
+      NoWorsePlan p plan other → NoWorse (optionsOf p) plan other
   unfolding optionsOf
-  ahead-is-no-worse {plan} {other} allowed rival ahead =
+  no-worse-plan-is-no-worse {plan} {other} allowed rival ahead =
       rw (cost-is-total p plan (passing-is-allowed p plan .1 allowed), cost-is-total p other (passing-is-allowed p other .1 rival)) at ahead
 
   answer-of-found : {answer : Option (List ℕ)} → Found p (choiceLists (mostChoice p) (taskCount p)) answer → Answer (optionsOf p) answer
@@ -71,7 +71,7 @@ module _ (p : Problem) where
       (record {
         allowed = allowed;
         no-worse = λ other rival.
-            ahead-is-no-worse allowed rival (ahead other (allowed-is-tried other rival) (isAllowed-iff other .1 rival));
+            no-worse-plan-is-no-worse allowed rival (ahead other (allowed-is-tried other rival) (isAllowed-iff other .1 rival));
       })
   answer-of-found (missing none-allowed) =
       nothing (λ plan allowed. none-allowed plan (allowed-is-tried plan allowed) (isAllowed-iff plan .1 allowed))

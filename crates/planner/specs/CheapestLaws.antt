@@ -17,13 +17,13 @@ use Rattle.planner.specs.Planning.{isAllowed, better, firstCheapest}
 use Rattle.planner.specs.ChoiceListLaws.{Ascending}
 
 -- cheaper, or as cheap and not after
-abbrev pub Ahead : Problem → List ℕ → List ℕ → Type 0
-Ahead p plan other = (cost p plan < cost p other) ⊎ ((cost p plan ≡ cost p other) × ((plan ≡ other) ⊎ Before plan other))
+abbrev pub NoWorsePlan : Problem → List ℕ → List ℕ → Type 0
+NoWorsePlan p plan other = (cost p plan < cost p other) ⊎ ((cost p plan ≡ cost p other) × ((plan ≡ other) ⊎ Before plan other))
 
 -- what is found in a list of plans: an allowed one that is ahead of all allowed ones, or none where none is allowed
 pub data Found (p : Problem) (plans : List (List ℕ)) : Option (List ℕ) → Type 0 where
   found : {plan : List ℕ} → List·Memᴰ plan plans → isAllowed p plan ≡ true →
-      ((other : List ℕ) → List·Memᴰ other plans → isAllowed p other ≡ true → Ahead p plan other) → Found p plans (some plan)
+      ((other : List ℕ) → List·Memᴰ other plans → isAllowed p other ≡ true → NoWorsePlan p plan other) → Found p plans (some plan)
   missing : ((other : List ℕ) → List·Memᴰ other plans → isAllowed p other ≡ true → ⊥) → Found p plans none
 
 -- what holds of the first and of the others holds of all
@@ -32,13 +32,13 @@ each {ℓ κ} : {A : Type ℓ} (P : A → Type κ) {x : A} {xs : List A} → P x
 each P here others y m = ⊎-elim (λ e. subst P (sym e) here) (others y) (List·Memᴰ·cases-cons m)
 
 module _ (p : Problem) where
-  ahead-of-itself : (plan : List ℕ) → Ahead p plan plan
-  ahead-of-itself plan = inr (refl, inl refl)
+  no-worse-than-itself : (plan : List ℕ) → NoWorsePlan p plan plan
+  no-worse-than-itself plan = inr (refl, inl refl)
 
   -- a plan that costs no more than another and stands before whatever follows is ahead of what that other is ahead of
-  ahead-before : {plan other later : List ℕ} → cost p plan ≤ cost p other → Before plan later → Ahead p other later → Ahead p plan later
-  ahead-before {plan} {other} {later} h before (inl cheaper) = inl (omega arith)
-  ahead-before {plan} {other} {later} h before (inr (e, place)) =
+  no-worse-before : {plan other later : List ℕ} → cost p plan ≤ cost p other → Before plan later → NoWorsePlan p other later → NoWorsePlan p plan later
+  no-worse-before {plan} {other} {later} h before (inl cheaper) = inl (omega arith)
+  no-worse-before {plan} {other} {later} h before (inr (e, place)) =
       ⊎-elim
       (λ (same : cost p plan ≡ cost p later). inr (same, inr before))
       (λ (less : cost p plan < cost p later). inl less)
@@ -50,7 +50,7 @@ module _ (p : Problem) where
         found
         (List·Memᴰ·tail listed)
         allowed
-        (each (λ other. isAllowed p other ≡ true → Ahead p best other) (λ passes. absurd (false-not-true fails passes)) ahead)
+        (each (λ other. isAllowed p other ≡ true → NoWorsePlan p best other) (λ passes. absurd (false-not-true fails passes)) ahead)
     found-without fails (missing none-allowed) =
         missing (each (λ other. isAllowed p other ≡ true → ⊥) (false-not-true fails) none-allowed)
 
@@ -61,8 +61,8 @@ module _ (p : Problem) where
         (List·Memᴰ·head refl)
         passes
         (each
-        (λ other. isAllowed p other ≡ true → Ahead p plan other)
-        (λ again. ahead-of-itself plan)
+        (λ other. isAllowed p other ≡ true → NoWorsePlan p plan other)
+        (λ again. no-worse-than-itself plan)
         (λ other m allowed. absurd (none-allowed other m allowed)))
     found-better passes (found {plan = best} listed allowed ahead) = go (leb (cost p plan) (cost p best)) refl
       where
@@ -72,14 +72,14 @@ module _ (p : Problem) where
             (List·Memᴰ·head refl)
             passes
             (each
-            (λ other. isAllowed p other ≡ true → Ahead p plan other)
-            (λ again. ahead-of-itself plan)
-            (λ other m ok. ahead-before (leb-true _ _ e) (first other m) (ahead other m ok)))
+            (λ other. isAllowed p other ≡ true → NoWorsePlan p plan other)
+            (λ again. no-worse-than-itself plan)
+            (λ other m ok. no-worse-before (leb-true _ _ e) (first other m) (ahead other m ok)))
         go false e =
             found
             (List·Memᴰ·tail listed)
             allowed
-            (each (λ other. isAllowed p other ≡ true → Ahead p best other) (λ again. inl (leb-false _ _ e)) ahead)
+            (each (λ other. isAllowed p other ≡ true → NoWorsePlan p best other) (λ again. inl (leb-false _ _ e)) ahead)
 
     found-step : {best : Option (List ℕ)} → Found p plans best → Found p (plan ∷ plans) (cond (isAllowed p plan) (better p plan best) best)
     found-step {best} rest = go (isAllowed p plan) refl

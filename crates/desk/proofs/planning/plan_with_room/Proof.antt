@@ -2,7 +2,7 @@ use mathlib.Core.Path.{_≡_, sym, _∙_}
 use native.Mathlib.Omega.{arith}
 use lib.ListN.{length, length-append}
 use lib.Seq.{length-take-le}
-use Rattle.desk.specs.OwnPlanLaws.{tasks-at-most, refused-in-own, own-plan-is-bytes, own-plan-is-copied}
+use Rattle.desk.specs.OwnPlanLaws.{tasks-at-most, refused-own-buffer-outcome-buffer, own-plan-is-bytes, own-plan-is-copied}
 use borrow.Author.Needs.{needs}
 use Rattle.desk.proofs.planning.plan_with_room.Statement.{statement}
 use Rattle.desk.proofs.planning.plan_with_room.Tie as tie
@@ -28,7 +28,7 @@ same-length c = search needs
 returns : tie.Need-returns
 returns c =
     let planned = c .before .before .before .before .before .before .plan .ensures in
-    refused-in-own _ _ _ _ _ (c .before .before .before .before .before .before .before .before .before .before .before .before .pre) (sym (slice-aggregate-plan (c .before .before .before .before .before .before .before .before))) (planned .0, (planned .1 .0, planned .1 .1 .0)) (c .before .refusal .given .1)
+    refused-own-buffer-outcome-buffer _ _ _ _ _ (c .before .before .before .before .before .before .before .before .before .before .before .before .pre) (sym (slice-aggregate-plan (c .before .before .before .before .before .before .before .before))) (planned .0, (planned .1 .0, planned .1 .1 .0)) (c .before .refusal .given .1)
 
 enum-known-price : tie.Need-enum-known-price
 enum-known-price c = search needs
