@@ -4,13 +4,16 @@ use mathlib.Core.Bool.{Bool, true, false}
 use mathlib.Core.List.{List}
 use mathlib.Core.Logic.{⊎-elim}
 use mathlib.Core.Path.{_≡_, refl, sym, ap, _∙_}
-use native.Mathlib.Nat.{eq-zero-or-pos, eq-or-lt-of-le, le-of-suc-le-suc, mul-zero, zero-mul}
+use native.Mathlib.Nat.{eq-zero-or-pos, eq-or-lt-of-le, le-of-suc-le-suc, le-trans, mul-le-mul-right, mul-zero, zero-mul}
 use native.Mathlib.Omega.{arith}
 use lib.ListN.{getD}
 use Rattle.laws.specs.Below.{lt-or-le}
+use Rattle.laws.specs.SumBounds.{sum-and-next-at-most}
 use Rattle.laws.specs.SumLaws.{sum-zero}
 use Rattle.laws.specs.Sums.{sum}
+use Rattle.ranges.specs.Limits.{mostTasks}
 use Rattle.instance.specs.Node.{Problem, taskCount, span}
+use Rattle.instance.specs.Valid.{Valid}
 use Rattle.schedule.specs.KeptColumns.{KeptColumns, placeOf}
 use Rattle.schedule.specs.KeptRowLaws.{is-task}
 use Rattle.schedule.specs.PriceBounds.{energyOn}
@@ -60,8 +63,12 @@ sum-over-places f place (suc n) m inside ascending every =
     (eq-zero-or-pos (f i))) in
     ap (λ (t : ℕ). t + f last) before ∙ rest
 
+-- the sum over the first n that are kept
+abbrev pub sumOfKept : KeptTasks → (ℕ → ℕ) → ℕ → ℕ
+sumOfKept kept f n = sum (λ j. f (placeOf kept j)) n
+
 module _ (p : Problem) (plan : List ℕ) (k : ℕ) (kept : KeptTasks) (columns : KeptColumns p plan k (taskCount p) kept) where
-  sum-over-kept : (f : ℕ → ℕ) → ((i : ℕ) → keeps p plan k i ≡ false → f i ≡ 0) → sum (λ j. f (placeOf kept j)) (kept .count) ≡ sum f (taskCount p)
+  sum-over-kept : (f : ℕ → ℕ) → ((i : ℕ) → keeps p plan k i ≡ false → f i ≡ 0) → sumOfKept kept f (kept .count) ≡ sum f (taskCount p)
   sum-over-kept f none =
       sum-over-places f (placeOf kept) (kept .count) (taskCount p) (is-task p plan k kept columns)
       (λ i j before l. omega (arith, columns .ascending i j before l, columns .held i (omega arith) .above-0, columns .held j l .above-0))
@@ -71,15 +78,23 @@ module _ (p : Problem) (plan : List ℕ) (k : ℕ) (kept : KeptTasks) (columns :
       is-kept i some true e = e
       is-kept i some false e = absurd (omega (arith, none i e))
 
+  -- a sum that is not yet complete, and its next term
+  pub sum-of-kept-at-most : Valid p → (f : ℕ → ℕ) (b : ℕ) → ((i : ℕ) → i < taskCount p → f i ≤ b) → (j : ℕ) → j < kept .count →
+      sumOfKept kept f j + f (placeOf kept j) ≤ mostTasks * b
+  sum-of-kept-at-most v f b bounded j l =
+      le-trans
+      (sum-and-next-at-most (λ j. f (placeOf kept j)) b (kept .count) j (λ j l. bounded (placeOf kept j) (is-task p plan k kept columns j l)) l)
+      (mul-le-mul-right b (omega (arith, columns .no-more, v .task-count)))
+
   unkept-load : (i : ℕ) → keeps p plan k i ≡ false → loadOn p plan k i ≡ 0
   unfolding loadOn ticksOn
   unkept-load i e = rw e (mul-zero (jobs p i))
 
-  pub load-over-kept : sum (λ j. loadOn p plan k (placeOf kept j)) (kept .count) ≡ coreLoad p plan k
+  pub load-over-kept : sumOfKept kept (loadOn p plan k) (kept .count) ≡ coreLoad p plan k
   unfolding coreLoad
   load-over-kept = sum-over-kept (loadOn p plan k) unkept-load
 
-  pub energy-over-kept : sum (λ j. energyOn p plan k (placeOf kept j)) (kept .count) ≡ coreEnergy p plan k
+  pub energy-over-kept : sumOfKept kept (energyOn p plan k) (kept .count) ≡ coreEnergy p plan k
   unfolding coreEnergy
   energy-over-kept = sum-over-kept (energyOn p plan k) (λ i e. rw (unkept-load i e) (zero-mul _))
 

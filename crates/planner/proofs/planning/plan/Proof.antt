@@ -32,7 +32,8 @@ same-length-2 c = search needs
 returns-2 : tie.Need-returns-2
 returns-2 c =
     let ran = c .before .before .before .before in
-    let held = accepted-read-holds-problem _ _ (ran .before .before .before .before .before .read-instance .ensures .0) (ran .before .before .before .enum-told .given .1) in
+    let held = accepted-read-holds-problem _ _ (ran .before .before .before .before .before .read-instance .ensures .0)
+    (ran .before .before .before .enum-told .given .1) in
     given-outcome-is-promised _ _ _ _ _ _ (given-reading _ _ _ (held .problem) (ran .plan-read .ensures))
 
 pub plan-spec : {M : Type 1} → statement M

@@ -25,7 +25,8 @@ use Rattle.planner.specs.PlanLaws.{planGiven, planFrom, short-plan-outco
 use Rattle.planner.proofs.planning.plan_read.Statement.{statement}
 use Rattle.planner.proofs.planning.plan_read.Tie as tie
 
-room-for-table : (c : tie.Else2) → tableSize (problemIn (c .before .before .before .before .before .args .inst)) ≤ length (c .before .before .before .before .before .args .table .now)
+room-for-table : (c : tie.Else2) → tableSize (problemIn (c .before .before .before .before .before .args .inst)) ≤ length
+    (c .before .before .before .before .before .args .table .now)
 room-for-table c = omega (arith, c .before .before .table-size .ensures, c .if2 .left)
 
 outcome-of-chosen : (c : tie.After-best-choices) →
@@ -34,19 +35,23 @@ outcome-of-chosen : (c : tie.After-best-choices) →
     ≡ planOutcomeOf (accepted (problemIn (args .inst))) (args .plan .now) (args .table .now)
 outcome-of-chosen c =
     let start = c .before .before .before .before .before .before .before in
-    chosen-outcome _ _ (held-taskcount _ (start .pre)) _ _ (c .before .before .before .if1 .left) _ _ (c .best-choices .ensures .0) (c .best-choices .ensures .1)
+    chosen-outcome _ _ (held-taskcount _ (start .pre)) _ _ (c .before .before .before .if1 .left) _ _ (c .best-choices .ensures .0)
+    (c .best-choices .ensures .1)
     (room-for-table (c .before .before))
 
 chosen-plan-passes : (c : tie.After-enum-told) →
     let start = c .before .before .before .before .before .before .before .before .before .before .before in
-    planPasses (problemIn (start .args .inst)) (take (start .args .inst .taskcount) (c .before .before .before .before .best-choices .last .1 .0)) ≡ Accepted
+    planPasses (problemIn (start .args .inst)) (take (start .args .inst .taskcount) (c .before .before .before .before .best-choices .last .1 .0))
+    ≡ Accepted
 chosen-plan-passes c =
     let chosen = c .before .before .before .before in
     let start = c .before .before .before .before .before .before .before .before .before .before .before in
-    chosen-passes _ _ (held-taskcount _ (start .pre)) _ _ _ (chosen .best-choices .ensures .0) (chosen .best-choices .ensures .1) (c .enum-told .given .1)
+    chosen-passes _ _ (held-taskcount _ (start .pre)) _ _ _ (chosen .best-choices .ensures .0) (chosen .best-choices .ensures .1)
+    (c .enum-told .given .1)
 
 one-choice-each : (c : tie.After-enum-told) →
-    let start = c .before .before .before .before .before .before .before .before .before .before .before in length (take (start .args .inst .taskcount) (c .before .before .before .before .best-choices .last .1 .0)) ≡ start .args .inst .taskcount
+    let start = c .before .before .before .before .before .before .before .before .before .before .before in
+    length (take (start .args .inst .taskcount) (c .before .before .before .before .best-choices .last .1 .0)) ≡ start .args .inst .taskcount
 one-choice-each c =
     let chosen = c .before .before .before .before in
     let start = c .before .before .before .before .before .before .before .before .before .before .before in
@@ -62,7 +67,9 @@ returns c =
     short-plan-outcome (problemIn (start .args .inst)) _ (held-taskcount _ (start .pre)) _ _ (c .if1 .taken)
 
 returns-2 : tie.Need-returns-2
-returns-2 c = short-table-outcome _ _ (held-taskcount _ (c .before .before .before .before .before .pre)) _ _ (c .before .if1 .left) _ (c .before .before .table-size .ensures) (c .if2 .taken)
+returns-2 c =
+    short-table-outcome _ _ (held-taskcount _ (c .before .before .before .before .before .pre)) _ _ (c .before .if1 .left) _
+    (c .before .before .table-size .ensures) (c .if2 .taken)
 
 best-choices-requires : tie.Need-best-choices-requires
 best-choices-requires c κs =
@@ -79,10 +86,14 @@ slice-aggregate-chosen c = sym (one-choice-each (c .before))
 
 fill-table-requires : tie.Need-fill-table-requires
 fill-table-requires c κs =
-    let sound = c .before .before .before .before .before .before .before .before .before .before .before .before .before .pre in (sound, (one-choice-each (c .before .before) ∙ held-taskcount _ sound, room-for-table (c .before .before .before .before .before .before .before .before)))
+    let sound = c .before .before .before .before .before .before .before .before .before .before .before .before .before .pre in
+    (sound, (one-choice-each (c .before .before) ∙ held-taskcount _ sound, room-for-table (c .before .before .before .before .before .before .before .before)))
 
 price-of-requires : tie.Need-price-of-requires
-price-of-requires c κs = (c .before .before .before .before .before .before .before .before .before .before .before .before .before .before .before .before .pre, chosen-plan-passes (c .before .before .before .before .before))
+price-of-requires c κs = (
+  c .before .before .before .before .before .before .before .before .before .before .before .before .before .before .before .before .pre,
+  chosen-plan-passes (c .before .before .before .before .before),
+)
 
 same-length : tie.Need-same-length
 same-length c = search needs

@@ -135,7 +135,8 @@ loop-again c =
 returns : tie.Need-returns Inv-loop μ-loop
 returns c =
     let start = c .before .before .before in
-    let all : c .before .loop .i ≡ taskCount (problemIn (start .args .t1)) = omega (arith, c .before .loop .inv .0, held-taskcount _ (start .pre .0), c .loop-test .left) in
+    let all : c .before .loop .i ≡ taskCount (problemIn (start .args .t1)) = omega
+    (arith, c .before .loop .inv .0, held-taskcount _ (start .pre .0), c .loop-test .left) in
     rw all at (c .before .loop .inv .1)
 
 pub kept-tasks-spec : {M : Type 1} → statement M

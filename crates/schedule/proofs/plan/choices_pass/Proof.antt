@@ -31,7 +31,8 @@ is-bad : (c : tie.After-is-bad-choice Inv-loop μ-loop) →
     c .is-bad-choice .result ≡ badChoice (problemIn (start .args .t1)) (start .args .plan .now) (c .before .before .before .before .loop .i)
 is-bad c =
     let start = c .before .before .before .before .before .before .before in
-    c .is-bad-choice .ensures ∙ held-bad-choice _ (start .pre) (start .args .plan .now) _ _ (held-task _ (start .pre) _ (task-below (c .before .before .before)))
+    c .is-bad-choice .ensures ∙ held-bad-choice _ (start .pre) (start .args .plan .now) _ _
+    (held-task _ (start .pre) _ (task-below (c .before .before .before)))
 
 smaller-requires : tie.Need-smaller-requires Inv-loop μ-loop
 smaller-requires c κs = search needs
@@ -71,13 +72,15 @@ unfolding choicesPass
 returns-2 c =
     let start = c .before .before .before .before .before .before .before .before in
     let wanted = held-taskcount _ (start .pre) in
-    let found : c .before .before .before .before .before .loop .i ≡ first (badChoice (problemIn (start .args .t1)) (start .args .plan .now)) (taskCount (problemIn (start .args .t1))) =
+    let found : c .before .before .before .before .before .loop .i ≡ first (badChoice (problemIn (start .args .t1)) (start .args .plan .now))
+    (taskCount (problemIn (start .args .t1))) =
     sym (first-unique _ (record {
       at-most = omega (arith, c .before .before .before .before .before .loop .inv .0, wanted);
       none-below = c .before .before .before .before .before .loop .inv .1;
       passes-below = λ below. sym (is-bad (c .before)) ∙ c .if2 .taken;
     })) in
-    found-is-refused GivenPlan _ _ wanted _ _ found (c .before .before .before .before .loop-test .taken) ∙ same-length-goes-on GivenPlan _ _ wanted _ _ (c .before .before .before .before .before .before .if1 .left)
+    found-is-refused GivenPlan _ _ wanted _ _ found (c .before .before .before .before .loop-test .taken)
+    ∙ same-length-goes-on GivenPlan _ _ wanted _ _ (c .before .before .before .before .before .before .if1 .left)
 
 add-i : tie.Need-add-i Inv-loop μ-loop
 add-i c = omega (arith, c .before .before .before .before .loop-test .taken)
@@ -86,15 +89,19 @@ loop-less : tie.Need-loop-less Inv-loop μ-loop
 loop-less c = omega (arith, c .before .before .before .before .loop-test .taken)
 
 loop-again : tie.Need-loop-again Inv-loop μ-loop
-loop-again c =
-    (omega (arith, c .before .before .before .before .loop-test .taken), below-more _ _ (c .before .before .before .before .before .loop .inv .1) (sym (is-bad (c .before)) ∙ c .if2 .left))
+loop-again c = (
+  omega (arith, c .before .before .before .before .loop-test .taken),
+  below-more _ _ (c .before .before .before .before .before .loop .inv .1)
+      (sym (is-bad (c .before)) ∙ c .if2 .left),
+)
 
 returns-3 : tie.Need-returns-3 Inv-loop μ-loop
 unfolding choicesPass
 returns-3 c =
     let start = c .before .before .before .before in
     let wanted = held-taskcount _ (start .pre) in
-    let found : c .before .loop .i ≡ first (badChoice (problemIn (start .args .t1)) (start .args .plan .now)) (taskCount (problemIn (start .args .t1))) =
+    let found : c .before .loop .i ≡ first (badChoice (problemIn (start .args .t1)) (start .args .plan .now))
+    (taskCount (problemIn (start .args .t1))) =
     sym (first-unique _ (record {
       at-most = omega (arith, c .before .loop .inv .0, wanted);
       none-below = c .before .loop .inv .1;

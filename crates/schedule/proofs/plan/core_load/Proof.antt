@@ -3,13 +3,11 @@ use mathlib.Core.Path.{_≡_, refl, ap, ap₂, _∙_}
 use native.Mathlib.Numerals.{add-one}
 use native.Mathlib.Omega.{arith}
 use borrow.Author.Needs.{needs}
-use Rattle.laws.specs.SumBounds.{sum-and-next-at-most}
 use Rattle.laws.specs.Sums.{sum}
 use Rattle.instance.specs.Held.{problemIn, held-span}
 use Rattle.ranges.specs.Limits.{mostCycles, mostSpan, mostTasks}
 use Rattle.schedule.specs.KeptColumns.{placeOf}
-use Rattle.schedule.specs.KeptRowLaws.{is-task}
-use Rattle.schedule.specs.KeptSumLaws.{load-over-kept, load-in-columns}
+use Rattle.schedule.specs.KeptSumLaws.{sumOfKept, sum-of-kept-at-most, load-over-kept, load-in-columns}
 use Rattle.schedule.specs.QuantityBounds.{loadOn-at-most}
 use Rattle.schedule.specs.Quantities.{loadOn}
 use Rattle.schedule.proofs.plan.core_load.Statement.{statement}
@@ -17,7 +15,7 @@ use Rattle.schedule.proofs.plan.core_load.Tie as tie
 
 abbrev Inv-loop : tie.InvT-loop
 Inv-loop inst plan k kept load₀ j₀ load j =
-    (j ≤ kept .count) × (load ≡ sum (λ j. loadOn (problemIn inst) plan k (placeOf kept j)) j)
+    (j ≤ kept .count) × (load ≡ sumOfKept kept (loadOn (problemIn inst) plan k) j)
 
 abbrev μ-loop : tie.MeasureT-loop
 μ-loop inst plan k kept load₀ j₀ load j = kept .count - j
@@ -28,27 +26,21 @@ its-load : (c : tie.After-of-all-jobs Inv-loop μ-loop) →
     c .of-all-jobs .result ≡ loadOn (problemIn (args .inst)) (args .plan .now) (args .k) (placeOf kept (c .before .before .before .before .loop .j))
 its-load c =
     c .of-all-jobs .ensures
-    ∙ load-in-columns _ _ _ _ (c .before .before .before .before .before .kept-tasks .ensures) _ (c .before .before .before .loop-test .taken) _ (held-span _ (c .before .before .before .before .before .before .before .pre .0))
+    ∙ load-in-columns _ _ _ _ (c .before .before .before .before .before .kept-tasks .ensures) _ (c .before .before .before .loop-test .taken) _
+    (held-span _ (c .before .before .before .before .before .before .before .pre .0))
 
 -- what is added up so far, and the next term
 load-so-far : (c : tie.In-loop Inv-loop μ-loop) →
     let args = c .before .before .before .before .args in
     let kept = c .before .before .kept-tasks .result in
-    let p = problemIn (args .inst) in
+    let its = loadOn (problemIn (args .inst)) (args .plan .now) (args .k) in
     let j = c .before .loop .j in
-    sum (λ j. loadOn p (args .plan .now) (args .k) (placeOf kept j)) j + loadOn p (args .plan .now) (args .k) (placeOf kept j) ≤ mostTasks * (mostSpan * mostCycles)
+    sumOfKept kept its j + its (placeOf kept j) ≤ mostTasks * (mostSpan * mostCycles)
 load-so-far c =
     let args = c .before .before .before .before .args in
     let v = c .before .before .before .before .pre .0 .valid in
-    let kept = c .before .before .kept-tasks .result in
-    let columns = c .before .before .kept-tasks .ensures in
-    omega (
-      arith,
-      sum-and-next-at-most (λ j. loadOn (problemIn (args .inst)) (args .plan .now) (args .k) (placeOf kept j)) (mostSpan * mostCycles) (kept .count) (c .before .loop .j)
-          (λ j l. loadOn-at-most _ v (args .plan .now) (placeOf kept j) (is-task _ (args .plan .now) (args .k) kept columns j l) (args .k)) (c .loop-test .taken),
-      columns .no-more,
-      v .task-count,
-    )
+    sum-of-kept-at-most _ _ _ _ (c .before .before .kept-tasks .ensures) v _ _ (λ i l. loadOn-at-most _ v (args .plan .now) i l (args .k)) _
+    (c .loop-test .taken)
 
 kept-tasks-requires : tie.Need-kept-tasks-requires Inv-loop μ-loop
 kept-tasks-requires c κs = search needs
@@ -92,7 +84,7 @@ returns c =
     let args = c .before .before .before .before .args in
     let kept = c .before .before .kept-tasks .result in
     let at-end : c .before .loop .j ≡ kept .count = omega (arith, c .before .loop .inv .0, c .loop-test .left) in
-    c .before .loop .inv .1 ∙ ap (sum (λ j. loadOn (problemIn (args .inst)) (args .plan .now) (args .k) (placeOf kept j))) at-end
+    c .before .loop .inv .1 ∙ ap (sumOfKept kept (loadOn (problemIn (args .inst)) (args .plan .now) (args .k))) at-end
     ∙ load-over-kept _ _ _ _ (c .before .before .kept-tasks .ensures)
 
 pub core-load-spec : {M : Type 1} → statement M

@@ -25,11 +25,13 @@ task-below : (c : tie.In-loop Inv-loop μ-loop) → c .before .loop .i < taskCou
 task-below c = omega (arith, held-taskcount _ (c .before .before .before .pre .0), c .loop-test .taken)
 
 added : (c : tie.After-of-all-jobs Inv-loop μ-loop) →
-    let start = c .before .before .before .before .before .before .before in c .of-all-jobs .result ≡ penaltyOf (problemIn (start .args .t1)) (start .args .plan .now) (c .before .before .before .before .before .loop .i)
+    let start = c .before .before .before .before .before .before .before in
+    c .of-all-jobs .result ≡ penaltyOf (problemIn (start .args .t1)) (start .args .plan .now) (c .before .before .before .before .before .loop .i)
 added c =
     let start = c .before .before .before .before .before .before .before in
     c .of-all-jobs .ensures
-    ∙ held-penalty-of _ (start .pre .0) _ (start .args .plan .now) _ (c .before .before .if1 .taken) (held-task _ (start .pre .0) _ (task-below (c .before .before .before .before)))
+    ∙ held-penalty-of _ (start .pre .0) _ (start .args .plan .now) _ (c .before .before .if1 .taken)
+    (held-task _ (start .pre .0) _ (task-below (c .before .before .before .before)))
 
 loop-holds : tie.Need-loop-holds Inv-loop μ-loop
 unfolding sum

@@ -4,13 +4,11 @@ use native.Mathlib.Numerals.{add-one}
 use native.Mathlib.Omega.{arith}
 use borrow.Author.Needs.{needs}
 use lib.ListN.{getD}
-use Rattle.laws.specs.SumBounds.{sum-and-next-at-most}
 use Rattle.laws.specs.Sums.{sum}
 use Rattle.instance.specs.Held.{problemIn, held-span}
 use Rattle.ranges.specs.Limits.{mostTasks}
 use Rattle.schedule.specs.KeptColumns.{placeOf}
-use Rattle.schedule.specs.KeptRowLaws.{is-task}
-use Rattle.schedule.specs.KeptSumLaws.{energy-over-kept, energy-in-columns, load-in-columns}
+use Rattle.schedule.specs.KeptSumLaws.{sumOfKept, sum-of-kept-at-most, energy-over-kept, energy-in-columns, load-in-columns}
 use Rattle.schedule.specs.PriceBounds.{energyOn, mostEnergyOn, energyOn-at-most}
 use Rattle.schedule.specs.Quantities.{loadOn}
 use Rattle.schedule.proofs.prices.core_energy.Statement.{statement}
@@ -18,7 +16,7 @@ use Rattle.schedule.proofs.prices.core_energy.Tie as tie
 
 abbrev Inv-loop : tie.InvT-loop
 Inv-loop inst plan k kept energy₀ j₀ energy j =
-    (j ≤ kept .count) × (energy ≡ sum (λ j. energyOn (problemIn inst) plan k (placeOf kept j)) j)
+    (j ≤ kept .count) × (energy ≡ sumOfKept kept (energyOn (problemIn inst) plan k) j)
 
 abbrev μ-loop : tie.MeasureT-loop
 μ-loop inst plan k kept energy₀ j₀ energy j = kept .count - j
@@ -29,34 +27,30 @@ its-load : (c : tie.After-of-all-jobs Inv-loop μ-loop) →
     c .of-all-jobs .result ≡ loadOn (problemIn (args .inst)) (args .plan .now) (args .k) (placeOf kept (c .before .before .before .before .loop .j))
 its-load c =
     c .of-all-jobs .ensures
-    ∙ load-in-columns _ _ _ _ (c .before .before .before .before .before .kept-tasks .ensures) _ (c .before .before .before .loop-test .taken) _ (held-span _ (c .before .before .before .before .before .before .before .pre .0))
+    ∙ load-in-columns _ _ _ _ (c .before .before .before .before .before .kept-tasks .ensures) _ (c .before .before .before .loop-test .taken) _
+    (held-span _ (c .before .before .before .before .before .before .before .pre .0))
 
 -- what is added up so far, and the next term
 energy-so-far : (c : tie.In-loop Inv-loop μ-loop) →
     let args = c .before .before .before .before .args in
     let kept = c .before .before .kept-tasks .result in
-    let p = problemIn (args .inst) in
+    let its = energyOn (problemIn (args .inst)) (args .plan .now) (args .k) in
     let j = c .before .loop .j in
-    sum (λ j. energyOn p (args .plan .now) (args .k) (placeOf kept j)) j + energyOn p (args .plan .now) (args .k) (placeOf kept j) ≤ mostTasks * (mostEnergyOn)
+    sumOfKept kept its j + its (placeOf kept j) ≤ mostTasks * (mostEnergyOn)
 energy-so-far c =
     let args = c .before .before .before .before .args in
     let v = c .before .before .before .before .pre .0 .valid in
-    let kept = c .before .before .kept-tasks .result in
-    let columns = c .before .before .kept-tasks .ensures in
-    omega (
-      arith,
-      sum-and-next-at-most (λ j. energyOn (problemIn (args .inst)) (args .plan .now) (args .k) (placeOf kept j)) (mostEnergyOn) (kept .count) (c .before .loop .j)
-          (λ j l. energyOn-at-most _ v (args .plan .now) (args .k) (placeOf kept j) (is-task _ (args .plan .now) (args .k) kept columns j l)) (c .loop-test .taken),
-      columns .no-more,
-      v .task-count,
-    )
+    sum-of-kept-at-most _ _ _ _ (c .before .before .kept-tasks .ensures) v _ _ (energyOn-at-most _ v (args .plan .now) (args .k)) _
+    (c .loop-test .taken)
 
 its-energy : (c : tie.After-of-all-jobs Inv-loop μ-loop) →
     let args = c .before .before .before .before .before .before .before .args in
     let kept = c .before .before .before .before .before .kept-tasks .result in
     let j = c .before .before .before .before .loop .j in
     c .of-all-jobs .result * getD (kept .powers) j 0 ≡ energyOn (problemIn (args .inst)) (args .plan .now) (args .k) (placeOf kept j)
-its-energy c = energy-in-columns _ _ _ _ (c .before .before .before .before .before .kept-tasks .ensures) _ (c .before .before .before .loop-test .taken) _ (its-load c)
+its-energy c =
+    energy-in-columns _ _ _ _ (c .before .before .before .before .before .kept-tasks .ensures) _ (c .before .before .before .loop-test .taken) _
+    (its-load c)
 
 kept-tasks-requires : tie.Need-kept-tasks-requires Inv-loop μ-loop
 kept-tasks-requires c κs = search needs
@@ -94,7 +88,8 @@ mul-energy-2 c = omega (arith, its-energy (c .before), energy-so-far (c .before 
 
 add-energy : tie.Need-add-energy Inv-loop μ-loop
 add-energy c =
-    let same = ap₂ _+_ (c .before .before .before .before .before .loop .inv .1) (its-energy (c .before)) in omega (arith, energy-so-far (c .before .before .before .before))
+    let same = ap₂ _+_ (c .before .before .before .before .before .loop .inv .1) (its-energy (c .before)) in
+    omega (arith, energy-so-far (c .before .before .before .before))
 
 add-j : tie.Need-add-j Inv-loop μ-loop
 add-j c = search needs
@@ -104,15 +99,18 @@ loop-less c = search needs
 
 loop-again : tie.Need-loop-again Inv-loop μ-loop
 unfolding sum
-loop-again c =
-    (omega (arith, c .before .before .before .before .loop-test .taken), rw add-one (ap₂ _+_ (c .before .before .before .before .before .loop .inv .1) (its-energy (c .before))))
+loop-again c = (
+  omega (arith, c .before .before .before .before .loop-test .taken),
+  rw add-one
+      (ap₂ _+_ (c .before .before .before .before .before .loop .inv .1) (its-energy (c .before))),
+)
 
 returns : tie.Need-returns Inv-loop μ-loop
 returns c =
     let args = c .before .before .before .before .args in
     let kept = c .before .before .kept-tasks .result in
     let at-end : c .before .loop .j ≡ kept .count = omega (arith, c .before .loop .inv .0, c .loop-test .left) in
-    c .before .loop .inv .1 ∙ ap (sum (λ j. energyOn (problemIn (args .inst)) (args .plan .now) (args .k) (placeOf kept j))) at-end
+    c .before .loop .inv .1 ∙ ap (sumOfKept kept (energyOn (problemIn (args .inst)) (args .plan .now) (args .k))) at-end
     ∙ energy-over-kept _ _ _ _ (c .before .before .kept-tasks .ensures)
 
 pub core-energy-spec : {M : Type 1} → statement M

@@ -23,7 +23,8 @@ array-share-prefix-periods c = search needs
 slice-aggregate-fill-row-2 : tie.Need-slice-aggregate-fill-row-2
 slice-aggregate-fill-row-2 c =
     let columns = c .before .before .before .before .before .before .kept-tasks .ensures in
-    sym (length-front _ (c .before .before .before .before .before .before .before .before .before .pre .0 .valid) _ _ _ columns _ (columns .places .of-periods))
+    sym (length-front _ (c .before .before .before .before .before .before .before .before .before .pre .0 .valid) _ _ _ columns _
+    (columns .places .of-periods))
 
 array-share-prefix-windows : tie.Need-array-share-prefix-windows
 array-share-prefix-windows c = search needs
@@ -31,7 +32,8 @@ array-share-prefix-windows c = search needs
 slice-aggregate-fill-row-3 : tie.Need-slice-aggregate-fill-row-3
 slice-aggregate-fill-row-3 c =
     let columns = c .before .before .before .before .before .before .before .kept-tasks .ensures in
-    sym (length-front _ (c .before .before .before .before .before .before .before .before .before .before .pre .0 .valid) _ _ _ columns _ (columns .places .of-windows))
+    sym (length-front _ (c .before .before .before .before .before .before .before .before .before .before .pre .0 .valid) _ _ _ columns _
+    (columns .places .of-windows))
 
 array-share-prefix-ticks : tie.Need-array-share-prefix-ticks
 array-share-prefix-ticks c = search needs
@@ -39,18 +41,24 @@ array-share-prefix-ticks c = search needs
 slice-aggregate-fill-row-4 : tie.Need-slice-aggregate-fill-row-4
 slice-aggregate-fill-row-4 c =
     let columns = c .before .before .before .before .before .before .before .before .kept-tasks .ensures in
-    sym (length-front _ (c .before .before .before .before .before .before .before .before .before .before .before .pre .0 .valid) _ _ _ columns _ (columns .places .of-ticks))
+    sym (length-front _ (c .before .before .before .before .before .before .before .before .before .before .before .pre .0 .valid) _ _ _ columns _
+    (columns .places .of-ticks))
 
 fill-row-requires : tie.Need-fill-row-requires
 fill-row-requires c κs =
-    let start = c .before .before .before .before .before .before .before .before .before .before .before .before in (columns-ok _ (start .pre .0 .valid) _ _ _ (c .before .before .before .before .before .before .before .before .before .kept-tasks .ensures), start .pre .1 .1)
+    let start = c .before .before .before .before .before .before .before .before .before .before .before .before in (
+      columns-ok _ (start .pre .0 .valid) _ _ _ (c .before .before .before .before .before .before .before .before .before .kept-tasks .ensures),
+      start .pre .1 .1,
+    )
 
 same-length : tie.Need-same-length
 same-length c = search needs
 
 returns : tie.Need-returns
 returns c =
-    let start = c .before .before .before .before .before .before .before .before .before .before .before .before .before .before .before in c .before .before .fill-row .ensures ∙ row-of-columns _ (start .pre .0 .valid) _ _ _ (c .before .before .before .before .before .before .before .before .before .before .before .before .kept-tasks .ensures) _
+    let start = c .before .before .before .before .before .before .before .before .before .before .before .before .before .before .before in
+    c .before .before .fill-row .ensures ∙ row-of-columns _ (start .pre .0 .valid) _ _ _
+    (c .before .before .before .before .before .before .before .before .before .before .before .before .kept-tasks .ensures) _
 
 pub fill-core-spec : {M : Type 1} → statement M
 fill-core-spec =
