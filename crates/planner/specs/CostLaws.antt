@@ -14,9 +14,10 @@ use Rattle.laws.specs.SumOrderLaws.{sum-exchange, sum-of-one-term}
 use Rattle.laws.specs.Sums.{sum}
 use Rattle.instance.specs.Node.{Problem, levelCount, taskCount, levelAt, taskAt}
 use Rattle.refusals.specs.declared.Verdict.the-variants.{Accepted}
-use Rattle.schedule.specs.Drawings.{AllowedPlan}
-use Rattle.schedule.specs.Plans.{planPasses}
-use Rattle.schedule.specs.Quantities.{choiceAt, isRefused, levelOf, keeps, jobs, jobTicks, ticksOn, loadOn, coreEnergy, energy, penalty, cost}
+use Rattle.plan_rules.specs.AllowedPlans.{AllowedPlan}
+use Rattle.plan_rules.specs.Plans.{planPasses}
+use Rattle.plan_rules.specs.Quantities.{choiceAt, isRefused, levelOf, keeps, jobs, jobTicks, ticksOn, loadOn}
+use Rattle.prices.specs.Prices.{coreEnergy, energy, penalty, cost}
 use Rattle.assignment.specs.Assignment.{choiceCost, totalCost}
 use Rattle.planner.specs.OptionsLaws.{total-over-tasks, passing-choices}
 use Rattle.planner.specs.OptionsOf.{jobsOf, loadAt, itemOf, optionsOf}

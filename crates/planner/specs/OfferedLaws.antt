@@ -14,7 +14,7 @@ use Rattle.ranges.specs.Limits.{mostLevels}
 use Rattle.instance.specs.Node.{Problem, levelCount, noTask, taskAt, taskCount, span}
 use Rattle.instance.specs.Valid.{Valid}
 use Rattle.instance.specs.declared.Instance.{Instance}
-use Rattle.schedule.specs.HeldPlans.{held-cores}
+use Rattle.plan_rules.specs.HeldPlans.{held-cores}
 use Rattle.assignment.specs.AlikeLaws.{AlikeItem, AlikeItems, alike-at}
 use Rattle.search.specs.Found.{optionsOf as offeredOptions}
 use Rattle.search.specs.Limits.{WithinLimits}

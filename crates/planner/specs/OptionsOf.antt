@@ -5,7 +5,7 @@ use lib.Dec.{eqb}
 use Rattle.ranges.specs.Limits.{mayNotBeRefused}
 use Rattle.instance.specs.Node.{Problem, levelCount, levelAt, span}
 use Rattle.instance.specs.declared.Task.{Task}
-use Rattle.schedule.specs.Quantities.{ticks}
+use Rattle.plan_rules.specs.Quantities.{ticks}
 use Rattle.assignment.specs.Assignment.{Item, Options}
 
 -- "Jobs in a span: L / p."
