@@ -59,10 +59,10 @@ module _ (table : List ℕ) (w levels number choice period d t : ℕ) where
   unfolding taskServed
   refused-task-is-served refused = rw (eq-eqb choice 0 refused) refl
 
-  pub kept-task-is-served-if-its-jobs-are : (choice ≡ 0 → ⊥) → (from : ℕ) → from ≡ pred choice / levels * w →
-      jobsServed table from number period d (w / period) t ≡ taskServed table w levels number choice period d t
+  pub kept-task-is-served-if-its-jobs-are : (choice ≡ 0 → ⊥) → (from n : ℕ) → from ≡ pred choice / levels * w → n ≡ w / period →
+      jobsServed table from number period d n t ≡ taskServed table w levels number choice period d t
   unfolding taskServed
-  kept-task-is-served-if-its-jobs-are kept from row = rw (ne-eqb choice 0 kept, row) refl
+  kept-task-is-served-if-its-jobs-are kept from n row all = rw (ne-eqb choice 0 kept, row, all) refl
 
 pub task-served-is-served : (p : Problem) (plan table : List ℕ) (i : ℕ) {w levels period d t : ℕ} → w ≡ span p → levels ≡ levelCount p →
     period ≡ taskAt p i .period → d ≡ window (taskAt p i) → t ≡ jobTicks p plan i →

@@ -4,6 +4,7 @@ use instance::Instance;
 use instance::read_instance;
 use plan_rules::choices_pass;
 use plan_rules::core_of;
+use plan_rules::jobs_in;
 use plan_rules::level_of;
 use plan_rules::smaller;
 use plan_rules::ticks_of;
@@ -119,16 +120,15 @@ fn jobs_served(
 // Whether a task is refused, or each of its jobs has as many slots as ticks in its window.
 fn is_served(
     table: &[Slot],
-    span: usize,
+    span: u32,
     levels: usize,
     number: Slot,
     choice: u32,
-    period: usize,
+    period: u32,
     window: usize,
     ticks: usize,
 ) -> bool
     requires { ⌜ 0 < levels ⌝ }
-    requires { ⌜ 0 < period ⌝ }
     requires { ⌜ window ≤ period ⌝ }
     requires { ⌜ pred choice / levels * span + span ≤ length (now table) ⌝ }
     ensures { λ r. ⌜ r ≡ taskServed (now (table .entry)) span levels number choice period window ticks ⌝ }
@@ -136,9 +136,9 @@ fn is_served(
     if choice == 0 {
         return true;
     }
-    let from = core_of(choice, levels) * span;
-    let jobs = span / period;
-    jobs_served(table, from, number, period, window, jobs, ticks)
+    let from = core_of(choice, levels) * span as usize;
+    let jobs = jobs_in(span, period) as usize;
+    jobs_served(table, from, number, period as usize, window, jobs, ticks)
 }
 
 // The test of the jobs: none has more or fewer slots than ticks.
@@ -149,14 +149,14 @@ fn jobs_pass(inst: Instance, plan: &[u32], table: &[Slot]) -> Verdict
     ensures { λ r. ⌜ r ≡ jobsPass (problemIn inst) (now (plan .entry)) (now (table .entry)) ⌝ }
 {
     let levels = inst.levelcount;
-    let span = inst.span as usize;
+    let span = inst.span;
     let mut i = 0;
     while i < inst.taskcount {
         let number = i + 1;
         let choice = plan[i];
         let task = inst.tasks[i];
         let level = inst.levels[level_of(choice, levels)];
-        let period = task.period as usize;
+        let period = task.period;
         let window = window_of(task) as usize;
         let ticks = ticks_of(task.cycles, level.speed) as usize;
         if !is_served(

@@ -1,21 +1,26 @@
 -- How large the quantities of a valid problem can be, so that the code's numbers fit.
-use Prim.Native.Nat.{ℕ, zero, suc, _*_, _≤_, _<_}
+use Prim.Native.Nat.{ℕ, zero, suc, _+_, _-_, _*_, _/_, _≤_, _<_}
 use mathlib.Core.Bool.{Bool, true, false, cond}
 use mathlib.Core.List.{List}
-use native.Mathlib.Nat.{div-eq-of-lt, div-le-of-le-mul, div-le-self, div-zero, le-mul-of-pos-right, le-of-eq, mul-comm, mul-le-mul, mul-suc}
+use native.Mathlib.Nat.{div-le-self, div-lt-iff-lt-mul, div-zero, le-mul-of-pos-right, mul-le-mul}
 use native.Mathlib.Omega.{arith}
 use Rattle.ranges.specs.Limits.{mostCycles, mostSpan}
 use Rattle.instance.specs.Node.{Problem, levelAt, taskAt, taskCount, span}
 use Rattle.instance.specs.Valid.{Valid}
 use Rattle.plan_rules.specs.Quantities.{levelOf, keeps, ticks, jobTicks, ticksOn, jobs, loadOn}
 
+-- a number that is raised by less than the divisor has a quotient of at most itself
+pub quotient-at-most : (a r s : ℕ) → r < s → (a + r) / s ≤ a
+quotient-at-most a r s l =
+    let whole : a + r < suc a * s = omega (arith, le-mul-of-pos-right {m = s} a (omega arith)) in
+    let below : (a + r) / s < suc a = div-lt-iff-lt-mul {k = s} (omega arith) .1 whole in
+    omega arith
+
 -- a quotient that is rounded up is at most the dividend
 pub ticks-at-most : (cycles speed : ℕ) → ticks cycles speed ≤ cycles
 unfolding ticks
 ticks-at-most cycles zero = rw div-zero (omega arith)
-ticks-at-most zero (suc s) = le-of-eq (div-eq-of-lt (omega arith))
-ticks-at-most (suc c) (suc s) =
-    div-le-of-le-mul (suc s) (rw mul-suc (omega (arith, le-mul-of-pos-right {m = suc s} c (omega arith), mul-comm c (suc s))))
+ticks-at-most cycles (suc s) = quotient-at-most cycles (suc s - 1) (suc s) (omega arith)
 
 module _ (p : Problem) (v : Valid p) (plan : List ℕ) (i : ℕ) (h : i < taskCount p) where
   pub jobs-at-most : jobs p i ≤ mostSpan

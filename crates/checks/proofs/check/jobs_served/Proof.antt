@@ -55,7 +55,10 @@ slots-of-requires c κs = search needs
 
 returns : tie.Need-returns Inv-loop μ-loop
 unfolding jobsServed
-returns c = sym (not-true-is-false _ (λ served. c .if1 .taken (counted (c .before) ∙ eqb-true _ _ (every-iff _ _ .0 served _ (c .before .before .before .loop-test .taken)))))
+returns c = sym (not-true-is-false _ (λ served.
+    let same : c .before .slots-of .result ≡ c .before .before .before .before .before .before .args .ticks =
+    counted (c .before) ∙ eqb-true _ _ (every-iff _ _ .0 served _ (c .before .before .before .loop-test .taken)) in
+    omega (arith, c .if1 .taken)))
 
 add-j : tie.Need-add-j Inv-loop μ-loop
 add-j c = omega (arith, c .before .before .before .loop-test .taken)

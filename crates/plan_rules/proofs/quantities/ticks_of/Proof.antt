@@ -1,7 +1,7 @@
 -- The raised sum fits 64 bits, and a quotient that is rounded up is at most the dividend.
-use Rattle.plan_rules.specs.QuantityBounds.{ticks-at-most}
+use Rattle.plan_rules.specs.QuantityBounds.{quotient-at-most}
 use mathlib.Core.Path.{sym}
-use native.Mathlib.Nat.{div-zero}
+use native.Mathlib.Nat.{div-zero, lt-of-le-of-lt}
 use native.Mathlib.Omega.{arith}
 use Rattle.plan_rules.specs.Quantities.{ticks}
 use borrow.Author.Needs.{needs}
@@ -22,8 +22,7 @@ div-result : tie.Need-div-result
 div-result c = search needs
 
 cast-result : tie.Need-cast-result
-unfolding ticks
-cast-result c = omega (arith, ticks-at-most (c .before .args .cycles) (c .before .args .speed))
+cast-result c = record { fits = lt-of-le-of-lt (quotient-at-most _ _ _ (omega arith)) (omega arith) }
 
 returns-2 : tie.Need-returns-2
 unfolding ticks
