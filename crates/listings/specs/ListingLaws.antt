@@ -14,7 +14,7 @@ use Rattle.text.specs.Text.{wordsOf}
 use Rattle.instance.specs.declared.Instance.{Instance}
 use Rattle.refusals.specs.declared.Refusal.{Refusal}
 use Rattle.refusals.specs.declared.Verdict.the-variants.{Accepted}
-use Rattle.tables.specs.HeldTables.{held-table-size, table-size-at-most}
+use Rattle.tables.specs.HeldTables.{table-size-at-most}
 use Rattle.prices.specs.Prices.{priceOf}
 use Rattle.instance.specs.ReadLaws.{HoldsProblemOf}
 use Rattle.tables.specs.TableLaws.{length-tableOf}
@@ -85,19 +85,20 @@ module _ (words : List ℕ) (inst : Instance) (held : HoldsProblemOf words inst)
 
   pub planned-listing : (planAfter tableAfter : List ℕ) {price : Price} → planAfter ≡ planOutcome words plan table .plan →
       tableAfter ≡ planOutcome words plan table .table → answer ≡ Priced.Cost price →
-      AtHand inst (listingOfProblem (problemOf words)) price (take (inst .taskcount) planAfter) (take (inst .cores * inst .span) tableAfter)
-  planned-listing planAfter tableAfter {price} planned tabled said = go (bestPlan (problemIn inst)) refl
+      (size : ℕ) → size ≡ tableSize (problemIn inst) →
+      AtHand inst (listingOfProblem (problemOf words)) price (take (inst .taskcount) planAfter) (take size tableAfter)
+  planned-listing planAfter tableAfter {price} planned tabled said size whole = go (bestPlan (problemIn inst)) refl
     where
       go : (best : Option (List ℕ)) → bestPlan (problemIn inst) ≡ best →
-          AtHand inst (listingOfProblem (problemOf words)) price (take (inst .taskcount) planAfter) (take (inst .cores * inst .span) tableAfter)
+          AtHand inst (listingOfProblem (problemOf words)) price (take (inst .taskcount) planAfter) (take size tableAfter)
       go none e = let outcome = outcome-is none e in let z : _≡_ {A = ℕ} 0 1 = cc in absurd (omega arith)
       go (some best) e =
           let p = problemIn inst in
           let outcome = outcome-is (some best) e in
           let front : take (inst .taskcount) planAfter ≡ best =
           rw (planned, outcome, held-taskcount inst (held .sound)) (front-of-onto best plan (best-plan-length p e)) in
-          let rows : take (inst .cores * inst .span) tableAfter ≡ tableOf p best =
-          rw (tabled, outcome, held-table-size inst (held .sound)) (front-of-onto (tableOf p best) table (length-tableOf p best)) in
+          let rows : take size tableAfter ≡ tableOf p best =
+          rw (tabled, outcome, whole) (front-of-onto (tableOf p best) table (length-tableOf p best)) in
           let price-is : price ≡ priceOf p best = cc in
           rw (front, rows)
           (record {

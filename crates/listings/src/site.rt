@@ -10,6 +10,7 @@ use ranges::MOST_SPAN;
 use ranges::MOST_TASKS;
 use ranges::MOST_TEXT_WORDS;
 use refusals::Verdict;
+use tables::table_size;
 use text::TextRead;
 use text::words_of_text;
 ghost use mathlib.Core.Path.{_≡_};
@@ -35,7 +36,7 @@ fn put_best(out: &mut [u8], words: &[u32], inst: Instance) -> usize
         Priced::Refused(r) => put_refusal(out, 0, r),
         Priced::Cost(price) => {
             let n = inst.taskcount;
-            let size = inst.cores as usize * inst.span as usize;
+            let size = table_size(inst);
             put_plan(out, 0, inst, price, &choices[..n], &table[..size])
         }
     }
