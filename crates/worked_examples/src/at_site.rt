@@ -51,14 +51,14 @@ fn run_check(words: &[u32], choices: u32, given: &[u32]) {
 }
 
 fn check_slots(words: &[u32], plan: &[u32], table: &[u32]) {
-    let mut slots = [0u8; MOST_NUMBERS];
+    let mut slots = [0; MOST_NUMBERS];
     let n = table.len();
     if MOST_NUMBERS < n {
         return;
     }
     let mut i = 0;
     while i < n {
-        slots[i] = (table[i] % 256) as u8;
+        slots[i] = (table[i] % 256) as ranges::Slot;
         i += 1;
     }
     plans::check(words, plan, &slots[0..n]);

@@ -2,6 +2,7 @@
 use crate::show;
 use printing::print;
 use printing::print_filled;
+use ranges::Slot;
 use refusals::Verdict;
 use schedule::Price;
 use schedule::Priced;
@@ -29,7 +30,7 @@ fn print_verdict(verdict: Verdict, accepted: &[u8]) {
 }
 
 // Tables into a buffer, and prints the buffer.
-fn table_into(words: &[u32], plan: &[u32], slots: &mut [u8]) {
+fn table_into(words: &[u32], plan: &[u32], slots: &mut [Slot]) {
     print_verdict(schedule::tabulate(words, plan, slots), b"table");
     show::slots(slots);
     print(b"\n");
@@ -37,13 +38,13 @@ fn table_into(words: &[u32], plan: &[u32], slots: &mut [u8]) {
 
 // Tables into a buffer with so much room, which held 77 everywhere.
 pub(crate) fn table(words: &[u32], room: u32, plan: &[u32]) {
-    let mut slots = [77u8; 64];
+    let mut slots = [77; 64];
     if room <= 64 {
         table_into(words, plan, &mut slots[..room as usize]);
     }
 }
 
-fn slots_with(slots: &[u8; LONG_ROW], number: u8) -> u64 {
+fn slots_with(slots: &[Slot; LONG_ROW], number: Slot) -> u64 {
     let mut n = 0;
     let mut i = 0;
     while i < LONG_ROW {
@@ -56,7 +57,7 @@ fn slots_with(slots: &[u8; LONG_ROW], number: u8) -> u64 {
 }
 
 // How many slots are idle, and how many each of two tasks has.
-fn print_counts(slots: &[u8; LONG_ROW]) {
+fn print_counts(slots: &[Slot; LONG_ROW]) {
     let counts = [
         slots_with(slots, 0),
         slots_with(slots, 1),
@@ -67,12 +68,12 @@ fn print_counts(slots: &[u8; LONG_ROW]) {
 
 // Tables a long row, prints what it holds, and checks it.
 pub(crate) fn long_table(words: &[u32], plan: &[u32]) {
-    let mut slots = [77u8; LONG_ROW];
+    let mut slots = [77; LONG_ROW];
     print_verdict(schedule::tabulate(words, plan, &mut slots), b"idle ");
     print_counts(&slots);
     check(words, plan, &slots);
 }
 
-pub(crate) fn check(words: &[u32], plan: &[u32], table: &[u8]) {
+pub(crate) fn check(words: &[u32], plan: &[u32], table: &[Slot]) {
     print_verdict(schedule::check_table(words, plan, table), b"accepted\n");
 }

@@ -1,6 +1,7 @@
 // Prints what a call answered.
 use printing::print_field;
 use printing::print_filled;
+use ranges::Slot;
 use refusals::Refusal;
 
 pub(crate) fn refusal(r: Refusal) {
@@ -20,11 +21,11 @@ pub(crate) fn words(words: &[u32]) {
     }
 }
 
-fn print_slot(slot: u8) {
+fn print_slot(slot: Slot) {
     print_field(b" ", slot as u64);
 }
 
-pub(crate) fn slots(slots: &[u8]) {
+pub(crate) fn slots(slots: &[Slot]) {
     let mut i = 0;
     while i < slots.len() {
         print_slot(slots[i]);

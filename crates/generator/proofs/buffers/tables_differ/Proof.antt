@@ -1,25 +1,19 @@
 use borrow.Author.Needs.{needs}
 use Prim.Native.Nat.{_-_}
-use Rattle.generator.proofs.buffers.words_differ.Statement.{statement}
-use Rattle.generator.proofs.buffers.words_differ.Tie as tie
+use Rattle.generator.proofs.buffers.tables_differ.Statement.{statement}
+use Rattle.generator.proofs.buffers.tables_differ.Tie as tie
 
 abbrev Inv-loop : tie.InvT-loop
 Inv-loop a b i₀ i = Unit {0}
 
 abbrev μ-loop : tie.MeasureT-loop
-μ-loop a b i₀ i = 12 - i
+μ-loop a b i₀ i = 128 - i
 
 loop-holds : tie.Need-loop-holds Inv-loop μ-loop
 loop-holds c = search needs
 
-mul-if1 : tie.Need-mul-if1 Inv-loop μ-loop
-mul-if1 c = search needs
-
 element-copy-out-if1 : tie.Need-element-copy-out-if1 Inv-loop μ-loop
 element-copy-out-if1 c = search needs
-
-mul-if1-2 : tie.Need-mul-if1-2 Inv-loop μ-loop
-mul-if1-2 c = search needs
 
 element-copy-out-if1-2 : tie.Need-element-copy-out-if1-2 Inv-loop μ-loop
 element-copy-out-if1-2 c = search needs
@@ -39,16 +33,14 @@ loop-again c = search needs
 returns-2 : tie.Need-returns-2 Inv-loop μ-loop
 returns-2 c = search needs
 
-pub words-differ-spec : {M : Type 1} → statement M
-words-differ-spec =
+pub tables-differ-spec : {M : Type 1} → statement M
+tables-differ-spec =
     tie.close
     (tie.spec
     Inv-loop
     μ-loop
     loop-holds
-    mul-if1
     element-copy-out-if1
-    mul-if1-2
     element-copy-out-if1-2
     returns
     add-i
