@@ -4,6 +4,10 @@ use crate::planners::compare_with_trying;
 use crate::planners::plan_by_search;
 use exhaustive::Site;
 use exhaustive::site_of;
+use generator::Choices;
+use generator::PLAN_ROOM;
+use generator::TABLE_ROOM;
+use generator::Table;
 use generator::draw_room;
 use generator::has_busy_slots;
 use generator::table_fails;
@@ -20,7 +24,7 @@ fn count_kept(answer: &[u64; 5], counts: &mut [u64; 28]) {
 }
 
 // What kind of plan it is: which cores are used, by the table, and which tasks are kept.
-fn count_plan(site: Site, answer: &[u64; 5], table: &[u8; 128], counts: &mut [u64; 28]) {
+fn count_plan(site: Site, answer: &[u64; 5], table: &Table, counts: &mut [u64; 28]) {
     let span = site.span as usize;
     let others = has_busy_slots(table, span, span, site.slots, 1);
     let full = has_busy_slots(table, span, 0, site.slots, span);
@@ -37,8 +41,8 @@ fn look_at_tables(
     words: &[u32],
     site: Site,
     least: u64,
-    plan: &[u32; 12],
-    table: &[u8; 128],
+    plan: &Choices,
+    table: &Table,
     state: &mut u32,
     counts: &mut [u64; 28],
 ) {
@@ -96,8 +100,8 @@ fn look_at(
     words: &[u32],
     site: Site,
     answer: &[u64; 5],
-    plan: &[u32; 12],
-    table: &[u8; 128],
+    plan: &Choices,
+    table: &Table,
     state: &mut u32,
     counts: &mut [u64; 28],
 ) {
@@ -111,16 +115,16 @@ fn look_at(
 
 fn draw_rooms(site: Site, state: &mut u32) -> Rooms {
     Rooms {
-        plan: draw_room(site.tasks, 12, state),
-        table: draw_room(site.slots, 128, state),
+        plan: draw_room(site.tasks, PLAN_ROOM, state),
+        table: draw_room(site.slots, TABLE_ROOM, state),
     }
 }
 
 pub(crate) fn compare(words: &[u32], state: &mut u32, counts: &mut [u64; 28]) {
     let site = site_of(words);
     let rooms = draw_rooms(site, state);
-    let mut plan = [7_777_777u32; 12];
-    let mut table = [77u8; 128];
+    let mut plan = [7_777_777; PLAN_ROOM];
+    let mut table = [77; TABLE_ROOM];
     let answer = plan_by_search(words, rooms, &mut plan, &mut table);
     add(counts, tally::INSTANCES, 1);
     compare_with_trying(words, site, rooms, &answer, &plan, &table, counts);

@@ -2,11 +2,15 @@
 // penalty and cost. Those that an answer of its kind lacks are 0.
 use exhaustive::Site;
 use exhaustive::Tried;
-use generator::bytes_differ;
+use generator::Choices;
+use generator::PLAN_ROOM;
+use generator::TABLE_ROOM;
+use generator::Table;
+use generator::plans_differ;
+use generator::tables_differ;
 use generator::tally;
 use generator::tally::add;
 use generator::tally::add_if;
-use generator::words_differ;
 use prices::Priced;
 use refusals::Refusal;
 
@@ -32,7 +36,12 @@ fn numbers_of(answer: Priced) -> [u64; 5] {
 }
 
 // Lends so much of the table; a room above the buffers is never drawn.
-fn search_with_table(words: &[u32], plan: &mut [u32], table: &mut [u8], room: usize) -> Priced {
+fn search_with_table(
+    words: &[u32],
+    plan: &mut [u32],
+    table: &mut [ranges::Slot],
+    room: usize,
+) -> Priced {
     if room <= table.len() {
         return planner::plan(words, plan, &mut table[0..room]);
     }
@@ -40,7 +49,12 @@ fn search_with_table(words: &[u32], plan: &mut [u32], table: &mut [u8], room: us
 }
 
 // Lends so much of the plan.
-fn search_with_plan(words: &[u32], plan: &mut [u32], table: &mut [u8], rooms: Rooms) -> Priced {
+fn search_with_plan(
+    words: &[u32],
+    plan: &mut [u32],
+    table: &mut [ranges::Slot],
+    rooms: Rooms,
+) -> Priced {
     let room = rooms.plan;
     if room <= plan.len() {
         return search_with_table(words, &mut plan[0..room], table, rooms.table);
@@ -52,8 +66,8 @@ fn search_with_plan(words: &[u32], plan: &mut [u32], table: &mut [u8], rooms: Ro
 pub(crate) fn plan_by_search(
     words: &[u32],
     rooms: Rooms,
-    plan: &mut [u32; 12],
-    table: &mut [u8; 128],
+    plan: &mut Choices,
+    table: &mut Table,
 ) -> [u64; 5] {
     numbers_of(search_with_plan(words, plan, table, rooms))
 }
@@ -80,12 +94,12 @@ pub(crate) fn compare_with_trying(
     site: Site,
     rooms: Rooms,
     answer: &[u64; 5],
-    plan: &[u32; 12],
-    table: &[u8; 128],
+    plan: &Choices,
+    table: &Table,
     counts: &mut [u64; 28],
 ) {
-    let mut own_plan = [7_777_777u32; 12];
-    let mut own_table = [77u8; 128];
+    let mut own_plan = [7_777_777; PLAN_ROOM];
+    let mut own_table = [77; TABLE_ROOM];
     let tried = exhaustive::plan(
         words,
         site,
@@ -94,11 +108,11 @@ pub(crate) fn compare_with_trying(
         &mut own_table,
         rooms.table,
     );
-    add_if(counts, tally::PLANS_DIFFER, words_differ(plan, &own_plan));
+    add_if(counts, tally::PLANS_DIFFER, plans_differ(plan, &own_plan));
     add_if(
         counts,
         tally::TABLES_DIFFER,
-        bytes_differ(table, &own_table),
+        tables_differ(table, &own_table),
     );
     count_answer(tried, answer, counts);
 }

@@ -10,9 +10,7 @@ ghost use Rattle.dispatch.specs.Columns.{ColumnsOk, DuesOk, PeriodsOk, c
 ghost use Rattle.dispatch.specs.Columns.{Filled, NextRelease, NoRelease, RanEarliest, RanFor, Released, RunsUntil};
 ghost use Rattle.dispatch.specs.Rows as rows;
 ghost use Rattle.dispatch.specs.SelectedTasks.{numbered};
-
-// A slot of a row: a task's number, or 0 for idle.
-pub type Slot = u8;
+pub use ranges::Slot;
 
 // The ticks left of a task once the jobs of this tick are released, from those left before: all of its ticks at a release.
 fn after_release(period: u32, ticks: u32, tick: u32, left: u32) -> u32
@@ -239,6 +237,6 @@ pub fn fill_row(
     ensures { λ _. ⌜ now (slots .exit) ≡ columnRow (now (numbers .entry)) (now (periods .entry)) (now (windows .entry)) (now (ticks .entry))
         (length (now (slots .entry))) ⌝ }
 {
-    let mut left = [0; 12];
+    let mut left = [0; ranges::MOST_TASKS as usize];
     write_row(numbers, periods, windows, ticks, &mut left, slots);
 }

@@ -11,13 +11,18 @@ use prices::Price;
 use prices::Priced;
 use refusals::Refusal;
 
+const MOST_TASKS: usize = ranges::MOST_TASKS as usize;
+
+// Room for the tables that are compared.
+const TABLE_ROOM: usize = 128;
+
 // More than the plans of four tasks on three cores with four levels, which are 13 * 13 * 13 * 13.
 const MOST_PLANS: u64 = 30_000;
 
 // Copies the first n choices.
-fn copy(plan: &mut [u32; 12], choices: &[u32; 12], n: usize) {
+fn copy(plan: &mut [u32; MOST_TASKS], choices: &[u32; MOST_TASKS], n: usize) {
     let mut i = 0;
-    while i < 12 {
+    while i < MOST_TASKS {
         if i < n {
             plan[i] = choices[i];
         }
@@ -29,9 +34,9 @@ fn copy(plan: &mut [u32; 12], choices: &[u32; 12], n: usize) {
 fn with_plan(
     so_far: Tried,
     price: Price,
-    choices: &[u32; 12],
+    choices: &[u32; MOST_TASKS],
     n: usize,
-    plan: &mut [u32; 12],
+    plan: &mut [u32; MOST_TASKS],
 ) -> Tried {
     if is_cheaper(so_far, price) {
         copy(plan, choices, n);
@@ -40,7 +45,7 @@ fn with_plan(
     with_other(so_far, price)
 }
 
-fn price_front(words: &[u32], choices: &[u32; 12], n: usize) -> Priced {
+fn price_front(words: &[u32], choices: &[u32; MOST_TASKS], n: usize) -> Priced {
     let all = &choices[..];
     if n <= all.len() {
         return prices::price(words, &all[0..n]);
@@ -50,10 +55,10 @@ fn price_front(words: &[u32], choices: &[u32; 12], n: usize) -> Priced {
 
 fn after_trying(
     words: &[u32],
-    choices: &[u32; 12],
+    choices: &[u32; MOST_TASKS],
     n: usize,
     so_far: Tried,
-    plan: &mut [u32; 12],
+    plan: &mut [u32; MOST_TASKS],
 ) -> Tried {
     match price_front(words, choices, n) {
         Priced::Refused(_) => so_far,
@@ -70,8 +75,8 @@ fn next_choice(choice: u32, most: u32) -> u32 {
 }
 
 // Steps choice i; false where it begins again at 0.
-fn step_choice(choices: &mut [u32; 12], i: usize, most: u32) -> bool {
-    if 12 <= i {
+fn step_choice(choices: &mut [u32; MOST_TASKS], i: usize, most: u32) -> bool {
+    if MOST_TASKS <= i {
         return false;
     }
     choices[i] = next_choice(choices[i], most);
@@ -79,7 +84,7 @@ fn step_choice(choices: &mut [u32; 12], i: usize, most: u32) -> bool {
 }
 
 // Steps to the next plan in choice order, the last choice the fastest; false after the last plan.
-fn step(choices: &mut [u32; 12], n: usize, most: u32) -> bool {
+fn step(choices: &mut [u32; MOST_TASKS], n: usize, most: u32) -> bool {
     let mut i = n;
     while 0 < i {
         i -= 1;
@@ -90,9 +95,9 @@ fn step(choices: &mut [u32; 12], n: usize, most: u32) -> bool {
     false
 }
 
-fn try_all(words: &[u32], n: usize, most: u32, plan: &mut [u32; 12]) -> Tried {
+fn try_all(words: &[u32], n: usize, most: u32, plan: &mut [u32; MOST_TASKS]) -> Tried {
     let mut so_far = none_tried();
-    let mut choices = [0; 12];
+    let mut choices = [0; MOST_TASKS];
     let mut tried = 0;
     while tried < MOST_PLANS {
         so_far = after_trying(words, &choices, n, so_far, plan);
@@ -118,7 +123,12 @@ fn refusal_before(site: Site, plan_room: usize, table_room: usize) -> [u64; 5] {
     [0; 5]
 }
 
-fn tabulate_front(words: &[u32], plan: &[u32; 12], n: usize, table: &mut [u8; 128]) {
+fn tabulate_front(
+    words: &[u32],
+    plan: &[u32; MOST_TASKS],
+    n: usize,
+    table: &mut [ranges::Slot; TABLE_ROOM],
+) {
     let all = &plan[..];
     if n <= all.len() {
         tables::tabulate(words, &all[0..n], table);
@@ -126,7 +136,12 @@ fn tabulate_front(words: &[u32], plan: &[u32; 12], n: usize, table: &mut [u8; 12
 }
 
 // Plans an instance that is not refused before.
-fn plan_site(words: &[u32], site: Site, plan: &mut [u32; 12], table: &mut [u8; 128]) -> Tried {
+fn plan_site(
+    words: &[u32],
+    site: Site,
+    plan: &mut [u32; MOST_TASKS],
+    table: &mut [ranges::Slot; TABLE_ROOM],
+) -> Tried {
     let tried = try_all(words, site.tasks, site.most, plan);
     if tried.priced != 0 {
         tabulate_front(words, plan, site.tasks, table);
@@ -138,9 +153,9 @@ fn plan_site(words: &[u32], site: Site, plan: &mut [u32; 12], table: &mut [u8; 1
 pub fn plan(
     words: &[u32],
     site: Site,
-    plan: &mut [u32; 12],
+    plan: &mut [u32; MOST_TASKS],
     plan_room: usize,
-    table: &mut [u8; 128],
+    table: &mut [ranges::Slot; TABLE_ROOM],
     table_room: usize,
 ) -> Tried {
     let refusal = refusal_before(site, plan_room, table_room);

@@ -43,10 +43,10 @@ pub fn site_of(words: &[u32]) -> Site {
     }
 }
 
-// The product of two numbers up to 4,096, else 0.
+// The product of two numbers up to the longest span, else 0.
 fn product(a: u32, b: u32) -> u32 {
-    if a <= 4096 {
-        if b <= 4096 {
+    if a <= ranges::MOST_SPAN {
+        if b <= ranges::MOST_SPAN {
             return a * b;
         }
     }

@@ -1,5 +1,16 @@
 // How much of a buffer is lent; buffers compared whole; what kind of table stands in one.
 use crate::draw::below;
+use ranges::Slot;
+
+// Room for one choice of each task.
+pub const PLAN_ROOM: usize = ranges::MOST_TASKS as usize;
+
+// Room for the table of a drawn instance.
+pub const TABLE_ROOM: usize = 128;
+
+pub type Choices = [u32; PLAN_ROOM];
+
+pub type Table = [Slot; TABLE_ROOM];
 
 // Room for a result of `size` elements: all there is, exactly enough, or now and then too little.
 pub fn draw_room(size: usize, most: usize, state: &mut u32) -> usize {
@@ -24,9 +35,9 @@ fn one_less(size: usize) -> usize {
     size - 1
 }
 
-pub fn words_differ(a: &[u32; 12], b: &[u32; 12]) -> bool {
+pub fn plans_differ(a: &Choices, b: &Choices) -> bool {
     let mut i = 0;
-    while i < 12 {
+    while i < PLAN_ROOM {
         if a[i] != b[i] {
             return true;
         }
@@ -35,9 +46,9 @@ pub fn words_differ(a: &[u32; 12], b: &[u32; 12]) -> bool {
     false
 }
 
-pub fn bytes_differ(a: &[u8; 128], b: &[u8; 128]) -> bool {
+pub fn tables_differ(a: &Table, b: &Table) -> bool {
     let mut i = 0;
-    while i < 128 {
+    while i < TABLE_ROOM {
         if a[i] != b[i] {
             return true;
         }
@@ -54,7 +65,7 @@ fn place_in_row(x: usize, span: usize) -> usize {
 }
 
 // The busy slots without an idle one between, up to a slot and in its row, where `before` stand before it.
-fn busy_up_to(slot: u8, place_in_row: usize, before: usize) -> usize {
+fn busy_up_to(slot: Slot, place_in_row: usize, before: usize) -> usize {
     if slot == 0 {
         return 0;
     }
@@ -65,16 +76,10 @@ fn busy_up_to(slot: u8, place_in_row: usize, before: usize) -> usize {
 }
 
 // Whether, from slot `from` on, there are somewhere `many` busy slots of one row without an idle one between.
-pub fn has_busy_slots(
-    table: &[u8; 128],
-    span: usize,
-    from: usize,
-    slots: usize,
-    many: usize,
-) -> bool {
+pub fn has_busy_slots(table: &Table, span: usize, from: usize, slots: usize, many: usize) -> bool {
     let mut busy = 0;
     let mut x = from;
-    while x < 128 {
+    while x < TABLE_ROOM {
         if x < slots {
             busy = busy_up_to(table[x], place_in_row(x, span), busy);
         }

@@ -6,10 +6,14 @@ mod other_tables;
 pub mod tally;
 mod trials;
 
-pub use buffers::bytes_differ;
+pub use buffers::Choices;
+pub use buffers::PLAN_ROOM;
+pub use buffers::TABLE_ROOM;
+pub use buffers::Table;
 pub use buffers::draw_room;
 pub use buffers::has_busy_slots;
-pub use buffers::words_differ;
+pub use buffers::plans_differ;
+pub use buffers::tables_differ;
 pub use instances::draw_instance;
 pub use trials::table_fails;
 pub use trials::try_answered;

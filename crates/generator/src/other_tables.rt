@@ -1,13 +1,17 @@
 // Tables that are not made by earliest deadline first: task after task takes the free slots that its jobs' windows have left.
+use crate::buffers::PLAN_ROOM;
+use crate::buffers::TABLE_ROOM;
+use crate::buffers::Table;
 use crate::draw::below;
 use crate::draw::times;
+use ranges::Slot;
 
 // In place of the slot of its window that a job tries first: it tries them from the end.
 const FROM_THE_END: u32 = 24;
 
 // A kept task: its number, its row's first slot, and the slot of a window that it tries first.
 struct Kept {
-    number: u8,
+    number: Slot,
     row: u32,
     period: u32,
     ticks: u32,
@@ -31,8 +35,8 @@ fn slot_of_window(first: u32, period: u32, x: u32) -> u32 {
 }
 
 // Takes a slot that is free, for a job with ticks left; answers the ticks left then.
-fn take_slot(table: &mut [u8; 128], t: usize, number: u8, left: u32) -> u32 {
-    if t < 128 {
+fn take_slot(table: &mut Table, t: usize, number: Slot, left: u32) -> u32 {
+    if t < TABLE_ROOM {
         if 0 < left && table[t] == 0 {
             table[t] = number;
             return left - 1;
@@ -42,7 +46,7 @@ fn take_slot(table: &mut [u8; 128], t: usize, number: u8, left: u32) -> u32 {
 }
 
 // Turn y of a task, in which its job tries one slot; answers the ticks that the job has left then.
-fn take_turn(table: &mut [u8; 128], task: Kept, y: u32, left: u32) -> u32 {
+fn take_turn(table: &mut Table, task: Kept, y: u32, left: u32) -> u32 {
     let x = rest(y, task.period);
     let slot = slot_of_window(task.first, task.period, x);
     let release = std::num::wrapping_add_u32(task.row, std::num::wrapping_sub_u32(y, x));
@@ -54,7 +58,7 @@ fn take_turn(table: &mut [u8; 128], task: Kept, y: u32, left: u32) -> u32 {
 }
 
 // All jobs of a task: as many turns as its row has slots.
-fn fill_row(table: &mut [u8; 128], task: Kept, span: u32) {
+fn fill_row(table: &mut Table, task: Kept, span: u32) {
     let mut left = 0;
     let mut y = 0;
     while y < span {
@@ -85,12 +89,12 @@ fn speed_of(words: &[u32], choice: u32, levels: u32) -> u32 {
     word(words, 5 + 2 * level as usize)
 }
 
-// Task i, which has this choice: its three words come after the levels and those of the tasks before.
-fn kept_task(words: &[u32], span: u32, choice: u32, i: u8, first: u32) -> Kept {
+// The task with this number, from 1, and this choice: its three words come after the levels and those of the tasks before.
+fn kept_task(words: &[u32], span: u32, choice: u32, number: Slot, first: u32) -> Kept {
     let levels = word(words, 4);
-    let at = 6 + 2 * levels as usize + 3 * i as usize;
+    let at = 3 + 2 * levels as usize + 3 * number as usize;
     Kept {
-        number: std::num::wrapping_add_u8(i, 1),
+        number,
         row: row_of(choice, levels, span),
         period: word(words, at),
         ticks: plan_rules::ticks_of(word(words, at + 1), speed_of(words, choice, levels)),
@@ -98,21 +102,18 @@ fn kept_task(words: &[u32], span: u32, choice: u32, i: u8, first: u32) -> Kept {
     }
 }
 
-fn fill_task(table: &mut [u8; 128], words: &[u32], span: u32, choice: u32, i: usize, first: u32) {
-    if choice != 0 && i < 12 {
-        fill_row(table, kept_task(words, span, choice, i as u8, first), span);
+fn fill_task(table: &mut Table, words: &[u32], span: u32, choice: u32, i: usize, first: u32) {
+    if choice == 0 {
+        return;
+    }
+    if i < PLAN_ROOM {
+        let number = (i + 1) as Slot;
+        fill_row(table, kept_task(words, span, choice, number, first), span);
     }
 }
 
 // All tasks, from task `turn` on and round.
-fn fill_tasks(
-    table: &mut [u8; 128],
-    words: &[u32],
-    span: u32,
-    plan: &[u32],
-    turn: u32,
-    first: u32,
-) {
+fn fill_tasks(table: &mut Table, words: &[u32], span: u32, plan: &[u32], turn: u32, first: u32) {
     let mut i = 0;
     while i < plan.len() {
         let next = std::num::wrapping_add_usize(turn as usize, i) % plan.len();
@@ -132,7 +133,7 @@ fn draw_first(state: &mut u32) -> u32 {
 
 // Fills an idle table for a plan, in an order that is drawn. A job may get fewer slots than it has ticks.
 pub(crate) fn fill_table(
-    table: &mut [u8; 128],
+    table: &mut Table,
     words: &[u32],
     span: u32,
     plan: &[u32],

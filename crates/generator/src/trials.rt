@@ -1,6 +1,10 @@
 // Tables for plans that are drawn, and other tables for the plan that was answered. One that passes the check is a drawing,
 // and no drawing is cheaper than the answered plan. Each function is told the ticks of the span and the slots of a table.
-use crate::buffers::bytes_differ;
+use crate::buffers::Choices;
+use crate::buffers::PLAN_ROOM;
+use crate::buffers::TABLE_ROOM;
+use crate::buffers::Table;
+use crate::buffers::tables_differ;
 use crate::draw::up_to;
 use crate::other_tables::fill_table;
 use crate::tally;
@@ -9,7 +13,7 @@ use crate::tally::add_if;
 use prices::Priced;
 use refusals::Verdict;
 
-fn passes_check(words: &[u32], plan: &[u32], table: &[u8; 128], slots: usize) -> bool {
+fn passes_check(words: &[u32], plan: &[u32], table: &Table, slots: usize) -> bool {
     let all = &table[..];
     if all.len() < slots {
         return false;
@@ -21,9 +25,9 @@ fn passes_check(words: &[u32], plan: &[u32], table: &[u8; 128], slots: usize) ->
 }
 
 // Draws one of so many choices for each of n tasks.
-fn draw_plan(plan: &mut [u32; 12], n: usize, choices: u32, state: &mut u32) {
+fn draw_plan(plan: &mut Choices, n: usize, choices: u32, state: &mut u32) {
     let mut i = 0;
-    while i < 12 {
+    while i < PLAN_ROOM {
         if i < n {
             plan[i] = std::num::wrapping_sub_u32(up_to(state, choices), 1);
         }
@@ -32,10 +36,10 @@ fn draw_plan(plan: &mut [u32; 12], n: usize, choices: u32, state: &mut u32) {
 }
 
 // Whether a table is not the plan's own.
-fn is_other(words: &[u32], plan: &[u32], table: &[u8; 128]) -> bool {
-    let mut own = [0u8; 128];
+fn is_other(words: &[u32], plan: &[u32], table: &Table) -> bool {
+    let mut own = [0; TABLE_ROOM];
     tables::tabulate(words, plan, &mut own);
-    bytes_differ(table, &own)
+    tables_differ(table, &own)
 }
 
 // What a drawing's plan costs, where the answered plan costs `least`.
@@ -46,13 +50,7 @@ fn count_price(priced: Priced, least: u64, counts: &mut [u64; 28]) {
     }
 }
 
-fn count_drawing(
-    words: &[u32],
-    plan: &[u32],
-    table: &[u8; 128],
-    least: u64,
-    counts: &mut [u64; 28],
-) {
+fn count_drawing(words: &[u32], plan: &[u32], table: &Table, least: u64, counts: &mut [u64; 28]) {
     add(counts, tally::DRAWINGS, 1);
     add_if(counts, tally::OTHER_DRAWINGS, is_other(words, plan, table));
     count_price(prices::price(words, plan), least, counts);
@@ -68,7 +66,7 @@ fn try_table(
     state: &mut u32,
     counts: &mut [u64; 28],
 ) {
-    let mut table = [0u8; 128];
+    let mut table = [0; TABLE_ROOM];
     fill_table(&mut table, words, span, plan, state);
     add(counts, tally::TABLES_TRIED, 1);
     if passes_check(words, plan, &table, slots) {
@@ -81,7 +79,7 @@ fn try_front(
     words: &[u32],
     span: u32,
     slots: usize,
-    front: &[u32; 12],
+    front: &Choices,
     n: usize,
     least: u64,
     state: &mut u32,
@@ -104,7 +102,7 @@ fn try_drawn_plan(
     state: &mut u32,
     counts: &mut [u64; 28],
 ) {
-    let mut plan = [0u32; 12];
+    let mut plan = [0; PLAN_ROOM];
     draw_plan(&mut plan, n, std::num::wrapping_add_u32(most, 1), state);
     try_front(words, span, slots, &plan, n, least, state, counts);
 }
@@ -126,13 +124,7 @@ pub fn try_drawn_plans(
 }
 
 // Whether the answered table fails the check for its plan, of n tasks at the front.
-pub fn table_fails(
-    words: &[u32],
-    slots: usize,
-    front: &[u32; 12],
-    n: usize,
-    table: &[u8; 128],
-) -> bool {
+pub fn table_fails(words: &[u32], slots: usize, front: &Choices, n: usize, table: &Table) -> bool {
     let all = &front[..];
     if n <= all.len() {
         return !passes_check(words, &all[0..n], table, slots);
@@ -145,7 +137,7 @@ pub fn try_answered(
     words: &[u32],
     span: u32,
     slots: usize,
-    front: &[u32; 12],
+    front: &Choices,
     n: usize,
     least: u64,
     state: &mut u32,

@@ -5,8 +5,7 @@ use listing_lines::put_plan;
 use listing_lines::put_refusal;
 use planner::plan;
 use prices::Priced;
-use ranges::MOST_CORES;
-use ranges::MOST_SPAN;
+use ranges::MOST_TABLE;
 use ranges::MOST_TASKS;
 use ranges::MOST_TEXT_WORDS;
 use refusals::Verdict;
@@ -31,7 +30,7 @@ fn put_best(out: &mut [u8], words: &[u32], inst: Instance) -> usize
     ensures { λ r. ⌜ Put (now (out .entry)) 0 (listingOfProblem (problemOf (now (words .entry)))) (now (out .exit)) r ⌝ }
 {
     let mut choices = [0u32; MOST_TASKS as usize];
-    let mut table = [0u8; MOST_CORES as usize * MOST_SPAN as usize];
+    let mut table = [0; MOST_TABLE as usize];
     match plan(words, &mut choices, &mut table) {
         Priced::Refused(r) => put_refusal(out, 0, r),
         Priced::Cost(price) => {

@@ -1,9 +1,10 @@
 // The numbers of document 01 that inputs are tested against, each once: the ranges of its section 'Site file', and the largest
-// span. And how many words a text has at most: two numbers are parted by a byte.
+// span. And what follows from them.
 
 pub const MOST_TEXT_BYTES: u32 = 4_096;
 
-pub const MOST_TEXT_WORDS: u32 = 2_048;
+// Two numbers are parted by a byte.
+pub const MOST_TEXT_WORDS: u32 = (MOST_TEXT_BYTES + 1) / 2;
 
 pub const SETTINGS_COUNT: u32 = 3;
 
@@ -28,3 +29,9 @@ pub const MOST_PENALTY: u32 = 1_000_000;
 pub const MAY_NOT_BE_REFUSED: u32 = 4_294_967_295;
 
 pub const MOST_SPAN: u32 = 4_096;
+
+// The slots of the largest table.
+pub const MOST_TABLE: u32 = MOST_CORES * MOST_SPAN;
+
+// A slot of a table: a task's number, or 0 for idle.
+pub type Slot = u8;

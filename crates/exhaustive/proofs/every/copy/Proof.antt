@@ -1,5 +1,6 @@
 use borrow.Author.Needs.{needs}
 use Prim.Native.Nat.{_-_}
+use Rattle.ranges.specs.Limits.{mostTasks}
 use Rattle.exhaustive.proofs.every.copy.Statement.{statement}
 use Rattle.exhaustive.proofs.every.copy.Tie as tie
 
@@ -7,7 +8,7 @@ abbrev Inv-loop : tie.InvT-loop
 Inv-loop plan₀ choices n i₀ plan i = Unit {0}
 
 abbrev μ-loop : tie.MeasureT-loop
-μ-loop plan₀ choices n i₀ plan i = 12 - i
+μ-loop plan₀ choices n i₀ plan i = mostTasks - i
 
 loop-holds : tie.Need-loop-holds Inv-loop μ-loop
 loop-holds c = search needs

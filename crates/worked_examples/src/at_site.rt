@@ -1,0 +1,65 @@
+// Examples at a site, whose words are lent as text.
+use crate::numbers::MOST_NUMBERS;
+use crate::numbers::words_of;
+use crate::plans;
+
+pub(crate) fn run(kind: u8, site: &[u8], given: &[u8]) {
+    let mut words = [0; MOST_NUMBERS];
+    let n = words_of(site, &mut words);
+    let mut numbers = [0; MOST_NUMBERS];
+    let m = words_of(given, &mut numbers);
+    run_fronts(kind, &words, n, &numbers, m);
+}
+
+fn run_fronts(
+    kind: u8,
+    words: &[u32; MOST_NUMBERS],
+    n: usize,
+    numbers: &[u32; MOST_NUMBERS],
+    m: usize,
+) {
+    let all = &words[..];
+    let given = &numbers[..];
+    if n <= all.len() && m <= given.len() {
+        run_kind(kind, &all[0..n], &given[0..m]);
+    }
+}
+
+fn run_kind(kind: u8, words: &[u32], given: &[u32]) {
+    if kind == b'P' {
+        plans::price(words, given);
+    }
+    if kind == b'L' {
+        plans::long_table(words, given);
+    }
+    if 0 < given.len() {
+        if kind == b'T' {
+            plans::table(words, given[0], &given[1..]);
+        }
+        if kind == b'C' {
+            run_check(words, given[0], &given[1..]);
+        }
+    }
+}
+
+// The first so many numbers are a plan, those after it a table.
+fn run_check(words: &[u32], choices: u32, given: &[u32]) {
+    let n = choices as usize;
+    if n <= given.len() {
+        check_slots(words, &given[0..n], &given[n..]);
+    }
+}
+
+fn check_slots(words: &[u32], plan: &[u32], table: &[u32]) {
+    let mut slots = [0; MOST_NUMBERS];
+    let n = table.len();
+    if MOST_NUMBERS < n {
+        return;
+    }
+    let mut i = 0;
+    while i < n {
+        slots[i] = (table[i] % 256) as ranges::Slot;
+        i += 1;
+    }
+    plans::check(words, plan, &slots[0..n]);
+}
