@@ -12,8 +12,8 @@
  *   how many tasks, 0 to 12; for each its period in ticks, 1 to 4,096, its cycles a job, 1 to
  *   100,000,000, and its penalty a job, 1 to 1,000,000, or 4,294,967,295 if it may not be refused.
  *
- * Link with libdesk.a. A call keeps nothing and prints nothing; several threads may call at once as
- * long as they share no result buffer.
+ * Link with libtowhepamu.a. A call keeps nothing and prints nothing; several threads may call at
+ * once as long as they share no result buffer.
  */
 #ifndef TOWHEPAMU_H
 #define TOWHEPAMU_H

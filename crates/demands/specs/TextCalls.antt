@@ -22,9 +22,9 @@ use Rattle.schedule.specs.declared.prices.Priced.the-variants as Priced
 use Rattle.planner.specs.Endings.{planFound}
 use Rattle.planner.specs.Planned.{NoDrawing, BestDrawing}
 use Rattle.planner.specs.Planning.{bestPlan}
-use Rattle.desk.specs.DeskOutcomes.{plannedOf}
-use Rattle.desk.specs.declared.answers.Checked.{Checked}
-use Rattle.desk.specs.declared.answers.Planned.{Planned}
+use Rattle.towhepamu.specs.CallOutcomes.{plannedOf}
+use Rattle.towhepamu.specs.declared.answers.Checked.{Checked}
+use Rattle.towhepamu.specs.declared.answers.Planned.{Planned}
 use Rattle.listing_lines.specs.ListingLines.{refusalLine, planLines}
 
 -- the text is one of the instance p

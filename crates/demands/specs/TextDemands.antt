@@ -12,7 +12,7 @@ use Rattle.schedule.specs.Drawings.{Drawing}
 use Rattle.schedule.specs.Outcomes.{priceVerdict}
 use Rattle.schedule.specs.Tables.{tableSize}
 use Rattle.demands.specs.Demands.{demand-3}
-use Rattle.desk.specs.DeskOutcomes.{plannedOf, checkedOf, textPlanOutcome, textCheckOutcome}
+use Rattle.towhepamu.specs.CallOutcomes.{plannedOf, checkedOf, textPlanOutcome, textCheckOutcome}
 use Rattle.listings.specs.Listing.{listingOf}
 use Rattle.demands.specs.TextCallLaws.{text-planning-ends, text-checking-ends, planning-returns, checking-returns, optimal-numbers, listing-prints, planned-as-words, checked-as-words, passes-iff}
 use Rattle.demands.specs.TextCalls.{WritesProblem, TextPlanningEnds, TextCheckingEnds, answerPlanned, answerChecked, OptimalNumbers, Prints}
