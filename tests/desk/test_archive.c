@@ -18,11 +18,12 @@ enum {
 };
 
 /* The text that is lent, the instance where it reads, and the buffers beside it. */
-static lent text, plan, table;
+static lent text, plan, table, out;
 static bool reads;
 static reference_instance in;
 
-static size_t compared, differ, planned[REFUSALS], checked[REFUSALS];
+static size_t compared, differ;
+static size_t was_read[REFUSALS], planned[REFUSALS], checked[REFUSALS], listed[REFUSALS];
 
 /* ---- One comparison ---- */
 
@@ -78,6 +79,35 @@ static bool compare_plan(generator *g, size_t plan_len, size_t table_len) {
     else if (!still_has(&table, slots, accepted ? in.cores * in.span : 0))
         report("planning leaves another table buffer");
     return accepted;
+}
+
+/* Reads the lent text. */
+static void compare_reading(void) {
+    towhepamu_site expected = reference_site(text.bytes, text.len);
+    towhepamu_site answer = towhepamu_read(text.bytes, text.len);
+    compared++;
+    was_read[expected.refusal]++;
+    if (memcmp(&answer, &expected, sizeof answer) != 0 && report("reading answers otherwise"))
+        printf("  archive: refusal %" PRIu64 " place %" PRIu64 " tasks %" PRIu64 " levels %" PRIu64
+               " cores %" PRIu64 " span %" PRIu64 "\n",
+               answer.refusal, answer.place, answer.tasks, answer.levels, answer.cores,
+               answer.span);
+}
+
+/* Lists the lent text. Beyond the listing, every byte must be as it was lent. */
+static void compare_listing(generator *g, size_t out_len) {
+    static uint8_t bytes[TOWHEPAMU_MOST_LISTING_BYTES + SLACK];
+    lend(&out, out_len, draw_tail(g));
+    towhepamu_listed expected = reference_list(text.bytes, text.len, bytes, out_len);
+    towhepamu_listed answer = towhepamu_list(text.bytes, text.len, out.bytes, out_len);
+    compared++;
+    listed[expected.refusal]++;
+    if (memcmp(&answer, &expected, sizeof answer) != 0) {
+        if (report("listing answers otherwise"))
+            printf("  archive: refusal %" PRIu64 " place %" PRIu64 " length %" PRIu64 "\n",
+                   answer.refusal, answer.place, answer.length);
+    } else if (!still_has(&out, bytes, expected.length))
+        report("listing leaves another buffer");
 }
 
 typedef struct {
@@ -162,10 +192,7 @@ static void damage_drawing(generator *g, drawing *given) {
 /* ---- One text ---- */
 
 static void read_text(void) {
-    uint32_t words[MOST_WORDS];
-    size_t count = 0;
-    reads = reference_words(text.bytes, text.len, words, MOST_WORDS, &count).refusal == 0 &&
-            reference_read(words, count, &in).refusal == 0;
+    reads = reference_read_text(text.bytes, text.len, &in).refusal == TOWHEPAMU_ACCEPTED;
     if (!reads) /* so that there are buffers to lend beside a text that is refused */
         in = (reference_instance){
             1, 1, 2, 2, 3, 60, {{1, 1}, {2, 2}}, {{60, 1, 1}, {1, 1, 1}, {2, 1, 1}}};
@@ -197,6 +224,11 @@ static void compare_text(generator *g, const uint8_t *bytes, size_t len) {
     compare_plan(g, tasks, draw(g, slots));
     compare_plan(g, 0, 0);
     compare_checks(g, accepted);
+    compare_reading();
+    if (one_in(g, 3)) /* not always, since such a buffer takes long to compare */
+        compare_listing(g, TOWHEPAMU_MOST_LISTING_BYTES + slack);
+    else
+        compare_listing(g, one_in(g, 8) ? TOWHEPAMU_MOST_LISTING_BYTES - 1 : draw(g, 2000));
     if (!still_has(&text, bytes, len))
         report("the text is written to");
 }
@@ -232,6 +264,7 @@ int main(void) {
     text = make_room();
     plan = make_room();
     table = make_room();
+    out = make_room();
     for (size_t k = 0; k < KNOWN_CASES; k++)
         compare_text(&g, (const uint8_t *)known_cases[k].text, strlen(known_cases[k].text));
     for (size_t n = 0; n < SITES; n++)
@@ -241,8 +274,10 @@ int main(void) {
     for (size_t n = 0; n < LARGE_SITES; n++)
         compare_site(&g, (site_limits){4, 8, 12, 12, 4096});
 
+    bool all_read = print_seen("reading", was_read, (size_t[]){1, 2, 3, 4, 0});
     bool all_planned = print_seen("planning", planned, (size_t[]){1, 2, 3, 4, 5, 6, 0});
     bool all_checked = print_seen("checking", checked, (size_t[]){1, 2, 3, 4, 7, 9, 10, 0});
+    bool all_listed = print_seen("listing", listed, (size_t[]){1, 2, 3, 4, 5, 6, 0});
     printf("desk: %zu compared, %zu differ\n", compared, differ);
-    return differ > 0 || !all_planned || !all_checked;
+    return differ > 0 || !all_read || !all_planned || !all_checked || !all_listed;
 }
