@@ -3,19 +3,13 @@
  * the same bytes in the lent buffers, and not a byte touched around them.
  */
 #define _DEFAULT_SOURCE
+#include "drawings.h"
 #include "generate.h"
 #include "known.h"
 #include "lent.h"
 #include <inttypes.h>
 
-enum {
-    SITES = 14000,
-    LARGE_SITES = 24,
-    MOST_REPORTED = 10,
-    REFUSALS = 11,
-    SLACK = 40,
-    MOST_GIVEN = TOWHEPAMU_MOST_TABLE_BYTES + SLACK
-};
+enum { SITES = 14000, LARGE_SITES = 24, MOST_REPORTED = 10, REFUSALS = 11 };
 
 /* The text that is lent, the instance where it reads, and the buffers beside it. */
 static lent text, plan, table, out;
@@ -110,11 +104,6 @@ static void compare_listing(generator *g, size_t out_len) {
         report("listing leaves another buffer");
 }
 
-typedef struct {
-    uint8_t plan[MOST_GIVEN], table[MOST_GIVEN];
-    size_t plan_len, table_len;
-} drawing;
-
 /* Checks a drawing for the lent text. */
 static void compare_check(generator *g, const drawing *given) {
     lend_copy(&plan, given->plan, given->plan_len, draw_tail(g));
@@ -134,61 +123,6 @@ static void compare_check(generator *g, const drawing *given) {
         report("checking writes");
 }
 
-/* ---- Drawings, sound and damaged ---- */
-
-static uint8_t draw_choice(generator *g) {
-    return (uint8_t)draw(g, in.cores * in.levels + (one_in(g, 4) ? 2 : 1));
-}
-
-static uint8_t draw_slot(generator *g) {
-    return (uint8_t)(one_in(g, 8) ? draw(g, 256) : draw(g, in.tasks + 1));
-}
-
-/* Any plan, with its table if its cores fit, else with any table. */
-static void draw_drawing(generator *g, drawing *given) {
-    given->plan_len = in.tasks;
-    given->table_len = in.cores * in.span;
-    for (size_t i = 0; i < given->plan_len; i++)
-        given->plan[i] = draw_choice(g);
-    for (size_t s = 0; s < given->table_len; s++)
-        given->table[s] = one_in(g, 2) ? 0 : draw_slot(g);
-    reference_tabulate(&in, given->plan, given->plan_len, given->table, given->table_len);
-}
-
-static void swap_slots(drawing *given, size_t a, size_t b) {
-    uint8_t slot = given->table[a];
-    given->table[a] = given->table[b];
-    given->table[b] = slot;
-}
-
-static void damage_drawing(generator *g, drawing *given) {
-    size_t slots = in.cores * in.span, at = draw(g, slots);
-    switch (draw(g, 8)) {
-    case 0:
-        given->plan_len = draw(g, in.tasks + 3);
-        break;
-    case 1:
-        given->table_len = one_in(g, 2) ? draw(g, slots) : slots + draw(g, SLACK);
-        break;
-    case 2: /* often a table that passes and does not run the earliest due first */
-        swap_slots(given, at, (at + 1) % slots);
-        break;
-    case 3:
-        swap_slots(given, at, draw(g, slots));
-        break;
-    case 4:
-        memset(given->table + at, 0, slots - at);
-        break;
-    case 5:
-    case 6:
-        at = draw(g, in.tasks + 1);
-        given->plan[at] = draw_choice(g); /* sometimes of no task */
-        break;
-    default:
-        given->table[at] = draw_slot(g);
-    }
-}
-
 /* ---- One text ---- */
 
 static void read_text(void) {
@@ -200,7 +134,7 @@ static void read_text(void) {
 
 static void compare_checks(generator *g, bool accepted) {
     static drawing given, damaged;
-    draw_drawing(g, &given);
+    draw_drawing(g, &in, &given);
     compare_check(g, &given);
     if (accepted) {
         reference_plan(text.bytes, text.len, given.plan, in.tasks, given.table, given.table_len);
@@ -209,7 +143,7 @@ static void compare_checks(generator *g, bool accepted) {
     for (size_t n = reads ? 5 : 1; n > 0; n--) {
         damaged = given;
         for (size_t times = draw_between(g, 1, 2); times > 0; times--)
-            damage_drawing(g, &damaged);
+            damage_drawing(g, &in, &damaged);
         compare_check(g, &damaged);
     }
 }
