@@ -1,10 +1,11 @@
 /*
- * Towhepamu: plans and slot tables for a node with clock levels, for a desk program in C.
+ * Towhepamu: plans and slot tables for a node with clock levels, for a program in C.
  *
- * A site file says which cores and clock levels a node has and which tasks wait for them. Planning
- * decides which task runs on which core at which level and which is refused, at the least cost, and
- * draws the slot table of every core. Checking tells whether a given plan and table serve every
- * job.
+ * A site file says which cores and clock levels a node has and which tasks wait for them. Reading
+ * tells whether a text is one. Planning decides which task runs on which core at which level and
+ * which is refused, at the least cost, and draws the slot table of every core. Checking tells
+ * whether a given plan and table serve every job. Listing writes the best plan and its table as
+ * lines of text.
  *
  * A site file is text, numbers in base ten parted by spaces and line feeds:
  *   3, energy weight 1 to 1,000, penalty weight 1 to 1,000, cores 1 to 4;
@@ -12,8 +13,8 @@
  *   how many tasks, 0 to 12; for each its period in ticks, 1 to 4,096, its cycles a job, 1 to
  *   100,000,000, and its penalty a job, 1 to 1,000,000, or 4,294,967,295 if it may not be refused.
  *
- * Link with libdesk.a. A call keeps nothing and prints nothing; several threads may call at once as
- * long as they share no result buffer.
+ * Link with libtowhepamu.a. A call keeps nothing and prints nothing; several threads may call at
+ * once as long as they share no result buffer.
  */
 #ifndef TOWHEPAMU_H
 #define TOWHEPAMU_H
@@ -25,17 +26,32 @@
 extern "C" {
 #endif
 
+/* The version of the header and the archive. */
+#define TOWHEPAMU_VERSION "1.0.0"
+#define TOWHEPAMU_VERSION_MAJOR 1
+#define TOWHEPAMU_VERSION_MINOR 0
+#define TOWHEPAMU_VERSION_PATCH 0
+
 /* The longest site file that is read, in bytes. */
 #define TOWHEPAMU_MOST_TEXT_BYTES 4096
 
 /* The most tasks of a site: a plan buffer of this length is never too short. */
 #define TOWHEPAMU_MOST_TASKS 12
 
+/* The most cores and clock levels of a site, and its longest span, in ticks. */
+#define TOWHEPAMU_MOST_CORES 4
+#define TOWHEPAMU_MOST_LEVELS 8
+#define TOWHEPAMU_MOST_SPAN 4096
+
 /* Four cores of 4,096 slots: a table buffer of this length is never too short. */
 #define TOWHEPAMU_MOST_TABLE_BYTES (4 * 4096)
 
-/* The stack that a call must find free, in bytes. Measured: planning 1,031,040, checking 11,608
-   (tests/desk/test_stack.c, which fails where a call takes more than is promised). */
+/* No site has a longer listing, in bytes: a listing's buffer must have this length. */
+#define TOWHEPAMU_MOST_LISTING_BYTES 51200
+
+/* The stack that a call must find free, in bytes. Measured: reading 12,280, planning 1,031,136,
+   checking 11,608, listing 1,048,064 (tests/desk/test_stack.c, which fails where a call takes more
+   than is promised). */
 #define TOWHEPAMU_STACK_BYTES (1536 * 1024)
 
 /* Why a call was refused, and what `place` then says. */
@@ -71,8 +87,8 @@ enum towhepamu_refusal {
        first such task's index, from 0. */
     TOWHEPAMU_CHOICES = 7,
 
-    /* A core of a given plan does not fit. Neither call below returns this one. Place: the lowest
-       such core, from 1. */
+    /* A core of a given plan does not fit. None of the calls below returns this one. Place: the
+       lowest such core, from 1. */
     TOWHEPAMU_OVERLOAD = 8,
 
     /* The given table has another length than cores x span; or a slot other than 0 names no task
@@ -84,6 +100,16 @@ enum towhepamu_refusal {
        number of the lowest such task, from 1. */
     TOWHEPAMU_JOB = 10
 };
+
+/* What reading answers. Where it refuses, tasks, levels, cores and span are 0. */
+typedef struct {
+    uint64_t refusal; /* an enum towhepamu_refusal; 0 where the text is a site file */
+    uint64_t place;   /* what the refusal says of it; 0 where the text is a site file */
+    uint64_t tasks;   /* how many; a plan has one byte for each */
+    uint64_t levels;  /* how many */
+    uint64_t cores;   /* how many */
+    uint64_t span;    /* in ticks; a table has cores x span bytes */
+} towhepamu_site;
 
 /* What planning answers. Where it refuses, energy, penalty and cost are 0. */
 typedef struct {
@@ -100,8 +126,15 @@ typedef struct {
     uint64_t place;   /* what the refusal says of it; 0 where plan and table pass */
 } towhepamu_checked;
 
+/* What listing answers. */
+typedef struct {
+    uint64_t refusal; /* an enum towhepamu_refusal; 0 where there is a listing */
+    uint64_t place;   /* what the refusal says of it; 0 where there is a listing */
+    uint64_t length;  /* of the listing, in bytes; 0 where it refuses */
+} towhepamu_listed;
+
 /*
- * For both calls. `text` is the site file, `text_len` bytes. `plan` has one byte a task: 0 where
+ * For all calls. `text` is the site file, `text_len` bytes. `plan` has one byte a task: 0 where
  * the task is refused, else (core - 1) x levels + level, cores and levels from 1. `table` has one
  * byte a slot, the span's slots of core 1 first, then those of core 2 and so on: the task that runs
  * in that tick, from 1, or 0 for an idle tick.
@@ -111,15 +144,21 @@ typedef struct {
  */
 
 /*
+ * Reads `text`: tells whether it is a site file, and how large its site is.
+ *
+ * Tested in this order: TEXT; then, number by number, WORDS, RANGE and SPAN.
+ */
+towhepamu_site towhepamu_read(const uint8_t *text, size_t text_len);
+
+/*
  * Plans the site of `text`: the plan of least cost, among equal costs the one whose first differing
  * choice is smaller, and its table, each core by earliest due tick and then lower task number.
  *
  * Tested in this order: TEXT; then, number by number, WORDS, RANGE and SPAN; BUFFER, the plan's
  * before the table's; NO_PLAN. A refused call stores nothing in `plan` and `table`. An accepted one
  * stores as many bytes of `plan` as there are tasks and cores x span bytes of `table`, each from
- * the front. Into all other bytes nothing is stored, not even what stands there. To learn one of
- * these two lengths, lend that buffer empty and the other one at its most: BUFFER's place tells it.
- * (With no task an empty plan is long enough.)
+ * the front. Into all other bytes nothing is stored, not even what stands there. Reading tells
+ * both lengths.
  */
 towhepamu_planned towhepamu_plan(const uint8_t *text, size_t text_len, uint8_t *plan,
                                  size_t plan_len, uint8_t *table, size_t table_len);
@@ -135,6 +174,19 @@ towhepamu_planned towhepamu_plan(const uint8_t *text, size_t text_len, uint8_t *
  */
 towhepamu_checked towhepamu_check(const uint8_t *text, size_t text_len, const uint8_t *plan,
                                   size_t plan_len, const uint8_t *table, size_t table_len);
+
+/*
+ * Lists the plan of the site of `text`, as lines of text that each end with a line feed, in this
+ * order: `span` and the span; `cost`, energy, penalty and cost; for each task `task`, its number,
+ * then `core`, `level` and `ticks`, each before its number, or `refused`; for each core `core`, its
+ * number and its slots. One space parts the fields. No zero byte ends the listing.
+ *
+ * Tested in this order: TEXT; then, number by number, WORDS, RANGE and SPAN; BUFFER, whose place is
+ * TOWHEPAMU_MOST_LISTING_BYTES however short the site's own listing is; NO_PLAN. A refused call
+ * stores nothing in `out`. An accepted one stores the listing's bytes, `length` of them, from the
+ * front. Into all other bytes nothing is stored, not even what stands there.
+ */
+towhepamu_listed towhepamu_list(const uint8_t *text, size_t text_len, uint8_t *out, size_t out_len);
 
 #ifdef __cplusplus
 }

@@ -146,6 +146,8 @@ size_t draw_site(generator *g, site_limits limits, uint32_t *words) {
 /* ---- Damage to words ---- */
 
 static void insert_word(uint32_t *words, size_t *count, size_t at, uint32_t word) {
+    if (*count == MOST_DRAWN_WORDS)
+        return;
     memmove(words + at + 1, words + at, (*count - at) * sizeof *words);
     words[at] = word;
     ++*count;

@@ -297,7 +297,8 @@ towhepamu_checked reference_check_table(const reference_instance *in, const uint
 
 /* ---- The calls over text ---- */
 
-static towhepamu_checked read_text(const uint8_t *text, size_t text_len, reference_instance *in) {
+towhepamu_checked reference_read_text(const uint8_t *text, size_t text_len,
+                                      reference_instance *in) {
     uint32_t words[MOST_WORDS];
     size_t count = 0;
     towhepamu_checked test = reference_words(text, text_len, words, MOST_WORDS, &count);
@@ -309,7 +310,7 @@ static towhepamu_planned plan_by(bool (*best)(const reference_instance *, uint8_
                                  size_t plan_len, uint8_t *table, size_t table_len) {
     reference_instance in;
     uint8_t choices[MOST_TASKS];
-    towhepamu_checked test = read_text(text, text_len, &in);
+    towhepamu_checked test = reference_read_text(text, text_len, &in);
     if (test.refusal != TOWHEPAMU_ACCEPTED)
         return unplanned(test);
     if (plan_len < in.tasks)
@@ -337,7 +338,7 @@ towhepamu_planned reference_plan_exhaustive(const uint8_t *text, size_t text_len
 towhepamu_checked reference_check(const uint8_t *text, size_t text_len, const uint8_t *plan,
                                   size_t plan_len, const uint8_t *table, size_t table_len) {
     reference_instance in;
-    towhepamu_checked test = read_text(text, text_len, &in);
+    towhepamu_checked test = reference_read_text(text, text_len, &in);
     return test.refusal != TOWHEPAMU_ACCEPTED
                ? test
                : reference_check_table(&in, plan, plan_len, table, table_len);

@@ -9,10 +9,10 @@
 #include <stdbool.h>
 
 enum {
-    MOST_CORES = 4,
-    MOST_LEVELS = 8,
+    MOST_CORES = TOWHEPAMU_MOST_CORES,
+    MOST_LEVELS = TOWHEPAMU_MOST_LEVELS,
     MOST_TASKS = TOWHEPAMU_MOST_TASKS,
-    MOST_SPAN = 4096,
+    MOST_SPAN = TOWHEPAMU_MOST_SPAN,
     MOST_WORDS = TOWHEPAMU_MOST_TEXT_BYTES / 2, /* of a text: a digit in every second byte */
     MOST_INSTANCE_WORDS = 4 + (1 + 2 * MOST_LEVELS) + (1 + 3 * MOST_TASKS)
 };
@@ -41,6 +41,10 @@ towhepamu_checked reference_words(const uint8_t *text, size_t text_len, uint32_t
 /* Words to instance: refusals 2, 3, 4. `instance` is whole only where accepted. */
 towhepamu_checked reference_read(const uint32_t *words, size_t count, reference_instance *instance);
 
+/* Text to instance: refusals 1, 2, 3, 4. `instance` is whole only where accepted. */
+towhepamu_checked reference_read_text(const uint8_t *text, size_t text_len,
+                                      reference_instance *instance);
+
 /* Jobs of a task in a span; ticks of a job at a level; both from 0. */
 uint64_t reference_jobs(const reference_instance *instance, size_t task);
 uint64_t reference_ticks(const reference_instance *instance, size_t task, size_t level);
@@ -68,5 +72,9 @@ towhepamu_planned reference_plan_exhaustive(const uint8_t *text, size_t text_len
                                             size_t plan_len, uint8_t *table, size_t table_len);
 towhepamu_checked reference_check(const uint8_t *text, size_t text_len, const uint8_t *plan,
                                   size_t plan_len, const uint8_t *table, size_t table_len);
+
+/* towhepamu_read and towhepamu_list (listings.c). */
+towhepamu_site reference_site(const uint8_t *text, size_t text_len);
+towhepamu_listed reference_list(const uint8_t *text, size_t text_len, uint8_t *out, size_t out_len);
 
 #endif

@@ -3,26 +3,21 @@
  * the same bytes in the lent buffers, and not a byte touched around them.
  */
 #define _DEFAULT_SOURCE
+#include "drawings.h"
 #include "generate.h"
 #include "known.h"
 #include "lent.h"
 #include <inttypes.h>
 
-enum {
-    SITES = 14000,
-    LARGE_SITES = 24,
-    MOST_REPORTED = 10,
-    REFUSALS = 11,
-    SLACK = 40,
-    MOST_GIVEN = TOWHEPAMU_MOST_TABLE_BYTES + SLACK
-};
+enum { SITES = 14000, LARGE_SITES = 24, MOST_REPORTED = 10, REFUSALS = 11 };
 
 /* The text that is lent, the instance where it reads, and the buffers beside it. */
-static lent text, plan, table;
+static lent text, plan, table, out;
 static bool reads;
 static reference_instance in;
 
-static size_t compared, differ, planned[REFUSALS], checked[REFUSALS];
+static size_t compared, differ;
+static size_t was_read[REFUSALS], planned[REFUSALS], checked[REFUSALS], listed[REFUSALS];
 
 /* ---- One comparison ---- */
 
@@ -80,10 +75,34 @@ static bool compare_plan(generator *g, size_t plan_len, size_t table_len) {
     return accepted;
 }
 
-typedef struct {
-    uint8_t plan[MOST_GIVEN], table[MOST_GIVEN];
-    size_t plan_len, table_len;
-} drawing;
+/* Reads the lent text. */
+static void compare_reading(void) {
+    towhepamu_site expected = reference_site(text.bytes, text.len);
+    towhepamu_site answer = towhepamu_read(text.bytes, text.len);
+    compared++;
+    was_read[expected.refusal]++;
+    if (memcmp(&answer, &expected, sizeof answer) != 0 && report("reading answers otherwise"))
+        printf("  archive: refusal %" PRIu64 " place %" PRIu64 " tasks %" PRIu64 " levels %" PRIu64
+               " cores %" PRIu64 " span %" PRIu64 "\n",
+               answer.refusal, answer.place, answer.tasks, answer.levels, answer.cores,
+               answer.span);
+}
+
+/* Lists the lent text. Beyond the listing, every byte must be as it was lent. */
+static void compare_listing(generator *g, size_t out_len) {
+    static uint8_t bytes[TOWHEPAMU_MOST_LISTING_BYTES + SLACK];
+    lend(&out, out_len, draw_tail(g));
+    towhepamu_listed expected = reference_list(text.bytes, text.len, bytes, out_len);
+    towhepamu_listed answer = towhepamu_list(text.bytes, text.len, out.bytes, out_len);
+    compared++;
+    listed[expected.refusal]++;
+    if (memcmp(&answer, &expected, sizeof answer) != 0) {
+        if (report("listing answers otherwise"))
+            printf("  archive: refusal %" PRIu64 " place %" PRIu64 " length %" PRIu64 "\n",
+                   answer.refusal, answer.place, answer.length);
+    } else if (!still_has(&out, bytes, expected.length))
+        report("listing leaves another buffer");
+}
 
 /* Checks a drawing for the lent text. */
 static void compare_check(generator *g, const drawing *given) {
@@ -104,68 +123,10 @@ static void compare_check(generator *g, const drawing *given) {
         report("checking writes");
 }
 
-/* ---- Drawings, sound and damaged ---- */
-
-static uint8_t draw_choice(generator *g) {
-    return (uint8_t)draw(g, in.cores * in.levels + (one_in(g, 4) ? 2 : 1));
-}
-
-static uint8_t draw_slot(generator *g) {
-    return (uint8_t)(one_in(g, 8) ? draw(g, 256) : draw(g, in.tasks + 1));
-}
-
-/* Any plan, with its table if its cores fit, else with any table. */
-static void draw_drawing(generator *g, drawing *given) {
-    given->plan_len = in.tasks;
-    given->table_len = in.cores * in.span;
-    for (size_t i = 0; i < given->plan_len; i++)
-        given->plan[i] = draw_choice(g);
-    for (size_t s = 0; s < given->table_len; s++)
-        given->table[s] = one_in(g, 2) ? 0 : draw_slot(g);
-    reference_tabulate(&in, given->plan, given->plan_len, given->table, given->table_len);
-}
-
-static void swap_slots(drawing *given, size_t a, size_t b) {
-    uint8_t slot = given->table[a];
-    given->table[a] = given->table[b];
-    given->table[b] = slot;
-}
-
-static void damage_drawing(generator *g, drawing *given) {
-    size_t slots = in.cores * in.span, at = draw(g, slots);
-    switch (draw(g, 8)) {
-    case 0:
-        given->plan_len = draw(g, in.tasks + 3);
-        break;
-    case 1:
-        given->table_len = one_in(g, 2) ? draw(g, slots) : slots + draw(g, SLACK);
-        break;
-    case 2: /* often a table that passes and does not run the earliest due first */
-        swap_slots(given, at, (at + 1) % slots);
-        break;
-    case 3:
-        swap_slots(given, at, draw(g, slots));
-        break;
-    case 4:
-        memset(given->table + at, 0, slots - at);
-        break;
-    case 5:
-    case 6:
-        at = draw(g, in.tasks + 1);
-        given->plan[at] = draw_choice(g); /* sometimes of no task */
-        break;
-    default:
-        given->table[at] = draw_slot(g);
-    }
-}
-
 /* ---- One text ---- */
 
 static void read_text(void) {
-    uint32_t words[MOST_WORDS];
-    size_t count = 0;
-    reads = reference_words(text.bytes, text.len, words, MOST_WORDS, &count).refusal == 0 &&
-            reference_read(words, count, &in).refusal == 0;
+    reads = reference_read_text(text.bytes, text.len, &in).refusal == TOWHEPAMU_ACCEPTED;
     if (!reads) /* so that there are buffers to lend beside a text that is refused */
         in = (reference_instance){
             1, 1, 2, 2, 3, 60, {{1, 1}, {2, 2}}, {{60, 1, 1}, {1, 1, 1}, {2, 1, 1}}};
@@ -173,7 +134,7 @@ static void read_text(void) {
 
 static void compare_checks(generator *g, bool accepted) {
     static drawing given, damaged;
-    draw_drawing(g, &given);
+    draw_drawing(g, &in, &given);
     compare_check(g, &given);
     if (accepted) {
         reference_plan(text.bytes, text.len, given.plan, in.tasks, given.table, given.table_len);
@@ -182,7 +143,7 @@ static void compare_checks(generator *g, bool accepted) {
     for (size_t n = reads ? 5 : 1; n > 0; n--) {
         damaged = given;
         for (size_t times = draw_between(g, 1, 2); times > 0; times--)
-            damage_drawing(g, &damaged);
+            damage_drawing(g, &in, &damaged);
         compare_check(g, &damaged);
     }
 }
@@ -197,6 +158,11 @@ static void compare_text(generator *g, const uint8_t *bytes, size_t len) {
     compare_plan(g, tasks, draw(g, slots));
     compare_plan(g, 0, 0);
     compare_checks(g, accepted);
+    compare_reading();
+    if (one_in(g, 3)) /* not always, since such a buffer takes long to compare */
+        compare_listing(g, TOWHEPAMU_MOST_LISTING_BYTES + slack);
+    else
+        compare_listing(g, one_in(g, 8) ? TOWHEPAMU_MOST_LISTING_BYTES - 1 : draw(g, 2000));
     if (!still_has(&text, bytes, len))
         report("the text is written to");
 }
@@ -232,6 +198,7 @@ int main(void) {
     text = make_room();
     plan = make_room();
     table = make_room();
+    out = make_room();
     for (size_t k = 0; k < KNOWN_CASES; k++)
         compare_text(&g, (const uint8_t *)known_cases[k].text, strlen(known_cases[k].text));
     for (size_t n = 0; n < SITES; n++)
@@ -241,8 +208,10 @@ int main(void) {
     for (size_t n = 0; n < LARGE_SITES; n++)
         compare_site(&g, (site_limits){4, 8, 12, 12, 4096});
 
+    bool all_read = print_seen("reading", was_read, (size_t[]){1, 2, 3, 4, 0});
     bool all_planned = print_seen("planning", planned, (size_t[]){1, 2, 3, 4, 5, 6, 0});
     bool all_checked = print_seen("checking", checked, (size_t[]){1, 2, 3, 4, 7, 9, 10, 0});
+    bool all_listed = print_seen("listing", listed, (size_t[]){1, 2, 3, 4, 5, 6, 0});
     printf("desk: %zu compared, %zu differ\n", compared, differ);
-    return differ > 0 || !all_planned || !all_checked;
+    return differ > 0 || !all_read || !all_planned || !all_checked || !all_listed;
 }

@@ -1,6 +1,7 @@
 /*
- * The reference by itself: K1 to K13, the ends of every range, its two planners against each other,
- * and its check against planned tables and every kind of single damage to them.
+ * The reference by itself: K1 to K13 and two of their listings, the ends of every range, its two
+ * planners against each other, and its check against planned tables and every kind of single damage
+ * to them.
  */
 #include "generate.h"
 #include "known.h"
@@ -56,6 +57,37 @@ static void test_known(const known_case *known, planner *plan_by) {
         expect(table[s] == known_slot(known, s), "a slot", known->name);
     expect(is(reference_check(text, len, plan, known->tasks, table, known->slots), 0, 0),
            "the check", known->name);
+}
+
+/* ---- Listings ---- */
+
+static void test_listing(const known_case *known, towhepamu_listed answer, const char *listing) {
+    static uint8_t out[TOWHEPAMU_MOST_LISTING_BYTES];
+    const uint8_t *text = (const uint8_t *)known->text;
+    size_t len = strlen(known->text);
+    towhepamu_site site = reference_site(text, len);
+    expect(site.refusal == 0 && site.tasks == known->tasks && site.levels == 5 && site.cores == 1 &&
+               site.cores * site.span == known->slots,
+           "the site", known->name);
+    towhepamu_listed listed = reference_list(text, len, out, sizeof out);
+    expect(memcmp(&listed, &answer, sizeof listed) == 0, "the listing's answer", known->name);
+    expect(memcmp(out, listing, listed.length) == 0, "the listing", known->name);
+    listed = reference_list(text, len, out, sizeof out - 1);
+    expect(listed.refusal == 6 && listed.place == sizeof out && listed.length == 0,
+           "a buffer's refusal", known->name);
+}
+
+/* K1 has a refused task, K2 is the listing that document 01 prints, K8 has no plan. */
+static void test_listings(void) {
+    static const char k1[] = "span 20\ncost 2040 3000 5040\n"
+                             "task 1 core 1 level 2 ticks 6\ntask 2 refused\n"
+                             "core 1 1 1 1 1 1 1 0 0 0 0 1 1 1 1 1 1 0 0 0 0\n";
+    static const char k2[] = "span 20\ncost 7200 0 7200\n"
+                             "task 1 core 1 level 3 ticks 4\ntask 2 core 1 level 3 ticks 10\n"
+                             "core 1 1 1 1 1 2 2 2 2 2 2 1 1 1 1 2 2 2 2 0 0\n";
+    test_listing(&known_cases[0], (towhepamu_listed){0, 0, sizeof k1 - 1}, k1);
+    test_listing(&known_cases[1], (towhepamu_listed){0, 0, sizeof k2 - 1}, k2);
+    test_listing(&known_cases[7], (towhepamu_listed){5, 0, 0}, "");
 }
 
 /* ---- Reading ---- */
@@ -259,6 +291,7 @@ int main(void) {
         test_known(&known_cases[k], reference_plan);
         test_known(&known_cases[k], reference_plan_exhaustive);
     }
+    test_listings();
     test_ranges();
     test_lists();
     test_text();

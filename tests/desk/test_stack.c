@@ -14,9 +14,16 @@
 enum { ROOM = 16 << 20, FILL = 0xA5, SITES = 12 };
 
 static uint8_t text[TOWHEPAMU_MOST_TEXT_BYTES], plan[TOWHEPAMU_MOST_TASKS];
-static uint8_t table[TOWHEPAMU_MOST_TABLE_BYTES];
+static uint8_t table[TOWHEPAMU_MOST_TABLE_BYTES], out[TOWHEPAMU_MOST_LISTING_BYTES];
 static size_t text_len, tasks, slots;
 static uint8_t *from; /* where the stack stood before the call */
+
+static void *read_text(void *unused) {
+    (void)unused;
+    from = __builtin_frame_address(0);
+    towhepamu_read(text, text_len);
+    return NULL;
+}
 
 static void *plan_text(void *unused) {
     (void)unused;
@@ -29,6 +36,13 @@ static void *check_text(void *unused) {
     (void)unused;
     from = __builtin_frame_address(0);
     towhepamu_check(text, text_len, plan, tasks, table, slots);
+    return NULL;
+}
+
+static void *list_text(void *unused) {
+    (void)unused;
+    from = __builtin_frame_address(0);
+    towhepamu_list(text, text_len, out, sizeof out);
     return NULL;
 }
 
@@ -62,20 +76,32 @@ static void keep_larger(size_t *kept, size_t other) {
 }
 
 int main(void) {
+    static const struct {
+        const char *name;
+        void *(*call)(void *);
+    } calls[] = {{"reading", read_text},
+                 {"planning", plan_text},
+                 {"checking", check_text},
+                 {"listing", list_text}};
+    enum { CALLS = sizeof calls / sizeof calls[0] };
     generator g = {20010911};
     uint32_t words[MOST_DRAWN_WORDS];
     reference_instance in;
-    size_t planning = 0, checking = 0;
+    size_t taken[CALLS] = {0}, most = 0;
     for (size_t n = 0; n < SITES; n++) {
         size_t count = draw_site(&g, (site_limits){4, 8, 12, 12, 4096}, words);
         reference_read(words, count, &in);
         text_len = write_text(&g, words, count, false, text);
         tasks = in.tasks;
         slots = in.cores * in.span;
-        keep_larger(&planning, stack_of(plan_text));
-        keep_larger(&checking, stack_of(check_text));
+        for (size_t c = 0; c < CALLS; c++)
+            keep_larger(&taken[c], stack_of(calls[c].call));
     }
-    printf("stack: planning takes %zu bytes, checking %zu; the header promises %d\n", planning,
-           checking, TOWHEPAMU_STACK_BYTES);
-    return planning > TOWHEPAMU_STACK_BYTES || checking > TOWHEPAMU_STACK_BYTES;
+    printf("stack:");
+    for (size_t c = 0; c < CALLS; c++) {
+        printf(" %s takes %zu bytes,", calls[c].name, taken[c]);
+        keep_larger(&most, taken[c]);
+    }
+    printf(" the header promises %d\n", TOWHEPAMU_STACK_BYTES);
+    return most > TOWHEPAMU_STACK_BYTES;
 }

@@ -1,8 +1,9 @@
 /*
  * Which bytes of the lent buffers a call stores into. A byte that is stored as it was shows in no
  * comparison, so here the bytes that a call must leave alone lie on pages that cannot be written:
- * all of them where it refuses or checks; where it plans, those behind the plan's choices and
- * behind the table's slots. A store there ends the test.
+ * all of them where it refuses, reads or checks; where it plans, those behind the plan's choices
+ * and behind the table's slots; where it lists, those behind the listing. A store there ends the
+ * test.
  */
 #define _DEFAULT_SOURCE
 #include "generate.h"
@@ -18,10 +19,11 @@
 enum { SITES = 3000, SLACK = 40, HALF = 1 << 17, PLANNING_REFUSALS = 6 };
 
 /* Of each buffer, where the bytes that can be written end and those that can only be read begin. */
-static uint8_t *text_edge, *plan_edge, *table_edge;
+static uint8_t *text_edge, *plan_edge, *table_edge, *out_edge;
 
 static size_t text_len, tasks, slots; /* of the site at hand; any where its text is refused */
-static size_t differ, planned[PLANNING_REFUSALS + 1], checked;
+static size_t differ, planned[PLANNING_REFUSALS + 1], listed[PLANNING_REFUSALS + 1], checked,
+    was_read;
 static char call[200];
 
 static void fail(int unused) {
@@ -78,15 +80,34 @@ static void check_site(void) {
     expect(memcmp(&answer, &expected, sizeof answer) == 0);
 }
 
+static void read_site(void) {
+    const uint8_t *text = text_edge - text_len;
+    towhepamu_site expected = reference_site(text, text_len);
+    name_call("reading", 0, 0);
+    towhepamu_site answer = towhepamu_read(text, text_len);
+    was_read++;
+    expect(memcmp(&answer, &expected, sizeof answer) == 0);
+}
+
+static void list_site(size_t out_len) {
+    static uint8_t bytes[HALF];
+    const uint8_t *text = text_edge - text_len;
+    towhepamu_listed expected = reference_list(text, text_len, bytes, out_len);
+    uint8_t *out = out_edge - expected.length;
+    snprintf(call, sizeof call, "stores: listing, buffer of %zu bytes, text \"%.99s\"", out_len,
+             (const char *)text);
+    towhepamu_listed answer = towhepamu_list(text, text_len, out, out_len);
+    listed[expected.refusal]++;
+    expect(memcmp(&answer, &expected, sizeof answer) == 0 &&
+           memcmp(out, bytes, expected.length) == 0);
+}
+
 /* ---- One text ---- */
 
 static void read_text(void) {
-    uint32_t words[MOST_WORDS];
     reference_instance in;
-    size_t count = 0;
     bool reads =
-        reference_words(text_edge - text_len, text_len, words, MOST_WORDS, &count).refusal == 0 &&
-        reference_read(words, count, &in).refusal == 0;
+        reference_read_text(text_edge - text_len, text_len, &in).refusal == TOWHEPAMU_ACCEPTED;
     tasks = reads ? in.tasks : 3;
     slots = reads ? in.cores * in.span : 60;
 }
@@ -100,6 +121,9 @@ static void try_text(const uint8_t *bytes, size_t len) {
     plan_site(tasks > 0 ? tasks - 1 : 0, slots);
     plan_site(tasks, slots - 1);
     check_site();
+    read_site();
+    list_site(TOWHEPAMU_MOST_LISTING_BYTES);
+    list_site(TOWHEPAMU_MOST_LISTING_BYTES - 1);
 }
 
 /* ---- All texts ---- */
@@ -117,23 +141,30 @@ static void try_site(generator *g) {
     try_text(bytes, len);
 }
 
+static bool print_seen(const char *what, const size_t *seen) {
+    bool all = true;
+    printf("; %s", what);
+    for (size_t r = 0; r <= PLANNING_REFUSALS; r++) {
+        printf("%s %zu: %zu", r == 0 ? ", refusal" : ",", r, seen[r]);
+        all = all && seen[r] > 0;
+    }
+    return all;
+}
+
 int main(void) {
     generator g = {20030526};
     text_edge = make_edge();
     plan_edge = make_edge();
     table_edge = make_edge();
+    out_edge = make_edge();
     signal(SIGSEGV, fail);
     for (size_t k = 0; k < KNOWN_CASES; k++)
         try_text((const uint8_t *)known_cases[k].text, strlen(known_cases[k].text));
     for (size_t n = 0; n < SITES; n++)
         try_site(&g);
 
-    bool all = true;
-    printf("stores: %zu checked; planned", checked);
-    for (size_t r = 0; r <= PLANNING_REFUSALS; r++) {
-        printf("%s %zu: %zu", r == 0 ? ", refusal" : ",", r, planned[r]);
-        all = all && planned[r] > 0;
-    }
+    printf("stores: %zu checked, %zu read", checked, was_read);
+    bool all_planned = print_seen("planned", planned), all_listed = print_seen("listed", listed);
     printf("; %zu differ\n", differ);
-    return differ > 0 || !all;
+    return differ > 0 || !all_planned || !all_listed;
 }

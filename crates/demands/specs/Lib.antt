@@ -2,5 +2,6 @@ pub mod ArithmeticLaws
 pub mod Demands
 pub mod TextCalls
 pub mod TextCallLaws
+pub mod TextEndingLaws
 pub mod TextDemands
 pub mod Cases

@@ -34,7 +34,7 @@ use Rattle.planner.specs.Endings.{planFound}
 use Rattle.planner.specs.Outcomes.{planOutcome}
 use Rattle.planner.specs.Planned.{Optimal}
 use Rattle.planner.specs.Planning.{bestPlan}
-use Rattle.desk.specs.DeskOutcomes.{plannedOf, checkedOf, textPlanOutcome, textPlanOutcomeOf, textCheckOutcome, textCheckOutcomeOf}
+use Rattle.towhepamu.specs.CallOutcomes.{plannedOf, checkedOf, textPlanOutcome, textPlanOutcomeOf, textCheckOutcome, textCheckOutcomeOf}
 use Rattle.listings.specs.Listing.{listingOfPlan, listingOfProblem, listingOfWords, listingOf}
 use Rattle.demands.specs.TextCalls.{WritesProblem, TextPlanningEnds, TextCheckingEnds, answerPlanned, answerChecked, OptimalNumbers, Prints}
 

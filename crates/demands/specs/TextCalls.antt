@@ -1,16 +1,17 @@
--- What is promised of the calls that are given text: planning and the check from C, and the listing. "In any other call that
+-- What is promised of the calls that are given text: reading, planning, the check and the listing from C, and what is printed. "In any other call that
 -- is given text, 1 comes before all the rest."
 use Prim.Native.Nat.{ℕ}
 use mathlib.Core.List.{List, [], _∷_}
 use mathlib.Core.Logic.{_↔_}
 use mathlib.Core.Path.{_≡_}
+use lib.ListN.{length}
 use Rattle.refusals.specs.Endings.{lent, Ends, readThen, neededFor}
 use Rattle.instance.specs.Node.{Problem, taskCount}
-use Rattle.refusals.specs.Refusals.{Answer, answer, accepted, room, _andThen_}
+use Rattle.refusals.specs.Refusals.{Answer, answer, Reading, accepted, room, _andThen_}
 use Rattle.instance.specs.SiteFile.{problemOf}
 use Rattle.refusals.specs.declared.Refusal.{Refusal}
 use Rattle.refusals.specs.declared.Verdict.{Verdict}
-use Rattle.refusals.specs.declared.Verdict.the-variants.{Refused}
+use Rattle.refusals.specs.declared.Verdict.the-variants.{Accepted, Refused}
 use Rattle.text.specs.Text.{wordsOf}
 use Rattle.checks.specs.Checks.{slotsPass, jobsPass}
 use Rattle.prices.specs.Outcomes.{priceVerdict}
@@ -22,10 +23,15 @@ use Rattle.prices.specs.declared.amounts.Priced.the-variants as Priced
 use Rattle.planner.specs.Endings.{planFound}
 use Rattle.planner.specs.Planned.{NoDrawing, BestDrawing}
 use Rattle.planner.specs.Planning.{bestPlan}
-use Rattle.desk.specs.DeskOutcomes.{plannedOf}
-use Rattle.desk.specs.declared.answers.Checked.{Checked}
-use Rattle.desk.specs.declared.answers.Planned.{Planned}
+use Rattle.towhepamu.specs.CallOutcomes.{plannedOf}
+use Rattle.towhepamu.specs.declared.answers.Checked.{Checked}
+use Rattle.towhepamu.specs.declared.answers.Listed.{Listed}
+use Rattle.towhepamu.specs.declared.answers.Planned.{Planned}
+use Rattle.towhepamu.specs.declared.answers.Site.{Site}
 use Rattle.listing_lines.specs.ListingLines.{refusalLine, planLines}
+use Rattle.listings.specs.Listing.{mostListing, listingOf}
+use Rattle.listings.specs.Outcomes.{listVerdict}
+use Rattle.listings.specs.declared.site.PlanListed.{PlanListed}
 
 -- the text is one of the instance p
 pub record WritesProblem (text : List ℕ) (p : Problem) : Type 0 where
@@ -40,6 +46,14 @@ textThen text tests = readThen (wordsOf text) (λ words. readThen (problemOf wor
 -- what a result needs of a buffer, where the text is that of an instance
 abbrev pub neededForText : (Problem → ℕ) → List ℕ → ℕ
 neededForText size text = neededFor (λ words. neededFor size (problemOf words)) (wordsOf text)
+
+-- what reading a text comes to
+abbrev pub readVerdict : Reading Problem → Verdict
+readVerdict reading = readThen reading (λ p. Accepted)
+
+-- 1; 2, 3, 4
+abbrev pub TextReadingEnds : List ℕ → Verdict → Type 0
+TextReadingEnds text = Ends (textThen text (λ p. Accepted)) (1 ∷ 2 ∷ 3 ∷ 4 ∷ []) []
 
 -- 1; 2, 3, 4; then 6, the plan's before the table's; then 5
 abbrev pub TextPlanningEnds : List ℕ → List ℕ → List ℕ → Priced → List ℕ → List ℕ → Type 0
@@ -58,12 +72,27 @@ TextCheckingEnds text plan table =
     (1 ∷ 2 ∷ 3 ∷ 4 ∷ 7 ∷ 9 ∷ 10 ∷ [])
     []
 
+-- 1; 2, 3, 4; then 6, for which the longest listing of all counts; then 5
+abbrev pub TextListingEnds : List ℕ → List ℕ → PlanListed → List ℕ → Type 0
+TextListingEnds text out given after =
+    Ends
+    (textThen text (λ p. room mostListing out andThen planFound (bestPlan p)))
+    (1 ∷ 2 ∷ 3 ∷ 4 ∷ 6 ∷ 5 ∷ [])
+    (lent (length (listingOf text)) out after ∷ [])
+    (listVerdict given)
+
 -- number and place in what the C entries return
+abbrev pub answerSite : Site → Answer
+answerSite r = answer (r .refusal) (r .place)
+
 abbrev pub answerPlanned : Planned → Answer
 answerPlanned r = answer (r .refusal) (r .place)
 
 abbrev pub answerChecked : Checked → Answer
 answerChecked r = answer (r .refusal) (r .place)
+
+abbrev pub answerListed : Listed → Answer
+answerListed r = answer (r .refusal) (r .place)
 
 -- Demand 3 of the numbers that planning from C returns, and of the plan and the table that were written with them
 pub record OptimalNumbers (p : Problem) (returned : Planned) (plan table : List ℕ) : Type 0 where

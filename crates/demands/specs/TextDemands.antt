@@ -1,6 +1,6 @@
--- The demands of the calls that are given text: `towhepamu_plan` and `towhepamu_check`, which a program in C calls, and
--- `list_site`, whose bytes the listing program prints. Their contracts equate what they return and write with the outcomes
--- named here.
+-- The demands of the calls that are given text: `towhepamu_read`, `towhepamu_plan`, `towhepamu_check` and `towhepamu_list`,
+-- which a program in C calls, and `list_site`, whose bytes the listing program prints. Their contracts equate what they return
+-- and write with the outcomes named here.
 use Prim.Native.Nat.{ℕ, _≤_}
 use mathlib.Core.List.{List}
 use mathlib.Core.Logic.{_↔_}
@@ -12,14 +12,20 @@ use Rattle.drawings.specs.Drawings.{Drawing}
 use Rattle.prices.specs.Outcomes.{priceVerdict}
 use Rattle.tables.specs.Tables.{tableSize}
 use Rattle.demands.specs.Demands.{demand-3}
-use Rattle.desk.specs.DeskOutcomes.{plannedOf, checkedOf, textPlanOutcome, textCheckOutcome}
+use Rattle.towhepamu.specs.CallOutcomes.{siteOf, plannedOf, checkedOf, listedOf, textReadOutcome, textPlanOutcome, textCheckOutcome}
 use Rattle.listings.specs.Listing.{listingOf}
+use Rattle.listings.specs.Outcomes.{listOutcome, listVerdict}
 use Rattle.demands.specs.TextCallLaws.{text-planning-ends, text-checking-ends, planning-returns, checking-returns, optimal-numbers, listing-prints, planned-as-words, checked-as-words, passes-iff}
-use Rattle.demands.specs.TextCalls.{WritesProblem, TextPlanningEnds, TextCheckingEnds, answerPlanned, answerChecked, OptimalNumbers, Prints}
+use Rattle.demands.specs.TextCalls.{WritesProblem, readVerdict, TextReadingEnds, TextPlanningEnds, TextCheckingEnds, TextListingEnds, answerSite, answerPlanned, answerChecked, answerListed, OptimalNumbers, Prints}
+use Rattle.demands.specs.TextEndingLaws.{text-reading-ends, text-listing-ends, reading-returns, listing-returns}
 
 -- Demand 1. Whatever text, plan and table it is given, each of these calls does its work or returns the number and place of
 -- the first refusal that document 01 has for that input, 1 before all the rest; and then every lent buffer is as before.
 pub record TextRefusalsExact : Type 0 where
+  -- reading from C: 1; 2, 3, 4
+  pub reading : (text : List ℕ) → TextReadingEnds text (readVerdict (textReadOutcome text))
+  pub reading-numbers : (text : List ℕ) →
+      let reading = textReadOutcome text in answerSite (siteOf reading) ≡ answerOf (readVerdict reading)
   -- planning from C: 1; 2, 3, 4; 6; 5
   pub planning : (text plan table : List ℕ) →
       let o = textPlanOutcome text plan table in TextPlanningEnds text plan table (o .answer) (o .plan) (o .table)
@@ -30,17 +36,25 @@ pub record TextRefusalsExact : Type 0 where
   pub checking : (text plan table : List ℕ) → TextCheckingEnds text plan table (textCheckOutcome text plan table)
   pub checking-numbers : (text plan table : List ℕ) →
       let v = textCheckOutcome text plan table in answerChecked (checkedOf v) ≡ answerOf v
-  -- the listing of every text: 1; 2, 3, 4; 5; else the best plan
-  pub listing : (text : List ℕ) → Prints text (listingOf text)
+  -- the listing from C: 1; 2, 3, 4; 6; 5
+  pub listing : (text out : List ℕ) → let o = listOutcome text out in TextListingEnds text out (o .answer) (o .out)
+  pub listing-numbers : (text out : List ℕ) →
+      let o = listOutcome text out in answerListed (listedOf (o .answer)) ≡ answerOf (listVerdict (o .answer))
+  -- what is printed for every text: 1; 2, 3, 4; 5; else the best plan
+  pub printing : (text : List ℕ) → Prints text (listingOf text)
 
 pub demand-1-of-text : TextRefusalsExact
 demand-1-of-text =
     record {
+      reading = text-reading-ends;
+      reading-numbers = λ text. reading-returns (textReadOutcome text);
       planning = text-planning-ends;
       planning-numbers = λ text plan table. planning-returns (textPlanOutcome text plan table .answer);
       checking = text-checking-ends;
       checking-numbers = λ text plan table. checking-returns (textCheckOutcome text plan table);
-      listing = listing-prints;
+      listing = text-listing-ends;
+      listing-numbers = λ text out. listing-returns (listOutcome text out .answer);
+      printing = listing-prints;
     }
 
 -- Demand 3, with the check of demand 2, of what a program in C is given: for every text of an instance, and buffers that are

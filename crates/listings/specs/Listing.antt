@@ -23,6 +23,10 @@ abbrev pub listingOfWords : Reading (List ℕ) → List ℕ
 listingOfWords (refused r) = refusalLine r
 listingOfWords (accepted words) = listingOfProblem (problemOf words)
 
+-- room for every listing
+abbrev pub mostListing : ℕ
+mostListing = 51200
+
 -- "It reads text from standard input and prints."
 unfoldable pub listingOf : List ℕ → List ℕ
 listingOf text = listingOfWords (wordsOf text)

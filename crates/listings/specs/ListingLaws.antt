@@ -1,4 +1,4 @@
--- The listing of a text, from what reading it and planning it answer.
+-- What is at hand once planning with room for every plan and table has answered, and what listing that plan comes to.
 use Prim.Native.Nat.{ℕ, _*_, _≤_}
 use mathlib.Core.List.{List}
 use mathlib.Core.Option.{Option, none, some}
@@ -8,11 +8,10 @@ use lib.ListN.{length, take, length-take}
 use Rattle.instance.specs.Held.{problemIn, held-taskcount}
 use Rattle.ranges.specs.Limits.{mostCores, mostSpan, mostTasks}
 use Rattle.instance.specs.Node.{taskCount}
-use Rattle.refusals.specs.Refusals.{refused, accepted}
-use Rattle.instance.specs.SiteFile.{problemOf}
-use Rattle.text.specs.Text.{wordsOf}
+use Rattle.instance.specs.Valid.{Valid}
 use Rattle.instance.specs.declared.Instance.{Instance}
 use Rattle.refusals.specs.declared.Refusal.{Refusal}
+use Rattle.refusals.specs.declared.Refusal.the-variants.{NoPlan}
 use Rattle.refusals.specs.declared.Verdict.the-variants.{Accepted}
 use Rattle.tables.specs.HeldTables.{table-size-at-most}
 use Rattle.prices.specs.Prices.{priceOf}
@@ -23,36 +22,29 @@ use Rattle.prices.specs.declared.amounts.Price.{Price}
 use Rattle.prices.specs.declared.amounts.Priced.{Priced}
 use Rattle.prices.specs.declared.amounts.Priced.the-variants as Priced
 use Rattle.planner.specs.EndingLaws.{best-plan-length}
+use Rattle.planner.specs.Endings.{planFound}
 use Rattle.planner.specs.Outcomes.{planAnswered, planOutcome}
 use Rattle.planner.specs.PlannedLaws.{where-room}
 use Rattle.planner.specs.Planning.{bestPlan}
 use Rattle.refusals.specs.RoomLaws.{enough-room, front-of-onto}
-use Rattle.listing_lines.specs.ListingLines.{refusalLine, planLines}
-use Rattle.listings.specs.Listing.{listingOfPlan, listingOfProblem, listingOf}
-
-pub refused-text-listing : (text : List ℕ) {r : Refusal} → wordsOf text ≡ refused r → listingOf text ≡ refusalLine r
-unfolding listingOf
-refused-text-listing text e = rw e
-
-pub read-text-listing : (text : List ℕ) {words : List ℕ} → wordsOf text ≡ accepted words →
-    listingOf text ≡ listingOfProblem (problemOf words)
-unfolding listingOf
-read-text-listing text e = rw e
-
-pub refused-words-listing : (words : List ℕ) {r : Refusal} → problemOf words ≡ refused r →
-    listingOfProblem (problemOf words) ≡ refusalLine r
-refused-words-listing words e = ap listingOfProblem e
+use Rattle.listing_lines.specs.ListingLines.{planLines}
+use Rattle.listing_lines.specs.Placing.{Room, Put, put-from-start}
+use Rattle.listings.specs.Listing.{mostListing, listingOfPlan}
+use Rattle.listings.specs.ListingLength.{listing-of-plan-fits}
+use Rattle.listings.specs.Outcomes.{listGiven, listWhere, problemListOutcome}
+use Rattle.listings.specs.declared.site.PlanListed.the-variants as PlanListed
 
 -- the first n were all there
 pub front-within : (n : ℕ) (xs : List ℕ) → length (take n xs) ≡ n → n ≤ length xs
 front-within n xs whole = omega (arith, length-take n xs)
 
 -- what is at hand once planning has answered a price: the plan and its table at the fronts of the buffers
-pub record AtHand (inst : Instance) (listing : List ℕ) (price : Price) (plan table : List ℕ) : Type 0 where
+pub record AtHand (inst : Instance) (price : Price) (plan table : List ℕ) : Type 0 where
   pub its-price : price ≡ priceOf (problemIn inst) plan
   pub one-choice-per-task : length plan ≡ taskCount (problemIn inst)
   pub whole-table : length table ≡ tableSize (problemIn inst)
-  pub lines : listing ≡ planLines (problemIn inst) plan table
+  pub found : planFound (bestPlan (problemIn inst)) ≡ Accepted
+  pub lines : listingOfPlan (problemIn inst) (bestPlan (problemIn inst)) ≡ planLines (problemIn inst) plan table
 
 -- planning with room for every plan and every table
 module _ (words : List ℕ) (inst : Instance) (held : HoldsProblemOf words inst) (plan table : List ℕ)
@@ -68,29 +60,30 @@ module _ (words : List ℕ) (inst : Instance) (held : HoldsProblemOf words inst)
         enough-room (tableSize p) table (omega (arith, table-size-at-most p v)),
       ) refl)
 
-  listing-is : (best : Option (List ℕ)) → bestPlan (problemIn inst) ≡ best →
-      listingOfProblem (problemOf words) ≡ listingOfPlan (problemIn inst) best
-  listing-is best e = ap listingOfProblem (held .problem) ∙ ap (listingOfPlan (problemIn inst)) e
-
   outcome-is : (best : Option (List ℕ)) → bestPlan (problemIn inst) ≡ best →
       planOutcome words plan table ≡ planAnswered (problemIn inst) best plan table
   outcome-is best e = answered-outcome ∙ ap (λ (best : Option (List ℕ)). planAnswered (problemIn inst) best plan table) e
 
-  pub no-plan-listing : {r : Refusal} → answer ≡ Priced.Refused r → listingOfProblem (problemOf words) ≡ refusalLine r
-  no-plan-listing {r} said = go (bestPlan (problemIn inst)) refl
-    where
-      go : (best : Option (List ℕ)) → bestPlan (problemIn inst) ≡ best → listingOfProblem (problemOf words) ≡ refusalLine r
-      go none e = let outcome = outcome-is none e in let lines = listing-is none e in cc
-      go (some plan) e = let outcome = outcome-is (some plan) e in let z : _≡_ {A = ℕ} 0 1 = cc in absurd (omega arith)
-
-  pub planned-listing : (planAfter tableAfter : List ℕ) {price : Price} → planAfter ≡ planOutcome words plan table .plan →
-      tableAfter ≡ planOutcome words plan table .table → answer ≡ Priced.Cost price →
-      (size : ℕ) → size ≡ tableSize (problemIn inst) →
-      AtHand inst (listingOfProblem (problemOf words)) price (take (inst .taskcount) planAfter) (take size tableAfter)
-  planned-listing planAfter tableAfter {price} planned tabled said size whole = go (bestPlan (problemIn inst)) refl
+  pub no-plan-outcome : (out : List ℕ) {r : Refusal} → answer ≡ Priced.Refused r →
+      listGiven (PlanListed.Refused r) out ≡ problemListOutcome (problemIn inst) out
+  no-plan-outcome out {r} said = go (bestPlan (problemIn inst)) refl
     where
       go : (best : Option (List ℕ)) → bestPlan (problemIn inst) ≡ best →
-          AtHand inst (listingOfProblem (problemOf words)) price (take (inst .taskcount) planAfter) (take size tableAfter)
+          listGiven (PlanListed.Refused r) out ≡ listWhere (planFound best) (listingOfPlan (problemIn inst) best) out
+      go none e =
+          let outcome = outcome-is none e in
+          let same : r ≡ NoPlan = cc in
+          ap (λ (r : Refusal). listGiven (PlanListed.Refused r) out) same
+      go (some plan) e = let outcome = outcome-is (some plan) e in let z : _≡_ {A = ℕ} 0 1 = cc in absurd (omega arith)
+
+  pub planned-at-hand : (planAfter tableAfter : List ℕ) {price : Price} → planAfter ≡ planOutcome words plan table .plan →
+      tableAfter ≡ planOutcome words plan table .table → answer ≡ Priced.Cost price →
+      (size : ℕ) → size ≡ tableSize (problemIn inst) →
+      AtHand inst price (take (inst .taskcount) planAfter) (take size tableAfter)
+  planned-at-hand planAfter tableAfter {price} planned tabled said size whole = go (bestPlan (problemIn inst)) refl
+    where
+      go : (best : Option (List ℕ)) → bestPlan (problemIn inst) ≡ best →
+          AtHand inst price (take (inst .taskcount) planAfter) (take size tableAfter)
       go none e = let outcome = outcome-is none e in let z : _≡_ {A = ℕ} 0 1 = cc in absurd (omega arith)
       go (some best) e =
           let p = problemIn inst in
@@ -105,5 +98,15 @@ module _ (words : List ℕ) (inst : Instance) (held : HoldsProblemOf words inst)
             its-price = price-is;
             one-choice-per-task = best-plan-length p e;
             whole-table = length-tableOf p best;
-            lines = listing-is (some best) e;
+            found = ap planFound e;
+            lines = ap (listingOfPlan p) e;
           })
+
+module _ {inst : Instance} {price : Price} {plan table : List ℕ} (hand : AtHand inst price plan table) (out : List ℕ) where
+  pub room-for-lines : Valid (problemIn inst) → mostListing ≤ length out → Room out 0 (planLines (problemIn inst) plan table)
+  room-for-lines v enough =
+      let few = rw (hand .lines) at (listing-of-plan-fits (problemIn inst) v) in record { fits = omega (arith, few) }
+
+  pub lines-outcome : {after : List ℕ} {n : ℕ} → Put out 0 (planLines (problemIn inst) plan table) after n →
+      listGiven (PlanListed.Bytes n) after ≡ problemListOutcome (problemIn inst) out
+  lines-outcome put = let listed = put-from-start put in rw (hand .found, hand .lines, listed .0, listed .1) refl

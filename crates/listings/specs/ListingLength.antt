@@ -38,11 +38,8 @@ use Rattle.planner.specs.BestPlanLaws.{best-plan-passes}
 use Rattle.planner.specs.OptionsBounds.{passing-cost-below}
 use Rattle.planner.specs.Planning.{bestPlan}
 use Rattle.listing_lines.specs.ListingLines.{refusalLine, costLine, keptLine, refusedLine, taskLine, coreLine, planLines}
-use Rattle.listings.specs.Listing.{listingOfPlan, listingOfProblem, listingOfWords, listingOf}
+use Rattle.listings.specs.Listing.{mostListing, listingOfPlan, listingOfProblem, listingOfWords, listingOf}
 use Rattle.listings.specs.LineLengths.{Printable, refusal-line-at-most, span-line-at-most, cost-line-at-most, kept-line-at-most, refused-line-at-most, parts-at-most, core-line-at-most}
-
-abbrev pub mostListing : ℕ
-mostListing = 51200
 
 number-at-most : (r : Refusal) → numberOf r ≤ 10
 number-at-most (Text place) = omega arith

@@ -2,4 +2,6 @@
 mod site;
 
 pub use site::MOST_LISTING;
+pub use site::PlanListed;
+pub use site::list_plan;
 pub use site::list_site;

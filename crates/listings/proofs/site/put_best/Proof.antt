@@ -3,26 +3,18 @@ use native.Mathlib.Omega.{arith}
 use lib.ListN.{take}
 use borrow.Author.Needs.{needs}
 use Rattle.instance.specs.Held.{held-taskcount}
-use Rattle.instance.specs.SiteFile.{problemOf}
-use Rattle.listing_lines.specs.ListingLines.{refusalLine}
-use Rattle.listings.specs.Listing.{listingOfProblem}
-use Rattle.listings.specs.ListingLaws.{AtHand, front-within, no-plan-listing, planned-listing}
+use Rattle.listings.specs.ListingLaws.{AtHand, front-within, no-plan-outcome, planned-at-hand, room-for-lines, lines-outcome}
 use Rattle.listings.proofs.site.put_best.Statement.{statement}
 use Rattle.listings.proofs.site.put_best.Tie as tie
-
-refused-listing : (c : tie.After-r) →
-    listingOfProblem (problemOf (c .before .before .before .before .before .before .before .before .before .args .words .now)) ≡ refusalLine (c .r .given .0 .0)
-refused-listing c =
-    no-plan-listing _ _ (c .before .before .before .before .before .before .before .before .before .pre .0) _ _ (omega arith) (omega arith) _ (c .before .before .before .before .plan .ensures .0) (c .r .given .1)
 
 at-hand : (c : tie.After-table-size) →
     let args = c .before .before .before .before .before .before .before .before .before .before .before .args in
     let after = c .before .before .before .before .before .before .plan .last .1 in
-    AtHand (args .inst) (listingOfProblem (problemOf (args .words .now))) (c .before .before .price .given .0 .0)
+    AtHand (args .inst) (c .before .before .price .given .0 .0)
     (take (args .inst .taskcount) (after .0)) (take (c .table-size .result) (after .1 .0))
 at-hand c =
     let planned = c .before .before .before .before .before .before .plan .ensures in
-    planned-listing _ _ (c .before .before .before .before .before .before .before .before .before .before .before .pre .0) _ _ (omega arith) (omega arith) _ (planned .0) _ _ (planned .1 .0) (planned .1 .1 .0) (c .before .before .price .given .1) _
+    planned-at-hand _ _ (c .before .before .before .before .before .before .before .before .before .before .before .pre .0) _ _ (omega arith) (omega arith) _ (planned .0) _ _ (planned .1 .0) (planned .1 .1 .0) (c .before .before .price .given .1) _
     (c .table-size .ensures)
 
 slice-aggregate-plan : tie.Need-slice-aggregate-plan
@@ -37,8 +29,9 @@ plan-requires c κs = search needs
 enum-known-r : tie.Need-enum-known-r
 enum-known-r c = search needs
 
-put-refusal-requires : tie.Need-put-refusal-requires
-put-refusal-requires c κs = rw (refused-listing (c .before .before)) at (c .before .before .before .before .before .before .before .before .before .before .before .pre .1)
+returns : tie.Need-returns
+returns c =
+    no-plan-outcome _ _ (c .before .before .before .before .before .before .before .before .before .before .pre .0) _ _ (omega arith) (omega arith) _ (c .before .before .before .before .before .plan .ensures .0) _ (c .before .r .given .1)
 
 enum-known-price : tie.Need-enum-known-price
 enum-known-price c = search needs
@@ -64,20 +57,14 @@ put-plan-requires c κs =
     let start = c .before .before .before .before .before .before .before .before .before .before .before .before .before .before in
     let hand = at-hand (c .before .before .before) in (
       start .pre .0 .sound,
-      (hand .its-price, (hand .one-choice-per-task, (hand .whole-table, rw (hand .lines) at (start .pre .1)))),
+      (hand .its-price, (hand .one-choice-per-task, (hand .whole-table, room-for-lines hand _ (start .pre .0 .sound .valid) (start .pre .1)))),
     )
 
 same-length : tie.Need-same-length
 same-length c = search needs
 
-returns : tie.Need-returns
-returns c = rw (refused-listing (c .before .before .before .before .before)) (c .before .before .put-refusal .ensures)
-
-same-length-2 : tie.Need-same-length-2
-same-length-2 c = search needs
-
 returns-2 : tie.Need-returns-2
-returns-2 c = rw (at-hand (c .before .before .before .before .before .before) .lines) (c .before .before .put-plan .ensures)
+returns-2 c = lines-outcome (at-hand (c .before .before .before .before .before .before)) _ (c .before .before .put-plan .ensures)
 
 pub put-best-spec : {M : Type 1} → statement M
 put-best-spec =
@@ -87,7 +74,7 @@ put-best-spec =
     slice-aggregate-plan-2
     plan-requires
     enum-known-r
-    put-refusal-requires
+    returns
     enum-known-price
     table-size-requires
     array-share-prefix-choices
@@ -96,6 +83,4 @@ put-best-spec =
     slice-aggregate-put-plan-2
     put-plan-requires
     same-length
-    returns
-    same-length-2
     returns-2)

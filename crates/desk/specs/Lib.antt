@@ -1,5 +1,0 @@
-pub mod DeskOutcomes
-pub mod Copies
-pub mod ByteLists
-pub mod FrontPlanLaws
-pub mod OwnPlanLaws

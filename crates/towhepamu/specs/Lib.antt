@@ -1,0 +1,5 @@
+pub mod CallOutcomes
+pub mod Copies
+pub mod ByteLists
+pub mod FrontPlanLaws
+pub mod OwnPlanLaws

@@ -1,0 +1,16 @@
+// Reading, planning, checking and listing for a program in C, over the bytes of a text: a choice is one byte there, and so is a slot.
+mod answers;
+mod checking;
+mod choices;
+mod listing;
+mod planning;
+mod reading;
+
+pub use answers::Checked;
+pub use answers::Listed;
+pub use answers::Planned;
+pub use answers::Site;
+pub use checking::towhepamu_check;
+pub use listing::towhepamu_list;
+pub use planning::towhepamu_plan;
+pub use reading::towhepamu_read;
