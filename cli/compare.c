@@ -163,8 +163,6 @@ int run_compare(const arguments *given) {
         puts("same");
         return WELL;
     }
-    printf("differs: %zu of %s, %zu of %s\n", tasks,
-           amount_of(larger(node.tasks, answer.site.tasks), "task").text, slots,
-           amount_of(answer.site.cores * answer.site.span, "slot").text);
+    printf("differs: %s, %s\n", amount_of(tasks, "task").text, amount_of(slots, "slot").text);
     return DIFFERS;
 }

@@ -96,7 +96,9 @@ static int run(const command *of, char **words) {
 }
 
 int main(int argc, char **argv) {
-    signal(SIGPIPE, SIG_IGN); /* a reader that is gone is a failed write, and told as such */
+    signal(SIGPIPE,
+           SIG_IGN); /* a reader that is gone and a file that may not grow are failed writes, */
+    signal(SIGXFSZ, SIG_IGN); /* and told as such */
     open_streams();
     if (argc < 2) {
         fputs(HELP, stderr);

@@ -20,7 +20,8 @@ enum {
     WIDEST = 40,          /* a tick */
     WANTED = 1100,        /* the span, as far as a tick's width allows */
     BETWEEN_NUMBERS = 44, /* on the axis, at least */
-    LEGEND_WIDTH = 720
+    BETWEEN_LABELS = 600, /* of one run, at most */
+    LEGEND_WIDTH = 800
 };
 
 /* Fill and text of each task. */
@@ -70,8 +71,8 @@ static void print_head(const answer *answer, size_t width, size_t height) {
            "viewBox=\"0 0 %zu %zu\" font-family=\"sans-serif\" font-size=\"12\">\n",
            width, height, width, height);
     puts("<defs><pattern id=\"idle\" width=\"6\" height=\"6\" patternUnits=\"userSpaceOnUse\" "
-         "patternTransform=\"rotate(45)\"><rect width=\"6\" height=\"6\" fill=\"#f4f4f4\"/>"
-         "<rect width=\"1.5\" height=\"6\" fill=\"#cfcfcf\"/></pattern></defs>");
+         "patternTransform=\"rotate(45)\"><rect width=\"6\" height=\"6\" fill=\"#ececec\"/>"
+         "<rect width=\"1.5\" height=\"6\" fill=\"#b4b4b4\"/></pattern></defs>");
     printf("<rect width=\"%zu\" height=\"%zu\" fill=\"#fff\"/>\n", width, height);
     printf("<text x=\"12\" y=\"22\" font-size=\"15\" font-weight=\"bold\">");
     print_escaped(file_words(answer->site.file));
@@ -109,7 +110,8 @@ static void print_axis(size_t span, size_t tick, size_t top, size_t bottom) {
 
 /* ---- Lanes ---- */
 
-/* A longest run of equal slots, its task's number in it where there is room. */
+/* A longest run of equal slots, its task's number in it where there is room, in a long run again
+   and again. */
 static void print_run(size_t core, int task, size_t first, size_t ticks, size_t tick, size_t top) {
     size_t x = LEFT + first * tick, width = ticks * tick, wide = task < 10 ? 10 : 17;
     const char *fill = task == 0 ? "url(#idle)" : colours[task - 1].fill;
@@ -124,10 +126,14 @@ static void print_run(size_t core, int task, size_t first, size_t ticks, size_t 
     else
         printf("task %d", task);
     printf(", ticks %zu to %zu</title></rect>\n", first, first + ticks - 1);
-    if (task != 0 && width >= wide)
+    if (task == 0 || width < wide)
+        return;
+    size_t labels = width / BETWEEN_LABELS + 1;
+    for (size_t i = 0; i < labels; i++)
         printf("<text x=\"%zu\" y=\"%zu\" text-anchor=\"middle\" fill=\"%s\" font-weight=\"bold\" "
                "pointer-events=\"none\">%d</text>\n",
-               x + width / 2, top + LANE / 2 + 4, colours[task - 1].text, task);
+               x + width * (2 * i + 1) / (2 * labels), top + LANE / 2 + 4, colours[task - 1].text,
+               task);
 }
 
 /* The jobs of a task: a bar from release to due tick, a mark at the release, a bar at the due tick.

@@ -28,7 +28,7 @@ static const site_field_words fields[] = {
     [POWER] = {"power", "level", 1, 65535},
     [TASKS_COUNT] = {"count of tasks", NULL, 0, TOWHEPAMU_MOST_TASKS},
     [PERIOD] = {"period", "task", 1, TOWHEPAMU_MOST_SPAN},
-    [CYCLES] = {"cycles", "task", 1, 100000000},
+    [CYCLES] = {"number of cycles", "task", 1, 100000000},
     [PENALTY] = {"penalty", "task", 1, 1000000},
     [LEFT_OVER] = {"number left over", NULL, 0, UINT32_MAX},
 };

@@ -7,6 +7,10 @@
 
 enum { TICKS_IN_A_LINE = 20 };
 
+static void print_sum(const char *word, uint64_t sum) {
+    printf("%62s\n  %-46s%14" PRIu64 "\n", "--------------", word, sum);
+}
+
 /* Ticks are right where one tick fewer would not do. */
 static void print_ticks(const answer *answer) {
     const site *site = &answer->site;
@@ -33,17 +37,17 @@ static uint64_t print_energy(const answer *answer) {
     const site *site = &answer->site;
     uint64_t sum = 0;
     puts("\nenergy of the kept tasks: jobs x ticks x power");
-    puts("  task  core  level    jobs    ticks    power         energy");
+    printf("%6s%6s%7s%8s%9s%9s%17s\n", "task", "core", "level", "jobs", "ticks", "power", "energy");
     for (size_t i = 0; i < site->tasks; i++) {
         if (answer->plan[i] == 0)
             continue;
         sum += energy_of(answer, i);
-        printf("  %4zu  %4zu  %5zu  %6" PRIu64 " x %6" PRIu64 " x %6" PRIu32 " = %12" PRIu64 "\n",
+        printf("  %4zu  %4zu  %5zu  %6" PRIu64 " x %6" PRIu64 " x %6" PRIu32 " = %14" PRIu64 "\n",
                i + 1, core_of(answer, i), level_of(answer, i), site_jobs(site, i),
                ticks_of(answer, i), site->level[level_of(answer, i) - 1].power,
                energy_of(answer, i));
     }
-    printf("%60s\n%-46s%14" PRIu64 "\n", "------------", "  all energy", sum);
+    print_sum("all energy", sum);
     return sum;
 }
 
@@ -51,16 +55,16 @@ static uint64_t print_penalty(const answer *answer) {
     const site *site = &answer->site;
     uint64_t sum = 0;
     puts("\npenalty of the refused tasks: jobs x penalty");
-    puts("  task                   jobs           penalty        penalty");
+    printf("%6s%21s%18s%17s\n", "task", "jobs", "of a job", "penalty");
     for (size_t i = 0; i < site->tasks; i++) {
         if (answer->plan[i] != 0)
             continue;
         uint64_t jobs = site_jobs(site, i), penalty = jobs * site->task[i].penalty;
         sum += penalty;
-        printf("  %4zu               %6" PRIu64 " x %15" PRIu32 " = %12" PRIu64 "\n", i + 1, jobs,
+        printf("%6zu%21" PRIu64 " x %15" PRIu32 " = %14" PRIu64 "\n", i + 1, jobs,
                site->task[i].penalty, penalty);
     }
-    printf("%60s\n%-46s%14" PRIu64 "\n", "------------", "  all penalty", sum);
+    print_sum("all penalty", sum);
     return sum;
 }
 
@@ -96,7 +100,7 @@ static bool print_cores(const answer *answer, uint64_t *energy) {
             busy += row_of(answer, c - 1)[t] != 0;
         printf("  core %zu\n", c);
         uint64_t load = print_core_sum(answer, c, "load", false);
-        printf(" of the span's %zu ticks, %zu idle\n", span, span - busy);
+        printf(" of span %zu, %zu idle\n", span, span - busy);
         *energy += print_core_sum(answer, c, "energy", true);
         puts("");
         right = right && load == busy;
@@ -107,11 +111,11 @@ static bool print_cores(const answer *answer, uint64_t *energy) {
 static uint64_t print_cost(const site *site, uint64_t energy, uint64_t penalty) {
     uint64_t of_energy = site->energy_weight * energy, of_penalty = site->penalty_weight * penalty;
     puts("\ncost: weight x energy + weight x penalty");
-    printf("  energy              %6" PRIu32 " x %15" PRIu64 " = %14" PRIu64 "\n",
-           site->energy_weight, energy, of_energy);
-    printf("  penalty             %6" PRIu32 " x %15" PRIu64 " = %14" PRIu64 "\n",
-           site->penalty_weight, penalty, of_penalty);
-    printf("%62s\n%-46s  %14" PRIu64 "\n", "--------------", "  cost", of_energy + of_penalty);
+    printf("  energy %18" PRIu32 " x %15" PRIu64 " = %14" PRIu64 "\n", site->energy_weight, energy,
+           of_energy);
+    printf("  penalty%18" PRIu32 " x %15" PRIu64 " = %14" PRIu64 "\n", site->penalty_weight,
+           penalty, of_penalty);
+    print_sum("cost", of_energy + of_penalty);
     return of_energy + of_penalty;
 }
 
@@ -136,7 +140,7 @@ int run_sums(const arguments *given) {
     if (!plan_site(given->file[0], &answer, &why))
         return REFUSED;
     const site *site = &answer.site;
-    printf("%s: %s, %s, %s, span %zu ticks\n\n", file_words(site->file),
+    printf("%s: %s, %s, %s, span %zu\n\n", file_words(site->file),
            amount_of(site->cores, "core").text, amount_of(site->levels, "level").text,
            amount_of(site->tasks, "task").text, site->span);
     print_ticks(&answer);

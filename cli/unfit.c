@@ -81,33 +81,49 @@ static void divide(division *of, size_t next, uint64_t fullest) {
 
 static void tell_division(const site *site, division *of, uint64_t total) {
     uint64_t room = site->cores * site->span;
-    amount cores = amount_of(site->cores, "core");
+    fprintf(stderr, "  together %s; %s in a span of %s have %s", amount_of(total, "tick").text,
+            amount_of(site->cores, "core").text, grouped(site->span).text, grouped(room).text);
     if (total > room) {
-        fprintf(stderr, "  together %s, %s above the %s of %s in a span of %s\n",
-                amount_of(total, "tick").text, grouped(total - room).text, grouped(room).text,
-                cores.text, grouped(site->span).text);
-        return;
+        fprintf(stderr, ", %s too few\n", grouped(total - room).text);
+    } else {
+        of->least = UINT64_MAX;
+        divide(of, 0, 0);
+        fprintf(stderr,
+                ", but however they are divided, a core has at least %s, %s above the span\n",
+                amount_of(of->least, "tick").text, grouped(of->least - site->span).text);
     }
-    of->least = UINT64_MAX;
-    divide(of, 0, 0);
+    fputs("  let one of them be refused for a penalty, or give the node cores, a faster level or "
+          "longer periods\n",
+          stderr);
+}
+
+static void tell_one(const site *site, size_t task, size_t level) {
+    uint64_t ticks = site_ticks(site, task, level), period = site->task[task].period;
     fprintf(
         stderr,
-        "  together %s, within the %s of %s in a span of %s; but however they are divided, a core "
-        "has at least %s, %s above the span\n",
-        amount_of(total, "tick").text, grouped(room).text, cores.text, grouped(site->span).text,
-        amount_of(of->least, "tick").text, grouped(of->least - site->span).text);
+        "%s: no plan: task %zu may not be refused and does not fit: at the fastest level, %zu, a "
+        "job "
+        "takes %s, %s above its period, %s\n"
+        "  let it be refused for a penalty, or give the node a faster level or the task a longer "
+        "period\n",
+        file_words(site->file), task + 1, level + 1, amount_of(ticks, "tick").text,
+        grouped(ticks - period).text, grouped(period).text);
 }
 
 void tell_what_does_not_fit(const site *site) {
     uint32_t tasks = find_unfit_tasks(site);
-    bool one = (tasks & (tasks - 1)) == 0;
-    division of = {.cores = site->cores};
     size_t level = site->levels - 1;
+    for (size_t i = 0; i < site->tasks; i++)
+        if (tasks == UINT32_C(1) << i) {
+            tell_one(site, i, level);
+            return;
+        }
+    division of = {.cores = site->cores};
     uint64_t total = 0;
-    fprintf(stderr,
-            "%s: no plan: %s may not be refused and do%s not fit%s; at the fastest level, %zu:\n",
-            file_words(site->file), tasks_in_words(tasks).text, one ? "es" : "",
-            one ? "" : " together", level + 1);
+    fprintf(
+        stderr,
+        "%s: no plan: %s may not be refused and do not fit together; at the fastest level, %zu:\n",
+        file_words(site->file), tasks_in_words(tasks).text, level + 1);
     for (size_t i = 0; i < site->tasks; i++)
         if (tasks >> i & 1) {
             uint64_t jobs = site_jobs(site, i), ticks = site_ticks(site, i, level);
@@ -117,7 +133,4 @@ void tell_what_does_not_fit(const site *site) {
             total += jobs * ticks;
         }
     tell_division(site, &of, total);
-    fprintf(stderr,
-            "  let one of them be refused for a penalty, or give the node cores, a faster level "
-            "or longer periods\n");
 }
