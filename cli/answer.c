@@ -3,13 +3,14 @@
 #include "words.h"
 #include <inttypes.h>
 
-static bool refuse(const site *site, uint64_t refusal, uint64_t place, towhepamu_checked *why) {
+static bool refuse(const parsed_site *site, uint64_t refusal, uint64_t place,
+                   towhepamu_checked *why) {
     tell_site_refusal(site, refusal, place);
     *why = (towhepamu_checked){refusal, place};
     return false;
 }
 
-bool read_site(const char *name, site *site, towhepamu_checked *why) {
+bool read_site(const char *name, parsed_site *site, towhepamu_checked *why) {
     site->file = name;
     site->text_len = read_file(name, site->text, sizeof site->text);
     site_take_numbers(site);
@@ -22,8 +23,8 @@ bool read_site(const char *name, site *site, towhepamu_checked *why) {
     return true;
 }
 
-bool plan_site(const char *name, answer *answer, towhepamu_checked *why) {
-    site *site = &answer->site;
+bool plan_site(const char *name, planned_site *answer, towhepamu_checked *why) {
+    parsed_site *site = &answer->site;
     if (!read_site(name, site, why))
         return false;
     answer->price = towhepamu_plan(site->text, site->text_len, answer->plan, sizeof answer->plan,
@@ -38,18 +39,18 @@ bool plan_site(const char *name, answer *answer, towhepamu_checked *why) {
     return true;
 }
 
-size_t core_of(const answer *answer, size_t task) {
+size_t core_of(const planned_site *answer, size_t task) {
     return answer->plan[task] == 0 ? 0 : (answer->plan[task] - 1u) / answer->site.levels + 1;
 }
 
-size_t level_of(const answer *answer, size_t task) {
+size_t level_of(const planned_site *answer, size_t task) {
     return answer->plan[task] == 0 ? 0 : (answer->plan[task] - 1u) % answer->site.levels + 1;
 }
 
-uint64_t ticks_of(const answer *answer, size_t task) {
+uint64_t ticks_of(const planned_site *answer, size_t task) {
     return site_ticks(&answer->site, task, level_of(answer, task) - 1);
 }
 
-const uint8_t *row_of(const answer *answer, size_t core) {
+const uint8_t *row_of(const planned_site *answer, size_t core) {
     return answer->table + core * answer->site.span;
 }

@@ -9,8 +9,8 @@
 /* What is checked; one more of each than can be right, so that the library sees what is too long.
  */
 typedef struct {
-    const site *site;
-    const node *plan_from, *table_from;
+    const parsed_site *site;
+    const node_file *plan_from, *table_from;
     size_t choices, slots; /* how many were given; of more than are kept only the count goes on */
     uint8_t plan[TOWHEPAMU_MOST_TASKS + 1];
     uint8_t table[TOWHEPAMU_MOST_TABLE_BYTES + 1];
@@ -24,7 +24,7 @@ static size_t smaller(size_t a, size_t b) {
 /* ---- What was given ---- */
 
 /* The choices of a listing, or the first numbers of a list, `most` of them at most. */
-static void take_plan(subject *of, const node *from, size_t most) {
+static void take_plan(subject *of, const node_file *from, size_t most) {
     of->plan_from = from;
     of->choices = from->is_listing ? from->tasks : smaller(from->count, most);
     for (size_t i = 0; i < smaller(of->choices, sizeof of->plan); i++)
@@ -33,7 +33,7 @@ static void take_plan(subject *of, const node *from, size_t most) {
 }
 
 /* The slots of a listing, or the numbers of a list after the first few. */
-static void take_table(subject *of, const node *from, size_t after) {
+static void take_table(subject *of, const node_file *from, size_t after) {
     of->table_from = from;
     of->slots = from->count - smaller(from->count, after);
     for (size_t i = 0; i < smaller(of->slots, sizeof of->table); i++) {
@@ -42,7 +42,7 @@ static void take_table(subject *of, const node *from, size_t after) {
     }
 }
 
-static bool tell_nothing_given(const node *from) {
+static bool tell_nothing_given(const node_file *from) {
     if (from->is_refused)
         fprintf(stderr, "%s: a listing without a plan: refused %" PRIu64 " %" PRIu64 "\n",
                 file_words(from->file), from->refusal, from->place);
@@ -50,7 +50,7 @@ static bool tell_nothing_given(const node *from) {
 }
 
 /* A listing's rows must have the span's length each, or slots would stand in another row. */
-static bool tell_rows(const site *site, const node *from) {
+static bool tell_rows(const parsed_site *site, const node_file *from) {
     for (size_t c = 0; c < from->cores; c++) {
         size_t slots = from->row[c + 1] - from->row[c];
         if (slots != site->span) {
@@ -65,7 +65,7 @@ static bool tell_rows(const site *site, const node *from) {
 /* ---- Refusals in words ---- */
 
 static void tell_choice(const subject *of, size_t task) {
-    const site *site = of->site;
+    const parsed_site *site = of->site;
     const char *file = file_words(of->plan_from->file);
     if (of->choices != site->tasks)
         fprintf(stderr, "%s: the plan has %s, the site has %s\n", file,
@@ -85,7 +85,7 @@ static void tell_choice(const subject *of, size_t task) {
 }
 
 static void tell_slot(const subject *of, size_t index) {
-    const site *site = of->site;
+    const parsed_site *site = of->site;
     const char *file = file_words(of->table_from->file);
     if (of->slots != site->cores * site->span) {
         fprintf(stderr, "%s: the table has %s; %s x %s make %s\n", file,
@@ -107,7 +107,7 @@ static void tell_slot(const subject *of, size_t index) {
 
 /* The first job of a task whose slots are not its ticks. */
 static void tell_job(const subject *of, size_t task) {
-    const site *site = of->site;
+    const parsed_site *site = of->site;
     size_t choice = of->plan[task] - 1u, period = site->task[task].period;
     size_t level = choice % site->levels;
     uint64_t ticks = site_ticks(site, task, level), slots = ticks;
@@ -140,7 +140,7 @@ static int tell_refusal(const subject *of, towhepamu_checked check) {
     return REFUSED;
 }
 
-static int check_given(const site *site, const node *plan, const node *table) {
+static int check_given(const parsed_site *site, const node_file *plan, const node_file *table) {
     static subject of;
     bool dump = plan == table && !plan->is_listing;
     if (tell_nothing_given(plan) || tell_nothing_given(table) || tell_rows(site, table))
@@ -158,8 +158,8 @@ static int check_given(const site *site, const node *plan, const node *table) {
 }
 
 int run_check(const arguments *given) {
-    static site site;
-    static node first, second;
+    static parsed_site site;
+    static node_file first, second;
     towhepamu_checked why;
     if (!read_site(given->file[0], &site, &why)) {
         printf("refused %" PRIu64 " %" PRIu64 "\n", why.refusal, why.place);

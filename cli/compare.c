@@ -18,7 +18,7 @@ static size_t smaller(size_t a, size_t b) {
 
 /* Fills in the lines that a listing of these numbers would have. Ticks, which a dump does not tell,
    are those of the site. */
-static void lay_out(node *node, const site *site) {
+static void lay_out(node_file *node, const parsed_site *site) {
     node->tasks = smaller(node->count, site->tasks);
     for (size_t i = 0; i < node->tasks; i++) {
         uint32_t choice = node->numbers[i];
@@ -41,7 +41,7 @@ static void lay_out(node *node, const site *site) {
 
 /* ---- Lines ---- */
 
-static bool compare_heads(const node *node, const answer *answer) {
+static bool compare_heads(const node_file *node, const planned_site *answer) {
     const towhepamu_planned *price = &answer->price;
     bool span = node->span == answer->site.span;
     bool cost = node->energy == price->energy && node->penalty == price->penalty &&
@@ -57,7 +57,7 @@ static bool compare_heads(const node *node, const answer *answer) {
 
 /* ---- Tasks ---- */
 
-static node_task planned_task(const answer *answer, size_t task) {
+static node_task planned_task(const planned_site *answer, size_t task) {
     if (answer->plan[task] == 0)
         return (node_task){0, 0, 0};
     return (node_task){core_of(answer, task), level_of(answer, task), ticks_of(answer, task)};
@@ -75,7 +75,7 @@ static void print_task(const char *who, const node_task *task, bool with_ticks) 
 }
 
 /* How many tasks differ; the first of them is told. */
-static size_t compare_tasks(const node *node, const answer *answer) {
+static size_t compare_tasks(const node_file *node, const planned_site *answer) {
     size_t differing = 0;
     for (size_t i = 0; i < larger(node->tasks, answer->site.tasks); i++) {
         bool given = i < node->tasks, known = i < answer->site.tasks;
@@ -101,14 +101,14 @@ static size_t compare_tasks(const node *node, const answer *answer) {
 
 enum { ENDED = -1 };
 
-static int64_t node_slot(const node *node, size_t core, size_t tick) {
+static int64_t node_slot(const node_file *node, size_t core, size_t tick) {
     if (core >= node->cores || tick >= node->row[core + 1] - node->row[core])
         return ENDED;
     size_t index = node->row[core] + tick;
     return index < NODE_MOST_NUMBERS ? (int64_t)node->numbers[index] : (int64_t)UINT32_MAX;
 }
 
-static int64_t planned_slot(const answer *answer, size_t core, size_t tick) {
+static int64_t planned_slot(const planned_site *answer, size_t core, size_t tick) {
     if (core >= answer->site.cores || tick >= answer->site.span)
         return ENDED;
     return row_of(answer, core)[tick];
@@ -124,7 +124,7 @@ static void print_slot(const char *who, int64_t slot) {
 }
 
 /* How many slots differ; the first of them is told. */
-static size_t compare_slots(const node *node, const answer *answer) {
+static size_t compare_slots(const node_file *node, const planned_site *answer) {
     size_t differing = 0;
     for (size_t c = 0; c < larger(node->cores, answer->site.cores); c++) {
         size_t row = c < node->cores ? node->row[c + 1] - node->row[c] : 0;
@@ -143,8 +143,8 @@ static size_t compare_slots(const node *node, const answer *answer) {
 }
 
 int run_compare(const arguments *given) {
-    static answer answer;
-    static node node;
+    static planned_site answer;
+    static node_file node;
     towhepamu_checked why;
     if (!plan_site(given->file[0], &answer, &why))
         return REFUSED;

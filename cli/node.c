@@ -74,7 +74,7 @@ static bool take_line_end(cursor *from) {
     return true;
 }
 
-static void keep_number(node *node, uint64_t number) {
+static void keep_number(node_file *node, uint64_t number) {
     if (node->count < NODE_MOST_NUMBERS)
         node->numbers[node->count] = number > UINT32_MAX ? UINT32_MAX : (uint32_t)number;
     node->count++;
@@ -100,7 +100,7 @@ static bool take_next(cursor *from, const char *word, size_t before, size_t most
     return false;
 }
 
-static bool take_task(cursor *from, node *node) {
+static bool take_task(cursor *from, node_file *node) {
     if (!take_next(from, "task", node->tasks, TOWHEPAMU_MOST_TASKS))
         return false;
     node_task *task = &node->task[node->tasks++];
@@ -120,7 +120,7 @@ static bool take_task(cursor *from, node *node) {
     return true;
 }
 
-static bool take_row(cursor *from, node *node) {
+static bool take_row(cursor *from, node_file *node) {
     if (!take_next(from, "core", node->cores, TOWHEPAMU_MOST_CORES))
         return false;
     for (skip_spaces(from); !is_line_end(from); skip_spaces(from)) {
@@ -133,7 +133,7 @@ static bool take_row(cursor *from, node *node) {
     return take_line_end(from);
 }
 
-static bool take_listing(cursor *from, node *node) {
+static bool take_listing(cursor *from, node_file *node) {
     node->is_listing = true;
     if (is_at(from, "refused")) {
         node->is_refused = true;
@@ -158,7 +158,7 @@ static bool take_listing(cursor *from, node *node) {
 
 /* ---- Lists of numbers ---- */
 
-static bool take_list(cursor *from, node *node) {
+static bool take_list(cursor *from, node_file *node) {
     for (skip_spaces(from); from->at < from->len; skip_spaces(from)) {
         uint64_t number;
         if (from->text[from->at] == '\n')
@@ -171,7 +171,7 @@ static bool take_list(cursor *from, node *node) {
     return true;
 }
 
-bool node_read(const char *name, node *node) {
+bool node_read(const char *name, node_file *node) {
     static uint8_t text[MOST_BYTES + 1];
     memset(node, 0, sizeof *node);
     node->file = name;
@@ -191,7 +191,7 @@ uint8_t node_byte(uint32_t number) {
     return number > 255 ? 255 : (uint8_t)number;
 }
 
-uint8_t node_choice(const node *node, const site *site, size_t task) {
+uint8_t node_choice(const node_file *node, const parsed_site *site, size_t task) {
     const node_task *given = &node->task[task];
     if (given->core == 0)
         return 0;

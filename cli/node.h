@@ -27,14 +27,14 @@ typedef struct {
     size_t tasks, cores; /* how many lines there are */
     node_task task[TOWHEPAMU_MOST_TASKS];
     size_t row[TOWHEPAMU_MOST_CORES + 1]; /* where each row begins, and the last one ends */
-} node;
+} node_file;
 
 /* Reads a file. Where it is neither a listing nor a list of numbers, tells so and returns false. */
-bool node_read(const char *name, node *node);
+bool node_read(const char *name, node_file *node);
 
 /* The listing's choice for a task of the site, or 255, which is none, where its core or level is
    none of the site's. */
-uint8_t node_choice(const node *node, const site *site, size_t task);
+uint8_t node_choice(const node_file *node, const parsed_site *site, size_t task);
 
 /* A number as the library takes it: one above 255 names nothing, as 255 does. */
 uint8_t node_byte(uint32_t number);

@@ -38,14 +38,14 @@ static size_t tick_width(size_t span) {
     return width < NARROWEST ? NARROWEST : width > WIDEST ? WIDEST : width;
 }
 
-static size_t tasks_on(const answer *answer, size_t core) {
+static size_t tasks_on(const planned_site *answer, size_t core) {
     size_t tasks = 0;
     for (size_t i = 0; i < answer->site.tasks; i++)
         tasks += core_of(answer, i) == core;
     return tasks;
 }
 
-static size_t lane_height(const answer *answer, size_t core) {
+static size_t lane_height(const planned_site *answer, size_t core) {
     return LANE + STRIP * tasks_on(answer, core) + GAP;
 }
 
@@ -66,7 +66,7 @@ static void print_escaped(const char *text) {
     }
 }
 
-static void print_head(const answer *answer, size_t width, size_t height) {
+static void print_head(const planned_site *answer, size_t width, size_t height) {
     printf("<svg xmlns=\"http://www.w3.org/2000/svg\" width=\"%zu\" height=\"%zu\" "
            "viewBox=\"0 0 %zu %zu\" font-family=\"sans-serif\" font-size=\"12\">\n",
            width, height, width, height);
@@ -138,7 +138,7 @@ static void print_run(size_t core, int task, size_t first, size_t ticks, size_t 
 
 /* The jobs of a task: a bar from release to due tick, a mark at the release, a bar at the due tick.
  */
-static void print_jobs(const answer *answer, size_t task, size_t tick, size_t top) {
+static void print_jobs(const planned_site *answer, size_t task, size_t tick, size_t top) {
     size_t period = answer->site.task[task].period;
     const char *fill = colours[task].fill;
     printf("<text x=\"%d\" y=\"%zu\" text-anchor=\"end\" font-size=\"11\">task %zu</text>\n",
@@ -155,7 +155,7 @@ static void print_jobs(const answer *answer, size_t task, size_t tick, size_t to
     puts("</g>");
 }
 
-static void print_lane(const answer *answer, size_t core, size_t tick, size_t top) {
+static void print_lane(const planned_site *answer, size_t core, size_t tick, size_t top) {
     const uint8_t *row = row_of(answer, core - 1);
     size_t span = answer->site.span;
     printf("<text x=\"%d\" y=\"%zu\" text-anchor=\"end\" font-weight=\"bold\">core %zu</text>\n",
@@ -175,7 +175,7 @@ static void print_lane(const answer *answer, size_t core, size_t tick, size_t to
 
 /* ---- Legend ---- */
 
-static void print_legend(const answer *answer, size_t top) {
+static void print_legend(const planned_site *answer, size_t top) {
     printf("<text x=\"12\" y=\"%zu\">Under a core the jobs of its tasks: each from the triangle at "
            "its "
            "release to the bar at its due tick. Hatched slots are idle.</text>\n",
@@ -194,7 +194,7 @@ static void print_legend(const answer *answer, size_t top) {
     }
 }
 
-static void print_svg(const answer *answer) {
+static void print_svg(const planned_site *answer) {
     size_t span = answer->site.span, tick = tick_width(span), top = TITLE + AXIS;
     size_t lanes = 0, width = LEFT + span * tick + RIGHT;
     for (size_t c = 1; c <= answer->site.cores; c++)
@@ -211,7 +211,7 @@ static void print_svg(const answer *answer) {
 }
 
 int run_picture(const arguments *given) {
-    static answer answer;
+    static planned_site answer;
     towhepamu_checked why;
     if (!plan_site(given->file[0], &answer, &why))
         return REFUSED;

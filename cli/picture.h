@@ -5,8 +5,8 @@
 #include "answer.h"
 
 /* "task 1: core 1, level 3, 4 ticks a job, period 10", without a line's end. */
-void print_task_line(const answer *answer, size_t task);
+void print_task_line(const planned_site *answer, size_t task);
 
-void print_text_picture(const answer *answer);
+void print_text_picture(const planned_site *answer);
 
 #endif

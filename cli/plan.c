@@ -6,9 +6,9 @@
 #include <stdio.h>
 
 int run_plan(const arguments *given) {
-    static answer answer;
+    static planned_site answer;
     static uint8_t listing[TOWHEPAMU_MOST_LISTING_BYTES];
-    const site *site = &answer.site;
+    const parsed_site *site = &answer.site;
     towhepamu_checked why;
     keep_apart(given->file[0], given->plan, given->table);
     if (!plan_site(given->file[0], &answer, &why)) {

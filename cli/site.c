@@ -34,7 +34,7 @@ static const site_field_words fields[] = {
 };
 
 /* Where a number of an accepted site is kept; NULL for what no site keeps. */
-static uint32_t *kept_at(site *site, site_name name) {
+static uint32_t *kept_at(parsed_site *site, site_name name) {
     switch (name.field) {
     case ENERGY_WEIGHT:
         return &site->energy_weight;
@@ -67,7 +67,7 @@ static bool is_digit(uint8_t byte) {
     return '0' <= byte && byte <= '9';
 }
 
-void site_take_numbers(site *site) {
+void site_take_numbers(parsed_site *site) {
     size_t at = 0, end = site->text_len;
     if (end > TOWHEPAMU_MOST_TEXT_BYTES)
         end = TOWHEPAMU_MOST_TEXT_BYTES;
@@ -94,12 +94,19 @@ const site_field_words *site_words_of(site_field field) {
     return &fields[field];
 }
 
-/* How many numbers follow the count of a section. */
-static uint64_t section_length(const section *section, uint32_t count) {
-    return section->once ? count : (uint64_t)count * (section->last - section->first + 1);
+bool site_opens_section(site_field field) {
+    for (size_t s = 0; s < SECTIONS; s++)
+        if (sections[s].count == field)
+            return true;
+    return false;
 }
 
-site_name site_name_of(const site *site, size_t index) {
+/* How many numbers follow the count of a section. */
+static uint64_t section_length(const section *of, uint32_t count) {
+    return of->once ? count : (uint64_t)count * (of->last - of->first + 1);
+}
+
+site_name site_name_of(const parsed_site *site, size_t index) {
     uint64_t at = 0;
     for (size_t s = 0; s < SECTIONS; s++) {
         const section *in = &sections[s];
@@ -116,7 +123,7 @@ site_name site_name_of(const site *site, size_t index) {
     return (site_name){LEFT_OVER, 0};
 }
 
-size_t site_count_before(const site *site, size_t index) {
+size_t site_count_before(const parsed_site *site, size_t index) {
     uint64_t at = 0, before = 0;
     for (size_t s = 0; s < SECTIONS && at < index; s++) {
         before = at;
@@ -125,7 +132,7 @@ size_t site_count_before(const site *site, size_t index) {
     return before;
 }
 
-void site_fill_in(site *site, size_t span) {
+void site_fill_in(parsed_site *site, size_t span) {
     site->span = span;
     for (size_t i = 0; i < site->count; i++) {
         uint32_t *kept = kept_at(site, site_name_of(site, i));
@@ -134,10 +141,10 @@ void site_fill_in(site *site, size_t span) {
     }
 }
 
-size_t site_write(const site *from, uint8_t *text, size_t most) {
+size_t site_write(const parsed_site *from, uint8_t *text, size_t most) {
     size_t len = 0;
     for (size_t i = 0; i < from->count; i++) {
-        const uint32_t *kept = kept_at((site *)from, site_name_of(from, i));
+        const uint32_t *kept = kept_at((parsed_site *)from, site_name_of(from, i));
         uint32_t value = kept != NULL ? *kept : from->numbers[i].value;
         int written = snprintf((char *)text + len, most - len, "%" PRIu32 "\n", value);
         if (written < 0 || (size_t)written >= most - len)
@@ -149,11 +156,11 @@ size_t site_write(const site *from, uint8_t *text, size_t most) {
 
 /* ---- What is computed of it ---- */
 
-uint64_t site_jobs(const site *site, size_t task) {
+uint64_t site_jobs(const parsed_site *site, size_t task) {
     return site->span / site->task[task].period;
 }
 
-uint64_t site_ticks(const site *site, size_t task, size_t level) {
+uint64_t site_ticks(const parsed_site *site, size_t task, size_t level) {
     uint32_t cycles = site->task[task].cycles, speed = site->level[level].speed;
     return cycles / speed + (cycles % speed != 0);
 }

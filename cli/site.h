@@ -68,27 +68,30 @@ typedef struct {
     size_t span;
     site_level level[TOWHEPAMU_MOST_LEVELS];
     site_task task[TOWHEPAMU_MOST_TASKS];
-} site;
+} parsed_site;
 
 /* Takes the numbers of the text, up to its first byte that belongs to none. */
-void site_take_numbers(site *site);
+void site_take_numbers(parsed_site *site);
 
 /* Which number the one of that index, from 0, is. Those before it must be there. */
-site_name site_name_of(const site *site, size_t index);
+site_name site_name_of(const parsed_site *site, size_t index);
 
 const site_field_words *site_words_of(site_field field);
 
+/* Whether that number is the count of a section. */
+bool site_opens_section(site_field field);
+
 /* The index of the count that opens the section in which, or after which, a number stands. */
-size_t site_count_before(const site *site, size_t index);
+size_t site_count_before(const parsed_site *site, size_t index);
 
 /* Fills in what an accepted site says, from its numbers; the span is the library's. */
-void site_fill_in(site *site, size_t span);
+void site_fill_in(parsed_site *site, size_t span);
 
 /* Writes the text of an accepted site again, as it is filled in. Returns its length. */
-size_t site_write(const site *site, uint8_t *text, size_t most);
+size_t site_write(const parsed_site *site, uint8_t *text, size_t most);
 
 /* Jobs of a task in a span, and ticks of one of its jobs; task and level from 0. */
-uint64_t site_jobs(const site *site, size_t task);
-uint64_t site_ticks(const site *site, size_t task, size_t level);
+uint64_t site_jobs(const parsed_site *site, size_t task);
+uint64_t site_ticks(const parsed_site *site, size_t task, size_t level);
 
 #endif

@@ -12,8 +12,8 @@ static void print_sum(const char *word, uint64_t sum) {
 }
 
 /* Ticks are right where one tick fewer would not do. */
-static void print_ticks(const answer *answer) {
-    const site *site = &answer->site;
+static void print_ticks(const planned_site *answer) {
+    const parsed_site *site = &answer->site;
     puts("ticks of a job: cycles / speed, rounded up");
     puts("  task     cycles   speed   ticks");
     for (size_t i = 0; i < site->tasks; i++) {
@@ -28,13 +28,13 @@ static void print_ticks(const answer *answer) {
     }
 }
 
-static uint64_t energy_of(const answer *answer, size_t task) {
+static uint64_t energy_of(const planned_site *answer, size_t task) {
     return site_jobs(&answer->site, task) * ticks_of(answer, task) *
            answer->site.level[level_of(answer, task) - 1].power;
 }
 
-static uint64_t print_energy(const answer *answer) {
-    const site *site = &answer->site;
+static uint64_t print_energy(const planned_site *answer) {
+    const parsed_site *site = &answer->site;
     uint64_t sum = 0;
     puts("\nenergy of the kept tasks: jobs x ticks x power");
     printf("%6s%6s%7s%8s%9s%9s%17s\n", "task", "core", "level", "jobs", "ticks", "power", "energy");
@@ -51,8 +51,8 @@ static uint64_t print_energy(const answer *answer) {
     return sum;
 }
 
-static uint64_t print_penalty(const answer *answer) {
-    const site *site = &answer->site;
+static uint64_t print_penalty(const planned_site *answer) {
+    const parsed_site *site = &answer->site;
     uint64_t sum = 0;
     puts("\npenalty of the refused tasks: jobs x penalty");
     printf("%6s%21s%18s%17s\n", "task", "jobs", "of a job", "penalty");
@@ -69,7 +69,8 @@ static uint64_t print_penalty(const answer *answer) {
 }
 
 /* "8 + 10 = 18": a core's sum over its tasks; nothing for none. */
-static uint64_t print_core_sum(const answer *answer, size_t core, const char *word, bool energy) {
+static uint64_t print_core_sum(const planned_site *answer, size_t core, const char *word,
+                               bool energy) {
     uint64_t sum = 0;
     const char *between = "";
     printf("          %-7s", word);
@@ -89,7 +90,7 @@ static uint64_t print_core_sum(const answer *answer, size_t core, const char *wo
 }
 
 /* Each core's load and energy; false where the row has another number of busy slots. */
-static bool print_cores(const answer *answer, uint64_t *energy) {
+static bool print_cores(const planned_site *answer, uint64_t *energy) {
     size_t span = answer->site.span;
     bool right = true;
     *energy = 0;
@@ -108,7 +109,7 @@ static bool print_cores(const answer *answer, uint64_t *energy) {
     return right;
 }
 
-static uint64_t print_cost(const site *site, uint64_t energy, uint64_t penalty) {
+static uint64_t print_cost(const parsed_site *site, uint64_t energy, uint64_t penalty) {
     uint64_t of_energy = site->energy_weight * energy, of_penalty = site->penalty_weight * penalty;
     puts("\ncost: weight x energy + weight x penalty");
     printf("  energy %18" PRIu32 " x %15" PRIu64 " = %14" PRIu64 "\n", site->energy_weight, energy,
@@ -119,7 +120,7 @@ static uint64_t print_cost(const site *site, uint64_t energy, uint64_t penalty) 
     return of_energy + of_penalty;
 }
 
-static void print_rows(const answer *answer) {
+static void print_rows(const planned_site *answer) {
     for (size_t c = 0; c < answer->site.cores; c++) {
         printf("\ncore %zu, tick by tick; 0 is idle\n", c + 1);
         for (size_t t = 0; t < answer->site.span; t++) {
@@ -135,11 +136,11 @@ static void print_rows(const answer *answer) {
 }
 
 int run_sums(const arguments *given) {
-    static answer answer;
+    static planned_site answer;
     towhepamu_checked why;
     if (!plan_site(given->file[0], &answer, &why))
         return REFUSED;
-    const site *site = &answer.site;
+    const parsed_site *site = &answer.site;
     printf("%s: %s, %s, %s, span %zu\n\n", file_words(site->file),
            amount_of(site->cores, "core").text, amount_of(site->levels, "level").text,
            amount_of(site->tasks, "task").text, site->span);

@@ -6,8 +6,8 @@
 
 enum { LINE = 60, BETWEEN_NUMBERS = 10 };
 
-void print_task_line(const answer *answer, size_t task) {
-    const site *site = &answer->site;
+void print_task_line(const planned_site *answer, size_t task) {
+    const parsed_site *site = &answer->site;
     printf("task %zu: ", task + 1);
     if (answer->plan[task] == 0)
         printf("refused, penalty %s a job", grouped(site->task[task].penalty).text);
@@ -38,7 +38,7 @@ static void print_axis(size_t first, size_t end) {
     puts("");
 }
 
-static void print_lane(const answer *answer, size_t core, size_t first, size_t end) {
+static void print_lane(const planned_site *answer, size_t core, size_t first, size_t end) {
     printf("core %zu  ", core);
     for (size_t t = first; t < end; t++)
         putchar(character_of(row_of(answer, core - 1)[t]));
@@ -53,7 +53,7 @@ static void print_lane(const answer *answer, size_t core, size_t first, size_t e
     }
 }
 
-void print_text_picture(const answer *answer) {
+void print_text_picture(const planned_site *answer) {
     size_t span = answer->site.span;
     printf("%s: span %s, energy %s, penalty %s, cost %s\n", file_words(answer->site.file),
            amount_of(span, "tick").text, grouped(answer->price.energy).text,

@@ -25,8 +25,8 @@ task_words tasks_in_words(uint32_t tasks) {
 }
 
 /* Whether the site has no plan once the tasks outside `must` may be refused for a penalty of 1. */
-static bool is_without_plan(const site *given, uint32_t must) {
-    static site altered;
+static bool is_without_plan(const parsed_site *given, uint32_t must) {
+    static parsed_site altered;
     static uint8_t text[TOWHEPAMU_MOST_TEXT_BYTES], plan[TOWHEPAMU_MOST_TASKS],
         table[TOWHEPAMU_MOST_TABLE_BYTES];
     altered = *given;
@@ -39,7 +39,7 @@ static bool is_without_plan(const site *given, uint32_t must) {
 }
 
 /* Tasks are spared one after another where the rest still do not fit. */
-static uint32_t find_unfit_tasks(const site *site) {
+static uint32_t find_unfit_tasks(const parsed_site *site) {
     uint32_t must = 0;
     for (size_t i = 0; i < site->tasks; i++)
         if (site->task[i].penalty == SITE_MUST)
@@ -79,7 +79,7 @@ static void divide(division *of, size_t next, uint64_t fullest) {
     }
 }
 
-static void tell_division(const site *site, division *of, uint64_t total) {
+static void tell_division(const parsed_site *site, division *of, uint64_t total) {
     uint64_t room = site->cores * site->span;
     fprintf(stderr, "  together %s; %s in a span of %s have %s", amount_of(total, "tick").text,
             amount_of(site->cores, "core").text, grouped(site->span).text, grouped(room).text);
@@ -97,7 +97,7 @@ static void tell_division(const site *site, division *of, uint64_t total) {
           stderr);
 }
 
-static void tell_one(const site *site, size_t task, size_t level) {
+static void tell_one(const parsed_site *site, size_t task, size_t level) {
     uint64_t ticks = site_ticks(site, task, level), period = site->task[task].period;
     fprintf(
         stderr,
@@ -110,7 +110,7 @@ static void tell_one(const site *site, size_t task, size_t level) {
         grouped(ticks - period).text, grouped(period).text);
 }
 
-void tell_what_does_not_fit(const site *site) {
+void tell_what_does_not_fit(const parsed_site *site) {
     uint32_t tasks = find_unfit_tasks(site);
     size_t level = site->levels - 1;
     for (size_t i = 0; i < site->tasks; i++)

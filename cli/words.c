@@ -15,7 +15,7 @@ name_words name_in_words(site_name name) {
 
 /* ---- 1: the text ---- */
 
-static void tell_text(const site *site, size_t at) {
+static void tell_text(const parsed_site *site, size_t at) {
     const uint8_t *text = site->text;
     if (at >= TOWHEPAMU_MOST_TEXT_BYTES)
         tell_at(site->file, text, at, "the file has more than %s bytes; shorten it",
@@ -33,7 +33,7 @@ static void tell_text(const site *site, size_t at) {
 
 /* ---- 2: missing or left over ---- */
 
-static void tell_missing(const site *site) {
+static void tell_missing(const parsed_site *site) {
     if (site->count == 0) {
         tell_at(site->file, site->text, 0,
                 "there is no number: the count of settings is missing, and all that follows it");
@@ -44,8 +44,7 @@ static void tell_missing(const site *site) {
     name_words name = name_in_words(missing);
     name_words after = name_in_words(site_name_of(site, site->count - 1));
     size_t before = site_count_before(site, site->count);
-    if (site_words_of(missing.field)->of == NULL && missing.field != ENERGY_WEIGHT &&
-        missing.field != PENALTY_WEIGHT && missing.field != CORES)
+    if (site_opens_section(missing.field))
         tell_at(site->file, site->text, last->offset + last->digits,
                 "the list ends after the %s, %" PRIu32 "; the %s is missing, and what follows it",
                 after.text, last->value, name.text);
@@ -57,7 +56,7 @@ static void tell_missing(const site *site) {
                 site->numbers[before].value);
 }
 
-static void tell_left_over(const site *site, size_t index) {
+static void tell_left_over(const parsed_site *site, size_t index) {
     const site_number *first = &site->numbers[index];
     size_t before = site_count_before(site, index), more = site->count - index - 1;
     char others[96] = " is";
@@ -74,7 +73,7 @@ static void tell_left_over(const site *site, size_t index) {
 /* ---- 3: ranges ---- */
 
 /* The same number of the level before; it must be below. */
-static bool tell_rise(const site *site, size_t index, site_name name) {
+static bool tell_rise(const parsed_site *site, size_t index, site_name name) {
     if ((name.field != SPEED && name.field != POWER) || name.of < 2)
         return false;
     uint32_t value = site->numbers[index].value, below = site->numbers[index - 2].value;
@@ -89,7 +88,7 @@ static bool tell_rise(const site *site, size_t index, site_name name) {
     return true;
 }
 
-static void tell_range(const site *site, size_t index) {
+static void tell_range(const parsed_site *site, size_t index) {
     site_name name = site_name_of(site, index);
     if (tell_rise(site, index, name))
         return;
@@ -108,7 +107,7 @@ static uint64_t common_divisor(uint64_t a, uint64_t b) {
     return b == 0 ? a : common_divisor(b, a % b);
 }
 
-static void tell_span(const site *site, size_t index) {
+static void tell_span(const parsed_site *site, size_t index) {
     uint64_t span = 1;
     size_t others = 0;
     for (size_t i = 0; i <= index; i++)
@@ -124,7 +123,7 @@ static void tell_span(const site *site, size_t index) {
             others == 1 ? "" : "s", grouped(span).text, grouped(TOWHEPAMU_MOST_SPAN).text);
 }
 
-void tell_site_refusal(const site *site, uint64_t refusal, uint64_t place) {
+void tell_site_refusal(const parsed_site *site, uint64_t refusal, uint64_t place) {
     if (refusal == TOWHEPAMU_TEXT && place < site->text_len)
         tell_text(site, place);
     else if (refusal == TOWHEPAMU_WORDS && place == site->count)
