@@ -49,7 +49,7 @@ static void take_option(const command *of, char **words, arguments *given, size_
     }
     if (file == NULL)
         give_up_on("no such option: ", word, of->name);
-    if (words[*at + 1] == NULL)
+    if (words[*at + 1] == NULL || strcmp(words[*at + 1], "-") == 0)
         give_up_on("a file's name must follow ", word, of->name);
     if (*file != NULL)
         give_up_on("given twice: ", word, of->name);
