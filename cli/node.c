@@ -63,7 +63,7 @@ static bool take_word(cursor *from, const char *word) {
         return fail(from, quoted);
     }
     from->at += strlen(word);
-    return true;
+    return is_line_end(from) || from->text[from->at] == ' ' || fail(from, "a space");
 }
 
 static bool take_line_end(cursor *from) {
