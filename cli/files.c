@@ -84,9 +84,9 @@ static bool is_same(const identity *a, const identity *b) {
            strcmp(a->last, b->last) == 0;
 }
 
-void keep_apart(const char *site, const char *plan, const char *table) {
-    const char *words[] = {site, "standard output", plan, table};
-    identity of[4] = {identity_of(site), identity_of_open(STDOUT_FILENO)};
+void keep_apart(const char *read, const char *plan, const char *table) {
+    const char *words[] = {read, "standard output", plan, table};
+    identity of[4] = {identity_of(read), identity_of_open(STDOUT_FILENO)};
     for (size_t i = 2; i < 4; i++)
         if (words[i] != NULL)
             of[i] = identity_of(words[i]);

@@ -46,11 +46,11 @@ void open_streams(void);
 /* Reads a file, `most` bytes of it at most, or standard input for -, which can be read once. */
 size_t read_file(const char *name, uint8_t *bytes, size_t most);
 
-/* Gives up where two of these are one file: the site, standard output, and the two results; the
-   results need not be there yet, and may be NULL. */
-void keep_apart(const char *site, const char *plan, const char *table);
+/* Gives up where two of these are one file: one that is read, standard output, and the two results;
+   the results need not be there yet, and may be NULL. */
+void keep_apart(const char *read, const char *plan, const char *table);
 
-/* Opens a result file that is another file than the site and writes numbers into it. */
+/* Writes numbers into a result file. */
 void write_numbers(const char *name, const uint8_t *numbers, size_t len, size_t in_a_line);
 
 /* Ends the writing of standard output. Returns `status`, or 2 where something was not written. */

@@ -7,7 +7,7 @@
     "\n"                                                                                           \
     "  towhepamu plan SITE [--plan FILE] [--table FILE]   print the listing of a site\n"           \
     "  towhepamu check SITE PLAN TABLE                    test a given plan and table\n"           \
-    "  towhepamu check SITE LISTING\n"                                                             \
+    "  towhepamu check SITE FILE                          the same of a listing or a dump\n"       \
     "  towhepamu compare SITE FILE                        compare a node with its plan\n"          \
     "  towhepamu sums SITE                                lay out the sums to add up by hand\n"    \
     "  towhepamu picture [--text] SITE                    draw the slot table\n"                   \

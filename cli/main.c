@@ -91,6 +91,8 @@ static int run(const command *of, char **words) {
         fputs(of->help, stdout);
         return WELL;
     }
+    for (size_t i = 0; i < given.files; i++)
+        keep_apart(given.file[i], given.plan, given.table);
     test_stack();
     return of->run(&given);
 }

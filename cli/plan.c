@@ -10,7 +10,6 @@ int run_plan(const arguments *given) {
     static uint8_t listing[TOWHEPAMU_MOST_LISTING_BYTES];
     const parsed_site *site = &answer.site;
     towhepamu_checked why;
-    keep_apart(given->file[0], given->plan, given->table);
     if (!plan_site(given->file[0], &answer, &why)) {
         printf("refused %" PRIu64 " %" PRIu64 "\n", why.refusal, why.place);
         return REFUSED;
