@@ -121,6 +121,7 @@ static void print_run(size_t core, int task, size_t first, size_t ticks, size_t 
            "stroke-width=\"%s\"><title>",
            core, task, first, ticks, x, top, width, LANE, fill, task == 0 ? "#bbb" : "#fff",
            width > 12 ? "1" : "0.5");
+    printf("core %zu: ", core);
     if (task == 0)
         printf("idle");
     else
