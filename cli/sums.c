@@ -1,0 +1,160 @@
+/* sums SITE: ticks, energy, penalty, cost and rows, laid out to be added up by hand. */
+#include "answer.h"
+#include "commands.h"
+#include "files.h"
+#include <inttypes.h>
+#include <stdio.h>
+
+enum { TICKS_IN_A_LINE = 20 };
+
+static void print_sum(const char *word, uint64_t sum) {
+    printf("%62s\n  %-46s%14" PRIu64 "\n", "--------------", word, sum);
+}
+
+/* Ticks are right where one tick fewer would not do. */
+static void print_ticks(const planned_site *answer) {
+    const parsed_site *site = &answer->site;
+    puts("ticks of a job: cycles / speed, rounded up");
+    puts("  task     cycles   speed   ticks");
+    for (size_t i = 0; i < site->tasks; i++) {
+        if (answer->plan[i] == 0)
+            continue;
+        uint64_t ticks = ticks_of(answer, i);
+        uint32_t cycles = site->task[i].cycles, speed = site->level[level_of(answer, i) - 1].speed;
+        printf("  %4zu  %9" PRIu32 " / %5" PRIu32 "  %6" PRIu64 "    %" PRIu64 " x %" PRIu32
+               " = %" PRIu64 " are too few, %" PRIu64 " x %" PRIu32 " = %" PRIu64 " do\n",
+               i + 1, cycles, speed, ticks, ticks - 1, speed, (ticks - 1) * speed, ticks, speed,
+               ticks * speed);
+    }
+}
+
+static uint64_t energy_of(const planned_site *answer, size_t task) {
+    return site_jobs(&answer->site, task) * ticks_of(answer, task) *
+           answer->site.level[level_of(answer, task) - 1].power;
+}
+
+static uint64_t print_energy(const planned_site *answer) {
+    const parsed_site *site = &answer->site;
+    uint64_t sum = 0;
+    puts("\nenergy of the kept tasks: jobs x ticks x power");
+    printf("%6s%6s%7s%8s%9s%9s%17s\n", "task", "core", "level", "jobs", "ticks", "power", "energy");
+    for (size_t i = 0; i < site->tasks; i++) {
+        if (answer->plan[i] == 0)
+            continue;
+        sum += energy_of(answer, i);
+        printf("  %4zu  %4zu  %5zu  %6" PRIu64 " x %6" PRIu64 " x %6" PRIu32 " = %14" PRIu64 "\n",
+               i + 1, core_of(answer, i), level_of(answer, i), site_jobs(site, i),
+               ticks_of(answer, i), site->level[level_of(answer, i) - 1].power,
+               energy_of(answer, i));
+    }
+    print_sum("all energy", sum);
+    return sum;
+}
+
+static uint64_t print_penalty(const planned_site *answer) {
+    const parsed_site *site = &answer->site;
+    uint64_t sum = 0;
+    puts("\npenalty of the refused tasks: jobs x penalty");
+    printf("%6s%21s%18s%17s\n", "task", "jobs", "of a job", "penalty");
+    for (size_t i = 0; i < site->tasks; i++) {
+        if (answer->plan[i] != 0)
+            continue;
+        uint64_t jobs = site_jobs(site, i), penalty = jobs * site->task[i].penalty;
+        sum += penalty;
+        printf("%6zu%21" PRIu64 " x %15" PRIu32 " = %14" PRIu64 "\n", i + 1, jobs,
+               site->task[i].penalty, penalty);
+    }
+    print_sum("all penalty", sum);
+    return sum;
+}
+
+/* "8 + 10 = 18": a core's sum over its tasks; nothing for none. */
+static uint64_t print_core_sum(const planned_site *answer, size_t core, const char *word,
+                               bool energy) {
+    uint64_t sum = 0;
+    const char *between = "";
+    printf("          %-7s", word);
+    for (size_t i = 0; i < answer->site.tasks; i++) {
+        if (core_of(answer, i) != core)
+            continue;
+        uint64_t one =
+            energy ? energy_of(answer, i) : site_jobs(&answer->site, i) * ticks_of(answer, i);
+        sum += one;
+        printf("%s%" PRIu64, between, one);
+        between = " + ";
+    }
+    if (*between != 0)
+        fputs(" = ", stdout);
+    printf("%" PRIu64, sum);
+    return sum;
+}
+
+/* Each core's load and energy; false where the row has another number of busy slots. */
+static bool print_cores(const planned_site *answer, uint64_t *energy) {
+    size_t span = answer->site.span;
+    bool right = true;
+    *energy = 0;
+    puts("\ncores: the load is the sum of jobs x ticks of its tasks");
+    for (size_t c = 1; c <= answer->site.cores; c++) {
+        size_t busy = 0;
+        for (size_t t = 0; t < span; t++)
+            busy += row_of(answer, c - 1)[t] != 0;
+        printf("  core %zu\n", c);
+        uint64_t load = print_core_sum(answer, c, "load", false);
+        printf(" of span %zu, %zu idle\n", span, span - busy);
+        *energy += print_core_sum(answer, c, "energy", true);
+        puts("");
+        right = right && load == busy;
+    }
+    return right;
+}
+
+static uint64_t print_cost(const parsed_site *site, uint64_t energy, uint64_t penalty) {
+    uint64_t of_energy = site->energy_weight * energy, of_penalty = site->penalty_weight * penalty;
+    puts("\ncost: weight x energy + weight x penalty");
+    printf("  energy %18" PRIu32 " x %15" PRIu64 " = %14" PRIu64 "\n", site->energy_weight, energy,
+           of_energy);
+    printf("  penalty%18" PRIu32 " x %15" PRIu64 " = %14" PRIu64 "\n", site->penalty_weight,
+           penalty, of_penalty);
+    print_sum("cost", of_energy + of_penalty);
+    return of_energy + of_penalty;
+}
+
+static void print_rows(const planned_site *answer) {
+    for (size_t c = 0; c < answer->site.cores; c++) {
+        printf("\ncore %zu, tick by tick; 0 is idle\n", c + 1);
+        for (size_t t = 0; t < answer->site.span; t++) {
+            if (t % TICKS_IN_A_LINE == 0) {
+                size_t last = t + TICKS_IN_A_LINE - 1;
+                last = last < answer->site.span ? last : answer->site.span - 1;
+                printf("  %4zu to %4zu:", t, last);
+            }
+            bool ends = (t + 1) % TICKS_IN_A_LINE == 0 || t + 1 == answer->site.span;
+            printf(" %2d%s", row_of(answer, c)[t], ends ? "\n" : "");
+        }
+    }
+}
+
+int run_sums(const arguments *given) {
+    static planned_site answer;
+    towhepamu_checked why;
+    if (!plan_site(given->file[0], &answer, &why))
+        return REFUSED;
+    const parsed_site *site = &answer.site;
+    printf("%s: %s, %s, %s, span %zu\n\n", file_words(site->file),
+           amount_of(site->cores, "core").text, amount_of(site->levels, "level").text,
+           amount_of(site->tasks, "task").text, site->span);
+    print_ticks(&answer);
+    uint64_t energy = print_energy(&answer), penalty = print_penalty(&answer), of_cores;
+    bool loads = print_cores(&answer, &of_cores);
+    uint64_t cost = print_cost(site, energy, penalty);
+    print_rows(&answer);
+    if (loads && of_cores == energy && energy == answer.price.energy &&
+        penalty == answer.price.penalty && cost == answer.price.cost)
+        return WELL;
+    fprintf(stderr,
+            "towhepamu: the sums are not the answer's: energy %" PRIu64 ", penalty %" PRIu64
+            ", cost %" PRIu64 "\n",
+            answer.price.energy, answer.price.penalty, answer.price.cost);
+    return UNUSABLE;
+}

@@ -1,0 +1,74 @@
+/* picture --text SITE: the slot table for a terminal, in lines of a fixed width. */
+#include "files.h"
+#include "picture.h"
+#include <inttypes.h>
+#include <stdio.h>
+
+enum { LINE = 60, BETWEEN_NUMBERS = 10 };
+
+void print_task_line(const planned_site *answer, size_t task) {
+    const parsed_site *site = &answer->site;
+    printf("task %zu: ", task + 1);
+    if (answer->plan[task] == 0)
+        printf("refused, penalty %s a job", grouped(site->task[task].penalty).text);
+    else
+        printf("core %zu, level %zu, %s a job", core_of(answer, task), level_of(answer, task),
+               amount_of(ticks_of(answer, task), "tick").text);
+    printf(", period %s, %s", grouped(site->task[task].period).text,
+           amount_of(site_jobs(site, task), "job").text);
+}
+
+/* A task's number as one character. */
+static char character_of(uint8_t task) {
+    return ".123456789abc"[task];
+}
+
+/* What stands for a tick in the line of a task's jobs. */
+static char job_character(size_t period, size_t tick) {
+    size_t within = tick % period;
+    if (period == 1)
+        return '|';
+    return within == 0 ? '[' : within == period - 1 ? ']' : '-';
+}
+
+static void print_axis(size_t first, size_t end) {
+    fputs("tick    ", stdout);
+    for (size_t t = first; t < end; t += BETWEEN_NUMBERS)
+        printf("%-*zu", t + BETWEEN_NUMBERS < end ? BETWEEN_NUMBERS : 1, t);
+    puts("");
+}
+
+static void print_lane(const planned_site *answer, size_t core, size_t first, size_t end) {
+    printf("core %zu  ", core);
+    for (size_t t = first; t < end; t++)
+        putchar(character_of(row_of(answer, core - 1)[t]));
+    puts("");
+    for (size_t i = 0; i < answer->site.tasks; i++) {
+        if (core_of(answer, i) != core)
+            continue;
+        printf("     %c  ", character_of((uint8_t)(i + 1)));
+        for (size_t t = first; t < end; t++)
+            putchar(job_character(answer->site.task[i].period, t));
+        puts("");
+    }
+}
+
+void print_text_picture(const planned_site *answer) {
+    size_t span = answer->site.span;
+    printf("%s: span %s, energy %s, penalty %s, cost %s\n", file_words(answer->site.file),
+           amount_of(span, "tick").text, grouped(answer->price.energy).text,
+           grouped(answer->price.penalty).text, grouped(answer->price.cost).text);
+    for (size_t first = 0; first < span; first += LINE) {
+        size_t end = first + LINE < span ? first + LINE : span;
+        puts("");
+        print_axis(first, end);
+        for (size_t c = 1; c <= answer->site.cores; c++)
+            print_lane(answer, c, first, end);
+    }
+    puts("\n. idle; [ a job's release, ] its last tick before it is due, | both in one tick");
+    for (size_t i = 0; i < answer->site.tasks; i++) {
+        printf("%c ", character_of((uint8_t)(i + 1)));
+        print_task_line(answer, i);
+        puts("");
+    }
+}
