@@ -11,14 +11,14 @@ done
 ln -sfn ../.. "$room/target"
 {
     cat crates.txt
-    echo 'timed: refusals schedule search'
+    echo 'timed: refusals tables search'
 } >"$room/crates.txt"
 cat >"$room/crates/timed/src/lib.rt" <<'END'
 use refusals::Verdict;
-use schedule::tabulate;
 use search::Found;
 use search::Shape;
 use search::cheapest_plan;
+use tables::tabulate;
 
 #[no_mangle]
 pub extern "C" fn timed_tabulate(words: &[u32], plan: &[u32], table: &mut [u8]) -> u64 {
