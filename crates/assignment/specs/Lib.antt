@@ -1,3 +1,4 @@
+pub mod Limits
 pub mod Values
 pub mod ValueLaws
 pub mod LeastLaws
