@@ -10,6 +10,7 @@ pub mod SetLaws
 pub mod Assignment
 pub mod Keys
 pub mod Keeping
+pub mod KeyLaws
 pub mod CoreTables
 pub mod Partition
 pub mod Choice
