@@ -1,7 +1,7 @@
 // How many sets and how many keys there are.
 ghost use mathlib.Core.Path.{_≡_};
 ghost use Prim.Native.Nat.{_^_, _≤_};
-ghost use Rattle.assignment.specs.Knapsacks.{keyBase};
+ghost use Rattle.assignment.specs.Keys.{keyBase};
 
 // What one place more in a key is worth: more than any choice, of which there are at most 32.
 pub const KEY_BASE: u64 = 33;

@@ -5,8 +5,8 @@ use mathlib.Core.Path.{_≡_, sym}
 use native.Mathlib.Numerals.{add-one}
 use native.Mathlib.Omega.{arith}
 use borrow.Author.Needs.{needs}
-use Rattle.assignment.specs.Bounds.{keys-fit}
-use Rattle.assignment.specs.Knapsacks.{keyBase}
+use Rattle.assignment.specs.KeyLaws.{keys-fit}
+use Rattle.assignment.specs.Keys.{keyBase}
 use Rattle.values.proofs.powers.keys_of.Statement.{statement}
 use Rattle.values.proofs.powers.keys_of.Tie as tie
 

@@ -1,0 +1,80 @@
+-- Tables of a value for each set of n items, small enough that what the partition adds up fits 64 bits, and the table of one
+-- core, which it starts from.
+use Prim.Native.Nat.{ℕ, _^_, _≤_, _<_}
+use mathlib.Core.Path.{_≡_, sym, ap₂}
+use mathlib.Core.Logic.{_⊎_, inl, inr}
+use mathlib.Core.Bool.{Bool}
+use mathlib.Core.List.{List}
+use native.Mathlib.Omega.{arith}
+use lib.ListN.{length, getD}
+use lib.Pow.{pow-mono}
+use Rattle.laws.specs.Below.{lt-or-le}
+use Rattle.assignment.specs.Limits.{mostItems, mostCoreCost}
+use Rattle.assignment.specs.Values.{Value, Within, absent, present}
+use Rattle.assignment.specs.Words.{noCost, valueOf, words-none, words-pair, words-within}
+use Rattle.assignment.specs.Keys.{keyBase}
+use Rattle.assignment.specs.Sets.{setNumber, tableAt, Tabled}
+use Rattle.assignment.specs.SetLaws.{numbered}
+use Rattle.assignment.specs.CoreTables.{Keyed}
+use Rattle.assignment.specs.Entries.{entryAt}
+
+-- no entry above noCost, no real cost above `most`, and every key of n digits
+pub record SmallTable (n most : ℕ) (costs keys : List ℕ) : Type 0 where
+  pub costs-for-all : 2 ^ n ≤ length costs
+  pub keys-for-all : 2 ^ n ≤ length keys
+  pub cost-bound : (x : ℕ) → x < 2 ^ n → getD costs x 0 ≤ noCost
+  pub real-bound : (x : ℕ) → x < 2 ^ n → getD costs x 0 < noCost → getD costs x 0 ≤ most
+  pub key-bound : (x : ℕ) → x < 2 ^ n → getD keys x 0 < keyBase ^ n
+
+-- each real entry has the key of a pattern that keeps exactly its set
+pub record OneCoreTable (n levels : ℕ) (costs keys : List ℕ) : Type 0 where
+  pub small : SmallTable n mostCoreCost costs keys
+  pub keyed : (S : List Bool) → length S ≡ n → Keyed levels S (tableAt n costs keys S)
+
+-- 2^n sets have room in the code's arrays
+pub room-for-sets : {n : ℕ} → n ≤ mostItems → 2 ^ n ≤ 4096
+room-for-sets few = pow-mono few
+
+module _ {n most : ℕ} {costs keys : List ℕ} where
+  pub small-within : SmallTable n most costs keys → (x : ℕ) → x < 2 ^ n → Within most (keyBase ^ n) (entryAt costs keys x)
+  unfolding entryAt
+  small-within table x h = go (lt-or-le (getD costs x 0) noCost)
+    where
+      go : (getD costs x 0 < noCost) ⊎ (noCost ≤ getD costs x 0) → Within most (keyBase ^ n) (valueOf (getD costs x 0) (getD keys x 0))
+      go (inl real) = rw (words-pair _ _ real) (present (table .real-bound x h real) (table .key-bound x h))
+      go (inr dear) = rw (words-none _ _ dear) absent
+
+  -- what is known of the values is known of their numbers; beside no cost the key has a bound of its own
+  pub small-by-values : 2 ^ n ≤ length costs → 2 ^ n ≤ length keys → ((x : ℕ) → x < 2 ^ n → getD costs x 0 ≤ noCost) →
+      ((x : ℕ) → x < 2 ^ n → noCost ≤ getD costs x 0 → getD keys x 0 < keyBase ^ n) →
+      ((S : List Bool) → length S ≡ n → Within most (keyBase ^ n) (tableAt n costs keys S)) → SmallTable n most costs keys
+  unfolding tableAt
+  small-by-values long keys-long bound no-key values =
+      record {
+        costs-for-all = long;
+        keys-for-all = keys-long;
+        cost-bound = bound;
+        real-bound = λ x h real. within x h real .0;
+        key-bound = λ x h. key x h (lt-or-le (getD costs x 0) noCost);
+      }
+    where
+      within : (x : ℕ) → x < 2 ^ n → getD costs x 0 < noCost → (getD costs x 0 ≤ most) × (getD keys x 0 < keyBase ^ n)
+      within x h real =
+          let s = numbered n x h in
+          words-within _ _ real (rw (s .number) at (values (s .set) (s .of-items)))
+
+      key : (x : ℕ) → x < 2 ^ n → (getD costs x 0 < noCost) ⊎ (noCost ≤ getD costs x 0) → getD keys x 0 < keyBase ^ n
+      key x h (inl real) = within x h real .1
+      key x h (inr dear) = no-key x h dear
+
+-- a table filled with values that are keyed and small
+pub one-core-table : {n levels : ℕ} {f : List Bool → Value} {costs keys : List ℕ} → Tabled n (keyBase ^ n) f costs keys →
+    ((S : List Bool) → length S ≡ n → Within mostCoreCost (keyBase ^ n) (f S)) →
+    ((S : List Bool) → length S ≡ n → Keyed levels S (f S)) → OneCoreTable n levels costs keys
+one-core-table {n} {levels} {f} {costs} {keys} tabled small keyed =
+    record {
+      small =
+          small-by-values (tabled .costs-for-all) (tabled .marks-for-all) (tabled .cost-bound) (λ x h dear. tabled .key-bound x h)
+          (λ S e. rw (tabled .holds S e) (small S e));
+      keyed = λ S e. rw (tabled .holds S e) (keyed S e);
+    }
