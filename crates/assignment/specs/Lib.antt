@@ -13,5 +13,8 @@ pub mod Keeping
 pub mod KeyLaws
 pub mod CoreTables
 pub mod Partition
+pub mod SplitLaws
+pub mod Halves
 pub mod Choice
 pub mod Refusing
+pub mod RefusingLaws
