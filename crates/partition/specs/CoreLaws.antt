@@ -2,8 +2,8 @@
 use Prim.Native.Nat.{ℕ, suc, _+_, _*_, _^_, _≤_, _<_}
 use mathlib.Core.Path.{_≡_, refl, sym, ap, ap₂, _∙_}
 use mathlib.Core.Logic.{_⊎_, inl, inr}
-use mathlib.Core.Bool.{Bool, true, false}
-use mathlib.Core.List.{List, [], _∷_}
+use mathlib.Core.Bool.{Bool}
+use mathlib.Core.List.{List}
 use native.Mathlib.Nat.{zero-add}
 use native.Mathlib.Omega.{arith}
 use lib.ListN.{length, getD}
@@ -18,21 +18,13 @@ use Rattle.assignment.specs.KeyLaws.{keys-fit}
 use Rattle.assignment.specs.Sets.{setNumber, tableAt}
 use Rattle.assignment.specs.SetLaws.{setNumber-below, numbered}
 use Rattle.assignment.specs.Partition.{leastSplit, moved}
+use Rattle.assignment.specs.SplitLaws.{part-length, leastSplit-parts}
 use Rattle.assignment.specs.Entries.{entryAt}
 use Rattle.partition.specs.Splits.{sumAt, leastFrom, LoweredFrom, SumsReady, SplitsReady}
 use Rattle.partition.specs.Moves.{MovesReady, MovedBelow}
 use Rattle.partition.specs.MoveLaws.{weight-below}
 use Rattle.partition.specs.Tables.{room-for-sets}
 use Rattle.partition.specs.Cores.{CoreReady, CoreAdded}
-
-pub leastSplit-same : {f g : List Bool → List Bool → Value} (S : List Bool) →
-    ((T R : List Bool) → length T ≡ length S → length R ≡ length S → f T R ≡ g T R) → leastSplit S f ≡ leastSplit S g
-unfolding leastSplit
-leastSplit-same [] same = same [] [] refl refl
-leastSplit-same (false ∷ S) same = leastSplit-same S (λ T R t r. same (false ∷ T) (false ∷ R) (ap suc t) (ap suc r))
-leastSplit-same (true ∷ S) same =
-    ap₂ lesser (leastSplit-same S (λ T R t r. same (true ∷ T) (false ∷ R) (ap suc t) (ap suc r)))
-    (leastSplit-same S (λ T R t r. same (false ∷ T) (true ∷ R) (ap suc t) (ap suc r)))
 
 module _ {n shift : ℕ} {tops topKeys costs keys : List ℕ} (ready : CoreReady n shift tops topKeys costs keys) where
   pub moves-ready : {lent : List ℕ} → 2 ^ n ≤ length lent → MovesReady n shift topKeys lent
@@ -108,7 +100,7 @@ module _ {n shift : ℕ} {tops topKeys costs keys : List ℕ} (ready : CoreReady
         leastFrom n (sumAt tops movedKeys costs keys) 0 0 S
         ≡ leastSplit S (λ T R. add (moved shift (tableAt n tops topKeys) T) (tableAt n costs keys R))
     unfolding leastFrom
-    sums-same S of-items = leastSplit-same S (λ T R t r. sum-value T R (t ∙ of-items))
+    sums-same S of-items = leastSplit-parts S (λ T R p. sum-value T R (part-length p ∙ of-items))
 
     module _ {blank blankKeys next nextKeys costs' keys' : List ℕ}
         (nothing : (x : ℕ) → x < 2 ^ n → getD blank x 0 ≡ noCost) (no-key : (x : ℕ) → x < 2 ^ n → getD blankKeys x 0 ≡ 0)
@@ -137,7 +129,8 @@ module _ {n shift : ℕ} {tops topKeys costs keys : List ℕ} (ready : CoreReady
               let below = setNumber-below n S in
               let there : entryAt next nextKeys x ≡ lesser (entryAt blank blankKeys x) (leastFrom n (sumAt tops movedKeys costs keys) 0 0 S) =
               rw zero-add at (lowered .there S of-items) in
-              rw (cost-at x below, key-at x below) there ∙ rw (nothing-at x below) (lesser-is-second to-none ∙ sums-same S of-items)
+              let same : entryAt costs' keys' x ≡ entryAt next nextKeys x = rw (cost-at x below, key-at x below) in
+              same ∙ there ∙ rw (nothing-at x below) (lesser-is-second to-none ∙ sums-same S of-items)
 
           bounded : (x : ℕ) → x < 2 ^ n →
               (getD next x 0 < getD blank x 0) ⊎ ((getD next x 0 ≡ getD blank x 0) × (getD nextKeys x 0 ≤ getD blankKeys x 0)) →

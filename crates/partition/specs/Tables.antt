@@ -1,7 +1,7 @@
 -- Tables of a value for each set of n items, small enough that what the partition adds up fits 64 bits, and the table of one
 -- core, which it starts from.
 use Prim.Native.Nat.{ℕ, _^_, _≤_, _<_}
-use mathlib.Core.Path.{_≡_, sym, ap₂}
+use mathlib.Core.Path.{_≡_}
 use mathlib.Core.Logic.{_⊎_, inl, inr}
 use mathlib.Core.Bool.{Bool}
 use mathlib.Core.List.{List}
@@ -15,7 +15,7 @@ use Rattle.assignment.specs.Words.{noCost, valueOf, words-none, words-pair, wor
 use Rattle.assignment.specs.Keys.{keyBase}
 use Rattle.assignment.specs.Sets.{setNumber, tableAt, Tabled}
 use Rattle.assignment.specs.SetLaws.{numbered}
-use Rattle.assignment.specs.CoreTables.{Keyed}
+use Rattle.assignment.specs.Bounds.{BoundedTable, bounded-within}
 use Rattle.assignment.specs.Entries.{entryAt}
 
 -- no entry above noCost, no real cost above `most`, and every key of n digits
@@ -26,10 +26,13 @@ pub record SmallTable (n most : ℕ) (costs keys : List ℕ) : Type 0 where
   pub real-bound : (x : ℕ) → x < 2 ^ n → getD costs x 0 < noCost → getD costs x 0 ≤ most
   pub key-bound : (x : ℕ) → x < 2 ^ n → getD keys x 0 < keyBase ^ n
 
--- each real entry has the key of a pattern that keeps exactly its set
+-- each real entry has a cost of at most mostCoreCost, and the key of a pattern that keeps exactly its set
 pub record OneCoreTable (n levels : ℕ) (costs keys : List ℕ) : Type 0 where
-  pub small : SmallTable n mostCoreCost costs keys
-  pub keyed : (S : List Bool) → length S ≡ n → Keyed levels S (tableAt n costs keys S)
+  pub costs-for-all : 2 ^ n ≤ length costs
+  pub keys-for-all : 2 ^ n ≤ length keys
+  pub cost-bound : (x : ℕ) → x < 2 ^ n → getD costs x 0 ≤ noCost
+  pub key-bound : (x : ℕ) → x < 2 ^ n → getD keys x 0 < keyBase ^ n
+  pub bounded : BoundedTable levels n mostCoreCost (tableAt n costs keys)
 
 -- 2^n sets have room in the code's arrays
 pub room-for-sets : {n : ℕ} → n ≤ mostItems → 2 ^ n ≤ 4096
@@ -67,14 +70,20 @@ module _ {n most : ℕ} {costs keys : List ℕ} where
       key x h (inl real) = within x h real .1
       key x h (inr dear) = no-key x h dear
 
--- a table filled with values that are keyed and small
+pub one-core-small : {n levels : ℕ} {costs keys : List ℕ} → levels < keyBase → OneCoreTable n levels costs keys →
+    SmallTable n mostCoreCost costs keys
+one-core-small digit given =
+    small-by-values (given .costs-for-all) (given .keys-for-all) (given .cost-bound) (λ x h dear. given .key-bound x h)
+    (bounded-within digit (given .bounded))
+
+-- of a table that was filled with some values it is left to show that these are small
 pub one-core-table : {n levels : ℕ} {f : List Bool → Value} {costs keys : List ℕ} → Tabled n (keyBase ^ n) f costs keys →
-    ((S : List Bool) → length S ≡ n → Within mostCoreCost (keyBase ^ n) (f S)) →
-    ((S : List Bool) → length S ≡ n → Keyed levels S (f S)) → OneCoreTable n levels costs keys
-one-core-table {n} {levels} {f} {costs} {keys} tabled small keyed =
+    BoundedTable levels n mostCoreCost (tableAt n costs keys) → OneCoreTable n levels costs keys
+one-core-table filled bounded =
     record {
-      small =
-          small-by-values (tabled .costs-for-all) (tabled .marks-for-all) (tabled .cost-bound) (λ x h dear. tabled .key-bound x h)
-          (λ S e. rw (tabled .holds S e) (small S e));
-      keyed = λ S e. rw (tabled .holds S e) (keyed S e);
+      costs-for-all = filled .costs-for-all;
+      keys-for-all = filled .marks-for-all;
+      cost-bound = filled .cost-bound;
+      key-bound = filled .key-bound;
+      bounded = bounded;
     }
