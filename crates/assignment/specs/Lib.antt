@@ -17,6 +17,7 @@ pub mod Partition
 pub mod SplitLaws
 pub mod CoreSplits
 pub mod Bounds
+pub mod PartitionLaws
 pub mod Halves
 pub mod Choice
 pub mod Refusing
