@@ -22,3 +22,6 @@ pub mod Halves
 pub mod Choice
 pub mod Refusing
 pub mod RefusingLaws
+pub mod ChoiceLaws
+pub mod Cheapest
+pub mod SearchTheorem
