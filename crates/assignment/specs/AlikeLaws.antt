@@ -1,14 +1,13 @@
 -- Options that differ only in patterns that no core runs, and in the costs of patterns that none admits, have the same least
 -- values, allowed plans, costs and best plan.
 use Prim.Native.Nat.{ℕ, _+_}
-use mathlib.Core.Bool.{Bool, true}
+use mathlib.Core.Bool.{Bool}
 use mathlib.Core.List.{List}
 use mathlib.Core.Logic.{inl, inr}
 use mathlib.Core.Path.{_≡_, sym, ap, ap₂, _∙_}
 use lib.ListN.{length}
-use Rattle.assignment.specs.Assignment.{Item, Options, corePattern, coresCost, refusedCost, totalCost, Allowed, Best}
+use Rattle.assignment.specs.Assignment.{Item, Options, coresCost, refusedCost, totalCost, Allowed, Best}
 use Rattle.assignment.specs.Values.{Value, none, pair, AtMost, Attained}
-use Rattle.assignment.specs.Keys.{planKey}
 use Rattle.assignment.specs.Keeping.{Keeps}
 use Rattle.assignment.specs.CoreTables.{Admitted, patternWorth, CoreTable}
 use Rattle.assignment.specs.PartitionLaws.{cores-cost-same}

@@ -27,3 +27,4 @@ pub mod AllowedLaws
 pub mod Cheapest
 pub mod SearchTheorem
 pub mod AlikeLaws
+pub mod SettledTheorem
