@@ -39,14 +39,14 @@ bounded-within {choices} {n} {most} small bounded S of-items = go (bounded .entr
 
 -- a table of least values, where no admitted pattern costs more than `most`
 pub core-table-bounded : {o : Options} {table : List Bool → Value} {most : ℕ} → CoreTable o table →
-    ((T : List Bool) (pattern : List ℕ) → Admitted o T pattern → o .coreCost pattern ≤ most) →
+    ((T : List Bool) → length T ≡ length (o .items) → (pattern : List ℕ) → Admitted o T pattern → o .coreCost pattern ≤ most) →
     BoundedTable (o .levels) (length (o .items)) most table
 unfolding patternWorth
-core-table-bounded {o} {table} {most} core cheap = record { entry = λ T of-items. go T (core .least T of-items .attained) }
+core-table-bounded {o} {table} {most} core cheap = record { entry = λ T of-items. go T of-items (core .least T of-items .attained) }
   where
-    go : (T : List Bool) → {v : Value} → Attained (Admitted o T) (patternWorth o) v → Bounded (o .levels) most T v
-    go T (inl e) = rw e absent
-    go T (inr (pattern, admitted, e)) = rw e (present (o .coreCost pattern) (cheap T pattern admitted) (admitted .keeps))
+    go : (T : List Bool) → length T ≡ length (o .items) → {v : Value} → Attained (Admitted o T) (patternWorth o) v → Bounded (o .levels) most T v
+    go T of-items (inl e) = rw e absent
+    go T of-items (inr (pattern, admitted, e)) = rw e (present (o .coreCost pattern) (cheap T of-items pattern admitted) (admitted .keeps))
 
 sum-bounded : (c : ℕ) {levels a b : ℕ} {S T R : List Bool} {u v : Value} → Parts S T R → Bounded levels a T u →
     Bounded (c * levels) b R v →

@@ -17,7 +17,14 @@ pub mod Partition
 pub mod SplitLaws
 pub mod CoreSplits
 pub mod Bounds
+pub mod PartitionLaws
 pub mod Halves
 pub mod Choice
 pub mod Refusing
 pub mod RefusingLaws
+pub mod ChoiceLaws
+pub mod AllowedLaws
+pub mod Cheapest
+pub mod SearchTheorem
+pub mod AlikeLaws
+pub mod SettledTheorem
