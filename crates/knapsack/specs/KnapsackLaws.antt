@@ -11,7 +11,7 @@ use borrow.Author.Tests.{le-leb, leb-true}
 use lib.Dec.{leb}
 use lib.ListN.{length}
 use Rattle.assignment.specs.Assignment.{Item, Options}
-use Rattle.assignment.specs.CoreTables.{Admitted, patternWorth, CoreTable}
+use Rattle.assignment.specs.CoreTables.{Admitted, patternWorth, CoreTable, Keyed, absent, present}
 use Rattle.assignment.specs.Keeping.{Keeps, done, refused, kept}
 use Rattle.assignment.specs.KeyLaws.{keeps-length}
 use Rattle.assignment.specs.Keys.{keyBase, planKey}
@@ -120,6 +120,16 @@ knapsack-least levels offers T w beside =
       below = λ pattern fitting. knapsack-below offers w beside (fitting .keeps) (fitting .fits);
       attained = knapsack-attained levels offers T w beside;
     }
+
+-- so its key is that of such a pattern
+pub knapsack-keyed : (levels : ℕ) (offers : List Offer) (T : List Bool) (w : ℕ) → length T ≡ length offers →
+    Keyed levels T (knapsack levels offers T w)
+unfolding offeredWorth
+knapsack-keyed levels offers T w beside = go (knapsack-attained levels offers T w beside)
+  where
+    go : {v : Value} → KnapsackAttains levels offers T w v → Keyed levels T v
+    go (inl e) = rw e absent
+    go (inr (pattern, fitting, e)) = rw e (present _ (fitting .keeps))
 
 pub knapsack-table : (cores levels capacity : ℕ) (offers : List Offer) (items : List Item) → length offers ≡ length items →
     CoreTable (loadOptions cores levels capacity offers items) (λ T. knapsack levels offers T capacity)
