@@ -11,7 +11,17 @@ pub mod Assignment
 pub mod Keys
 pub mod Keeping
 pub mod KeyLaws
+pub mod KeepingLaws
 pub mod CoreTables
 pub mod Partition
+pub mod SplitLaws
+pub mod CoreSplits
+pub mod Bounds
+pub mod PartitionLaws
+pub mod Halves
 pub mod Choice
 pub mod Refusing
+pub mod RefusingLaws
+pub mod ChoiceLaws
+pub mod Cheapest
+pub mod SearchTheorem

@@ -6,6 +6,13 @@ use mathlib.Core.List.{List, [], _∷_}
 use Rattle.assignment.specs.Keys.{weight}
 use Rattle.assignment.specs.Values.{Value, pair, add, lesser}
 
+-- every item of a set is in one of two parts
+pub data Parts : List Bool → List Bool → List Bool → Type 0 where
+  nothing : Parts [] [] []
+  neither : {S T R : List Bool} → Parts S T R → Parts (false ∷ S) (false ∷ T) (false ∷ R)
+  first : {S T R : List Bool} → Parts S T R → Parts (true ∷ S) (true ∷ T) (false ∷ R)
+  second : {S T R : List Bool} → Parts S T R → Parts (true ∷ S) (false ∷ T) (true ∷ R)
+
 -- the least f part rest over all ways to part a set
 unfoldable pub leastSplit : List Bool → (List Bool → List Bool → Value) → Value
 leastSplit [] f = f [] []
