@@ -7,8 +7,8 @@ use generator::tally;
 use generator::tally::add;
 use generator::tally::add_if;
 use generator::words_differ;
+use prices::Priced;
 use refusals::Refusal;
-use schedule::Priced;
 
 // How many elements of each buffer are lent.
 pub(crate) struct Rooms {

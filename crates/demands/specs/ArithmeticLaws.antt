@@ -15,12 +15,13 @@ use Rattle.refusals.specs.Refusals.{accepted}
 use Rattle.refusals.specs.RoomLaws.{enough-room}
 use Rattle.instance.specs.SiteFile.{problemOf}
 use Rattle.refusals.specs.declared.Verdict.the-variants.{Accepted}
-use Rattle.schedule.specs.CheckLaws.{choices-pass}
-use Rattle.schedule.specs.Checks.{check}
-use Rattle.schedule.specs.Outcomes.{checkOutcome, checkOutcomeOf}
-use Rattle.schedule.specs.Plans.{choicesPass}
-use Rattle.schedule.specs.Quantities.{isRefused, levelOf, ticks, jobTicks, jobs, penalty, cost, priceOf}
-use Rattle.schedule.specs.Tables.{tableSize}
+use Rattle.plan_rules.specs.AllowedPlanLaws.{choices-pass}
+use Rattle.checks.specs.Checks.{check}
+use Rattle.checks.specs.Outcomes.{checkOutcome, checkOutcomeOf}
+use Rattle.plan_rules.specs.Plans.{choicesPass}
+use Rattle.plan_rules.specs.Quantities.{isRefused, levelOf, ticks, jobTicks, jobs}
+use Rattle.prices.specs.Prices.{penalty, cost, priceOf}
+use Rattle.tables.specs.Tables.{tableSize}
 use Rattle.planner.specs.CostLaws.{energy-of-kept-tasks}
 use Rattle.planner.specs.Outcomes.{planAnswered, planOutcome}
 use Rattle.planner.specs.PlannedLaws.{where-room}

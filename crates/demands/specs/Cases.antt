@@ -15,13 +15,14 @@ use Rattle.laws.specs.Lists.{listOf, joined, onto}
 use Rattle.laws.specs.Multiples.{lcm}
 use Rattle.laws.specs.Search.{first}
 use Rattle.laws.specs.Sums.{sum}
-use Rattle.schedule.specs.Plans.{isMust, badChoice, choicesPass, fits, coresFit, planPasses}
-use Rattle.schedule.specs.Quantities.{keeps, ticks, jobTicks, ticksOn, jobs, loadOn, coreLoad, coreEnergy, energy, penalty, cost, priceOf}
+use Rattle.plan_rules.specs.Plans.{isMust, badChoice, choicesPass, fits, coresFit, planPasses}
+use Rattle.plan_rules.specs.Quantities.{keeps, ticks, jobTicks, ticksOn, jobs, loadOn, coreLoad}
+use Rattle.prices.specs.Prices.{coreEnergy, energy, penalty, cost, priceOf}
 use Rattle.dispatch.specs.Rows.{dueAt, afterRelease, earliest, chosen, afterRun, step, dispatched, row}
-use Rattle.schedule.specs.Tables.{coreTasks, tableSize, tableOf}
-use Rattle.schedule.specs.declared.prices.Price.{Price}
-use Rattle.schedule.specs.declared.prices.Priced.{Priced}
-use Rattle.schedule.specs.declared.prices.Priced.the-variants as Priced
+use Rattle.tables.specs.Tables.{coreTasks, tableSize, tableOf}
+use Rattle.prices.specs.declared.amounts.Price.{Price}
+use Rattle.prices.specs.declared.amounts.Priced.{Priced}
+use Rattle.prices.specs.declared.amounts.Priced.the-variants as Priced
 use Rattle.planner.specs.Outcomes.{PlanOutcome, planOutcome}
 use Rattle.planner.specs.Planning.{choiceLists, isAllowed, better, firstCheapest, bestPlan}
 

@@ -30,18 +30,24 @@ use Rattle.refusals.specs.declared.Refusal.{Refusal}
 use Rattle.refusals.specs.declared.Refusal.the-variants.{Text, WordCount, WordRange, SpanTooLong, NoPlan, ShortBuffer, GivenPlan, CoreOverloaded, GivenTable, JobSlots}
 use Rattle.refusals.specs.declared.Verdict.the-variants.{Accepted, Refused}
 use Rattle.text.specs.declared.TextRead.the-variants as TextRead
-use Rattle.schedule.specs.CheckTheorem.{check-accepts-exactly-drawings, check-accepts-exactly-drawn-tables}
-use Rattle.schedule.specs.Drawings.{DrawnTable, Drawing}
-use Rattle.schedule.specs.EndingLaws.{pricing-ends, tabling-ends, checking-ends}
-use Rattle.schedule.specs.Outcomes.{priceOutcome, tableOutcome, checkOutcome, PricingEnds, TablingEnds, CheckingEnds}
-use Rattle.schedule.specs.PassingPlanLaws.{passing-plan-is-priced, passing-plan-is-tabled}
-use Rattle.schedule.specs.Periods.{valid-is-periodic}
-use Rattle.schedule.specs.Plans.{choicesPass, planPasses}
-use Rattle.schedule.specs.Quantities.{isRefused, levelOf, ticks, jobTicks, jobs, priceOf}
-use Rattle.schedule.specs.Tables.{tableOf, tableSize}
-use Rattle.schedule.specs.WorkedOut.{WorkedOut}
-use Rattle.schedule.specs.WorkedOutLaws.{worked-out-is-table}
-use Rattle.schedule.specs.declared.prices.Priced.the-variants as Priced
+use Rattle.drawings.specs.CheckTheorem.{check-accepts-exactly-drawings, check-accepts-exactly-drawn-tables}
+use Rattle.drawings.specs.Drawings.{DrawnTable, Drawing}
+use Rattle.prices.specs.EndingLaws.{pricing-ends}
+use Rattle.tables.specs.EndingLaws.{tabling-ends}
+use Rattle.checks.specs.EndingLaws.{checking-ends}
+use Rattle.prices.specs.Outcomes.{priceOutcome, PricingEnds}
+use Rattle.tables.specs.Outcomes.{tableOutcome, TablingEnds}
+use Rattle.checks.specs.Outcomes.{checkOutcome, CheckingEnds}
+use Rattle.prices.specs.OutcomeLaws.{passing-plan-is-priced}
+use Rattle.tables.specs.OutcomeLaws.{passing-plan-is-tabled}
+use Rattle.tables.specs.Periods.{valid-is-periodic}
+use Rattle.plan_rules.specs.Plans.{choicesPass, planPasses}
+use Rattle.plan_rules.specs.Quantities.{isRefused, levelOf, ticks, jobTicks, jobs}
+use Rattle.prices.specs.Prices.{priceOf}
+use Rattle.tables.specs.Tables.{tableOf, tableSize}
+use Rattle.drawings.specs.WorkedOut.{WorkedOut}
+use Rattle.drawings.specs.WorkedOutLaws.{worked-out-is-table}
+use Rattle.prices.specs.declared.amounts.Priced.the-variants as Priced
 use Rattle.demands.specs.ArithmeticLaws.{ticks-round-up, priced-energy, priced-penalty, priced-cost, checked-as-defined, best-plan-is-written}
 use Rattle.planner.specs.BestDrawingLaws.{no-plan-iff-no-drawing, answered-is-best-drawing}
 use Rattle.planner.specs.EndingLaws.{planning-ends}

@@ -19,14 +19,15 @@ use Rattle.refusals.specs.declared.Verdict.{Verdict}
 use Rattle.refusals.specs.declared.Verdict.the-variants.{Accepted, Refused}
 use Rattle.text.specs.OutcomeLaws.{text-refuses-1}
 use Rattle.text.specs.Text.{wordsOf}
-use Rattle.schedule.specs.Checks.{slotsPass, jobsPass}
-use Rattle.schedule.specs.EndingLaws.{checking-ends}
-use Rattle.schedule.specs.Outcomes.{priceVerdict, checkOutcome}
-use Rattle.schedule.specs.Periods.{valid-is-periodic}
-use Rattle.schedule.specs.Plans.{choicesPass}
-use Rattle.schedule.specs.Tables.{tableSize}
-use Rattle.schedule.specs.declared.prices.Priced.{Priced}
-use Rattle.schedule.specs.declared.prices.Priced.the-variants as Priced
+use Rattle.checks.specs.Checks.{slotsPass, jobsPass}
+use Rattle.checks.specs.EndingLaws.{checking-ends}
+use Rattle.prices.specs.Outcomes.{priceVerdict}
+use Rattle.checks.specs.Outcomes.{checkOutcome}
+use Rattle.tables.specs.Periods.{valid-is-periodic}
+use Rattle.plan_rules.specs.Plans.{choicesPass}
+use Rattle.tables.specs.Tables.{tableSize}
+use Rattle.prices.specs.declared.amounts.Priced.{Priced}
+use Rattle.prices.specs.declared.amounts.Priced.the-variants as Priced
 use Rattle.planner.specs.BestDrawingLaws.{answered-is-best-drawing}
 use Rattle.planner.specs.EndingLaws.{planning-ends}
 use Rattle.planner.specs.Endings.{planFound}

@@ -12,13 +12,13 @@ use Rattle.refusals.specs.declared.Refusal.{Refusal}
 use Rattle.refusals.specs.declared.Verdict.{Verdict}
 use Rattle.refusals.specs.declared.Verdict.the-variants.{Refused}
 use Rattle.text.specs.Text.{wordsOf}
-use Rattle.schedule.specs.Checks.{slotsPass, jobsPass}
-use Rattle.schedule.specs.Outcomes.{priceVerdict}
-use Rattle.schedule.specs.Plans.{choicesPass}
-use Rattle.schedule.specs.Quantities.{priceOf}
-use Rattle.schedule.specs.Tables.{tableOf, tableSize}
-use Rattle.schedule.specs.declared.prices.Priced.{Priced}
-use Rattle.schedule.specs.declared.prices.Priced.the-variants as Priced
+use Rattle.checks.specs.Checks.{slotsPass, jobsPass}
+use Rattle.prices.specs.Outcomes.{priceVerdict}
+use Rattle.plan_rules.specs.Plans.{choicesPass}
+use Rattle.prices.specs.Prices.{priceOf}
+use Rattle.tables.specs.Tables.{tableOf, tableSize}
+use Rattle.prices.specs.declared.amounts.Priced.{Priced}
+use Rattle.prices.specs.declared.amounts.Priced.the-variants as Priced
 use Rattle.planner.specs.Endings.{planFound}
 use Rattle.planner.specs.Planned.{NoDrawing, BestDrawing}
 use Rattle.planner.specs.Planning.{bestPlan}

@@ -8,9 +8,9 @@ use mathlib.Core.Path.{_≡_}
 use lib.ListN.{length, take}
 use Rattle.instance.specs.Node.{Problem, taskCount}
 use Rattle.refusals.specs.Refusals.{answerOf}
-use Rattle.schedule.specs.Drawings.{Drawing}
-use Rattle.schedule.specs.Outcomes.{priceVerdict}
-use Rattle.schedule.specs.Tables.{tableSize}
+use Rattle.drawings.specs.Drawings.{Drawing}
+use Rattle.prices.specs.Outcomes.{priceVerdict}
+use Rattle.tables.specs.Tables.{tableSize}
 use Rattle.demands.specs.Demands.{demand-3}
 use Rattle.desk.specs.DeskOutcomes.{plannedOf, checkedOf, textPlanOutcome, textCheckOutcome}
 use Rattle.listings.specs.Listing.{listingOf}

@@ -6,9 +6,9 @@ use Rattle.refusals.specs.Refusals.{Reading, refused, accepted, numberOf, place
 use Rattle.text.specs.Text.{wordsOf}
 use Rattle.refusals.specs.declared.Verdict.{Verdict}
 use Rattle.refusals.specs.declared.Verdict.the-variants.{Accepted, Refused}
-use Rattle.schedule.specs.Outcomes.{checkOutcome}
-use Rattle.schedule.specs.declared.prices.Priced.{Priced}
-use Rattle.schedule.specs.declared.prices.Priced.the-variants as Priced
+use Rattle.checks.specs.Outcomes.{checkOutcome}
+use Rattle.prices.specs.declared.amounts.Priced.{Priced}
+use Rattle.prices.specs.declared.amounts.Priced.the-variants as Priced
 use Rattle.planner.specs.Outcomes.{PlanOutcome, planRefused, planOutcome}
 use Rattle.desk.specs.declared.answers.Checked.{Checked}
 use Rattle.desk.specs.declared.answers.Planned.{Planned}

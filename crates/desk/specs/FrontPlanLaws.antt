@@ -16,10 +16,10 @@ use Rattle.instance.specs.SiteFile.{problemOf}
 use Rattle.instance.specs.SiteFileLaws.{accepted-is-valid}
 use Rattle.refusals.specs.declared.Refusal.the-variants.{GivenPlan}
 use Rattle.refusals.specs.declared.Verdict.the-variants.{Refused}
-use Rattle.schedule.specs.Checks.{check}
-use Rattle.schedule.specs.Outcomes.{checkOutcomeOf, checkOutcome}
-use Rattle.schedule.specs.Plans.{choicesPass}
-use Rattle.schedule.specs.VerdictLaws.{longer-is-refused}
+use Rattle.checks.specs.Checks.{check}
+use Rattle.checks.specs.Outcomes.{checkOutcomeOf, checkOutcome}
+use Rattle.plan_rules.specs.Plans.{choicesPass}
+use Rattle.refusals.specs.VerdictLaws.{longer-is-refused}
 
 longer-plan-is-refused : (p : Problem) (plan : List ℕ) → taskCount p < length plan →
     choicesPass p plan ≡ Refused (GivenPlan (taskCount p))

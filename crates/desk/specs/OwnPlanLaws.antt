@@ -20,11 +20,11 @@ use Rattle.refusals.specs.declared.Refusal.{Refusal}
 use Rattle.refusals.specs.declared.Refusal.the-variants.{ShortBuffer}
 use Rattle.refusals.specs.declared.Verdict.{Verdict}
 use Rattle.refusals.specs.declared.Verdict.the-variants.{Accepted, Refused}
-use Rattle.schedule.specs.ReadLaws.{HoldsProblemOf}
-use Rattle.schedule.specs.Tables.{tableSize}
-use Rattle.schedule.specs.declared.prices.Price.{Price}
-use Rattle.schedule.specs.declared.prices.Priced.{Priced}
-use Rattle.schedule.specs.declared.prices.Priced.the-variants as Priced
+use Rattle.instance.specs.ReadLaws.{HoldsProblemOf}
+use Rattle.tables.specs.Tables.{tableSize}
+use Rattle.prices.specs.declared.amounts.Price.{Price}
+use Rattle.prices.specs.declared.amounts.Priced.{Priced}
+use Rattle.prices.specs.declared.amounts.Priced.the-variants as Priced
 use Rattle.planner.specs.EndingLaws.{best-plan-length}
 use Rattle.planner.specs.Outcomes.{PlanOutcome, planRefused, planAnswered, planWhere, planOutcome}
 use Rattle.planner.specs.PlannedLaws.{of-reading, where-room}

@@ -1,8 +1,8 @@
 // What the calls return: the paper's numbers.
+use prices::Priced;
 use refusals::Verdict;
 use refusals::refusal_number;
 use refusals::refusal_place;
-use schedule::Priced;
 ghost use mathlib.Core.Path.{_≡_};
 ghost use Rattle.desk.specs.DeskOutcomes.{plannedOf, checkedOf};
 

@@ -2,15 +2,15 @@
 use crate::answers::Checked;
 use crate::answers::checked_of;
 use crate::choices::words_of_bytes;
+use checks::check_table;
 use ranges::MOST_TASKS;
 use ranges::MOST_TEXT_WORDS;
 use refusals::Verdict;
-use schedule::check_table;
 use text::TextRead;
 use text::words_of_text;
 ghost use mathlib.Core.Path.{_≡_};
 ghost use Rattle.desk.specs.DeskOutcomes.{checkedOf, textCheckOutcome};
-ghost use Rattle.schedule.specs.Outcomes.{checkOutcome};
+ghost use Rattle.checks.specs.Outcomes.{checkOutcome};
 
 // A plan of more than MOST_TASKS choices is too long for every instance, and so are its first MOST_TASKS + 1.
 fn check_words(words: &[u32], plan: &[u8], table: &[u8]) -> Verdict

@@ -7,9 +7,9 @@ use crate::tried::none_tried;
 use crate::tried::refused;
 use crate::tried::with_cheaper;
 use crate::tried::with_other;
+use prices::Price;
+use prices::Priced;
 use refusals::Refusal;
-use schedule::Price;
-use schedule::Priced;
 
 // More than the plans of four tasks on three cores with four levels, which are 13 * 13 * 13 * 13.
 const MOST_PLANS: u64 = 30_000;
@@ -43,7 +43,7 @@ fn with_plan(
 fn price_front(words: &[u32], choices: &[u32; 12], n: usize) -> Priced {
     let all = &choices[..];
     if n <= all.len() {
-        return schedule::price(words, &all[0..n]);
+        return prices::price(words, &all[0..n]);
     }
     Priced::Refused(Refusal::NoPlan)
 }
@@ -121,7 +121,7 @@ fn refusal_before(site: Site, plan_room: usize, table_room: usize) -> [u64; 5] {
 fn tabulate_front(words: &[u32], plan: &[u32; 12], n: usize, table: &mut [u8; 128]) {
     let all = &plan[..];
     if n <= all.len() {
-        schedule::tabulate(words, &all[0..n], table);
+        tables::tabulate(words, &all[0..n], table);
     }
 }
 

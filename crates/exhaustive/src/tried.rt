@@ -1,5 +1,5 @@
 // What comes of trying plans one after another.
-use schedule::Price;
+use prices::Price;
 
 // The answer as five numbers: the refusal's number and place, energy, penalty and cost; and how many plans were tried, how
 // many of them were priced, which is not refused, how many of these cost as little as the best, and whether all were tried.

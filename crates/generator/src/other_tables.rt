@@ -93,7 +93,7 @@ fn kept_task(words: &[u32], span: u32, choice: u32, i: u8, first: u32) -> Kept {
         number: std::num::wrapping_add_u8(i, 1),
         row: row_of(choice, levels, span),
         period: word(words, at),
-        ticks: schedule::ticks_of(word(words, at + 1), speed_of(words, choice, levels)),
+        ticks: plan_rules::ticks_of(word(words, at + 1), speed_of(words, choice, levels)),
         first,
     }
 }

@@ -6,15 +6,15 @@ use crate::other_tables::fill_table;
 use crate::tally;
 use crate::tally::add;
 use crate::tally::add_if;
+use prices::Priced;
 use refusals::Verdict;
-use schedule::Priced;
 
 fn passes_check(words: &[u32], plan: &[u32], table: &[u8; 128], slots: usize) -> bool {
     let all = &table[..];
     if all.len() < slots {
         return false;
     }
-    match schedule::check_table(words, plan, &all[0..slots]) {
+    match checks::check_table(words, plan, &all[0..slots]) {
         Verdict::Accepted => true,
         Verdict::Refused(_) => false,
     }
@@ -34,7 +34,7 @@ fn draw_plan(plan: &mut [u32; 12], n: usize, choices: u32, state: &mut u32) {
 // Whether a table is not the plan's own.
 fn is_other(words: &[u32], plan: &[u32], table: &[u8; 128]) -> bool {
     let mut own = [0u8; 128];
-    schedule::tabulate(words, plan, &mut own);
+    tables::tabulate(words, plan, &mut own);
     bytes_differ(table, &own)
 }
 
@@ -55,7 +55,7 @@ fn count_drawing(
 ) {
     add(counts, tally::DRAWINGS, 1);
     add_if(counts, tally::OTHER_DRAWINGS, is_other(words, plan, table));
-    count_price(schedule::price(words, plan), least, counts);
+    count_price(prices::price(words, plan), least, counts);
 }
 
 // Fills a table for a plan in some way, and has it checked.

@@ -14,3 +14,4 @@ pub mod Sections
 pub mod LevelsLaws
 pub mod TasksLaws
 pub mod SiteLaws
+pub mod ReadLaws

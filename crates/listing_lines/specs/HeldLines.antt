@@ -15,10 +15,11 @@ use Rattle.instance.specs.Node.{taskCount, noLevel, noTask, span}
 use Rattle.instance.specs.declared.Instance.{Instance}
 use Rattle.instance.specs.declared.Level.{Level}
 use Rattle.instance.specs.declared.Task.{Task}
-use Rattle.schedule.specs.HeldQuantities.{held-level-of}
-use Rattle.schedule.specs.Quantities.{choiceAt, coreOf, levelOf, jobTicks, ticks, priceOf}
-use Rattle.schedule.specs.Tables.{tableSize, slotAt}
-use Rattle.schedule.specs.declared.prices.Price.{Price}
+use Rattle.plan_rules.specs.HeldQuantities.{held-level-of}
+use Rattle.plan_rules.specs.Quantities.{choiceAt, coreOf, levelOf, jobTicks, ticks}
+use Rattle.prices.specs.Prices.{priceOf}
+use Rattle.tables.specs.Tables.{tableSize, slotAt}
+use Rattle.prices.specs.declared.amounts.Price.{Price}
 use Rattle.listing_lines.specs.ListingLines.{numbersLine, spanLine, costLine, keptLine, refusedLine, taskLine, coreLine, planLines}
 
 module _ (inst : Instance) (s : Sound inst) (plan : List ℕ) (i : ℕ) where

@@ -8,9 +8,10 @@ use Rattle.text.specs.Decimal.{decimal}
 use Rattle.instance.specs.Node.{Problem, taskCount, span}
 use Rattle.refusals.specs.Refusals.{numberOf, placeOf}
 use Rattle.refusals.specs.declared.Refusal.{Refusal}
-use Rattle.schedule.specs.Quantities.{isRefused, coreOf, levelOf, jobTicks, priceOf}
-use Rattle.schedule.specs.Tables.{slotAt}
-use Rattle.schedule.specs.declared.prices.Price.{Price}
+use Rattle.plan_rules.specs.Quantities.{isRefused, coreOf, levelOf, jobTicks}
+use Rattle.prices.specs.Prices.{priceOf}
+use Rattle.tables.specs.Tables.{slotAt}
+use Rattle.prices.specs.declared.amounts.Price.{Price}
 use Rattle.listing_lines.specs.Lines.{bytes, line}
 
 -- a line whose fields are all numbers

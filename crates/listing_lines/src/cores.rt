@@ -10,7 +10,7 @@ ghost use lib.ListN.{length};
 ghost use Rattle.text.specs.Decimal.{spaced};
 ghost use Rattle.instance.specs.Held.{Sound, problemIn};
 ghost use Rattle.laws.specs.Lists.{joined};
-ghost use Rattle.schedule.specs.Tables.{tableSize};
+ghost use Rattle.tables.specs.Tables.{tableSize};
 ghost use Rattle.listing_lines.specs.ListingLines.{numbersLine, coreLine};
 ghost use Rattle.listing_lines.specs.Placing.{Room, Put};
 

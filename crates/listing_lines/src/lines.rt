@@ -2,10 +2,10 @@
 use crate::bytes::put_byte;
 use crate::bytes::put_bytes;
 use crate::bytes::put_field;
+use prices::Price;
 use refusals::Refusal;
 use refusals::refusal_number;
 use refusals::refusal_place;
-use schedule::Price;
 ghost use mathlib.Core.List.{[], _∷_, _++_};
 ghost use Rattle.text.specs.Decimal.{decimal};
 ghost use Rattle.listing_lines.specs.ListingLines.{numbersLine, refusalLine, spanLine, costLine, keptLine, refusedLine};

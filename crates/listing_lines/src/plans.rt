@@ -4,13 +4,13 @@ use crate::lines::put_cost;
 use crate::lines::put_span;
 use crate::tasks::put_tasks;
 use instance::Instance;
-use schedule::Price;
+use prices::Price;
 ghost use mathlib.Core.Path.{_≡_};
 ghost use lib.ListN.{length};
 ghost use Rattle.instance.specs.Held.{Sound, problemIn};
 ghost use Rattle.instance.specs.Node.{taskCount};
-ghost use Rattle.schedule.specs.Quantities.{priceOf};
-ghost use Rattle.schedule.specs.Tables.{tableSize};
+ghost use Rattle.prices.specs.Prices.{priceOf};
+ghost use Rattle.tables.specs.Tables.{tableSize};
 ghost use Rattle.listing_lines.specs.ListingLines.{planLines};
 ghost use Rattle.listing_lines.specs.Placing.{Room, Put};
 

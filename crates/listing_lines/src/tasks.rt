@@ -2,7 +2,7 @@
 use crate::lines::put_kept;
 use crate::lines::put_refused;
 use instance::Instance;
-use schedule::ticks_of;
+use plan_rules::ticks_of;
 ghost use Prim.Native.Nat.{_<_};
 ghost use mathlib.Core.Path.{_≡_};
 ghost use lib.ListN.{length};

@@ -12,10 +12,11 @@ use Rattle.laws.specs.Lists.{listOf, joined}
 use Rattle.laws.specs.Multiples.{lcm}
 use Rattle.laws.specs.Search.{first}
 use Rattle.laws.specs.Sums.{sum}
-use Rattle.schedule.specs.Plans.{isMust, badChoice, choicesPass, fits, coresFit, planPasses}
-use Rattle.schedule.specs.Quantities.{keeps, ticks, jobTicks, ticksOn, jobs, loadOn, coreLoad, coreEnergy, energy, penalty, cost, priceOf}
+use Rattle.plan_rules.specs.Plans.{isMust, badChoice, choicesPass, fits, coresFit, planPasses}
+use Rattle.plan_rules.specs.Quantities.{keeps, ticks, jobTicks, ticksOn, jobs, loadOn, coreLoad}
+use Rattle.prices.specs.Prices.{coreEnergy, energy, penalty, cost, priceOf}
 use Rattle.dispatch.specs.Rows.{dueAt, afterRelease, earliest, chosen, afterRun, step, dispatched, row}
-use Rattle.schedule.specs.Tables.{coreTasks, tableOf, slotAt}
+use Rattle.tables.specs.Tables.{coreTasks, tableOf, slotAt}
 use Rattle.planner.specs.Planning.{choiceLists, isAllowed, better, firstCheapest, bestPlan}
 use Rattle.listing_lines.specs.Lines.{bytes, ended, line}
 use Rattle.listing_lines.specs.ListingLines.{numbersLine, refusalLine, spanLine, costLine, keptLine, refusedLine, taskLine, coreLine, planLines}

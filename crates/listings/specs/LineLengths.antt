@@ -9,7 +9,7 @@ use Rattle.laws.specs.Below.{lt-or-le}
 use Rattle.laws.specs.Lists.{joined}
 use Rattle.text.specs.Decimal.{decimal}
 use Rattle.text.specs.DecimalLaws.{decimal-of-digit, decimal-by-tens}
-use Rattle.schedule.specs.declared.prices.Price.{Price}
+use Rattle.prices.specs.declared.amounts.Price.{Price}
 use Rattle.listing_lines.specs.Lines.{bytes, ended, line}
 use Rattle.listing_lines.specs.ListingLines.{numbersLine, spanLine, costLine, keptLine, refusedLine}
 use Rattle.listing_lines.specs.LineLaws.{numbers-line-parts, spaced-one-by-one}

@@ -7,7 +7,7 @@ use Rattle.refusals.specs.Refusals.{Reading, refused, accepted}
 use Rattle.instance.specs.SiteFile.{problemOf}
 use Rattle.text.specs.Text.{wordsOf}
 use Rattle.refusals.specs.declared.Refusal.the-variants.{NoPlan}
-use Rattle.schedule.specs.Tables.{tableOf}
+use Rattle.tables.specs.Tables.{tableOf}
 use Rattle.planner.specs.Planning.{bestPlan}
 use Rattle.listing_lines.specs.ListingLines.{refusalLine, planLines}
 

@@ -14,14 +14,14 @@ use Rattle.text.specs.Text.{wordsOf}
 use Rattle.instance.specs.declared.Instance.{Instance}
 use Rattle.refusals.specs.declared.Refusal.{Refusal}
 use Rattle.refusals.specs.declared.Verdict.the-variants.{Accepted}
-use Rattle.schedule.specs.HeldSlots.{held-table-size, table-size-at-most}
-use Rattle.schedule.specs.Quantities.{priceOf}
-use Rattle.schedule.specs.ReadLaws.{HoldsProblemOf}
-use Rattle.schedule.specs.TableLaws.{length-tableOf}
-use Rattle.schedule.specs.Tables.{tableOf, tableSize}
-use Rattle.schedule.specs.declared.prices.Price.{Price}
-use Rattle.schedule.specs.declared.prices.Priced.{Priced}
-use Rattle.schedule.specs.declared.prices.Priced.the-variants as Priced
+use Rattle.tables.specs.HeldTables.{held-table-size, table-size-at-most}
+use Rattle.prices.specs.Prices.{priceOf}
+use Rattle.instance.specs.ReadLaws.{HoldsProblemOf}
+use Rattle.tables.specs.TableLaws.{length-tableOf}
+use Rattle.tables.specs.Tables.{tableOf, tableSize}
+use Rattle.prices.specs.declared.amounts.Price.{Price}
+use Rattle.prices.specs.declared.amounts.Priced.{Priced}
+use Rattle.prices.specs.declared.amounts.Priced.the-variants as Priced
 use Rattle.planner.specs.EndingLaws.{best-plan-length}
 use Rattle.planner.specs.Outcomes.{planAnswered, planOutcome}
 use Rattle.planner.specs.PlannedLaws.{where-room}

@@ -25,14 +25,15 @@ use Rattle.refusals.specs.declared.Refusal.the-variants.{Text, WordCount, WordR
 use Rattle.refusals.specs.declared.Verdict.the-variants.{Accepted}
 use Rattle.dispatch.specs.DispatchLaws.{slot-is-choice}
 use Rattle.dispatch.specs.Earliest.{Choice}
-use Rattle.schedule.specs.PlanLaws.{PassingPlan, passing-plan}
-use Rattle.schedule.specs.Plans.{planPasses}
-use Rattle.schedule.specs.PriceBounds.{penalty-at-most, passing-energy-at-most}
-use Rattle.schedule.specs.QuantityBounds.{job-ticks-at-most}
-use Rattle.schedule.specs.Quantities.{choiceAt, isRefused, coreOf, levelOf, jobTicks, priceOf}
+use Rattle.plan_rules.specs.PlanLaws.{PassingPlan, passing-plan}
+use Rattle.plan_rules.specs.Plans.{planPasses}
+use Rattle.prices.specs.PriceBounds.{penalty-at-most, passing-energy-at-most}
+use Rattle.plan_rules.specs.QuantityBounds.{job-ticks-at-most}
+use Rattle.plan_rules.specs.Quantities.{choiceAt, isRefused, coreOf, levelOf, jobTicks}
+use Rattle.prices.specs.Prices.{priceOf}
 use Rattle.dispatch.specs.Rows.{CoreTasks, slotOf}
-use Rattle.schedule.specs.TableLaws.{slotAt-tableOf}
-use Rattle.schedule.specs.Tables.{coreTasks, tableOf, slotAt}
+use Rattle.tables.specs.TableLaws.{slotAt-tableOf}
+use Rattle.tables.specs.Tables.{coreTasks, tableOf, slotAt}
 use Rattle.planner.specs.BestPlanLaws.{best-plan-passes}
 use Rattle.planner.specs.OptionsBounds.{passing-cost-below}
 use Rattle.planner.specs.Planning.{bestPlan}

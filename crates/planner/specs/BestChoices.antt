@@ -4,7 +4,7 @@ use mathlib.Core.List.{List}
 use mathlib.Core.Option.{Option, none, some}
 use Rattle.laws.specs.Lists.{onto}
 use Rattle.instance.specs.Node.{Problem}
-use Rattle.schedule.specs.Quantities.{cost}
+use Rattle.prices.specs.Prices.{cost}
 use Rattle.search.specs.declared.Found.the-variants.{Cheapest, NoPlan}
 use Rattle.search.specs.declared.Found.{Found}
 

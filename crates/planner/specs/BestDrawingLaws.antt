@@ -7,12 +7,12 @@ use mathlib.Core.Path.{_≡_, refl}
 use native.Mathlib.Omega.{arith}
 use Rattle.instance.specs.Node.{Problem}
 use Rattle.refusals.specs.declared.Verdict.the-variants.{Accepted}
-use Rattle.schedule.specs.Drawings.{Drawing}
-use Rattle.schedule.specs.FitLaws.{passing-table-passes, drawn-plan-passes, passing-plan-is-drawn}
-use Rattle.schedule.specs.Periods.{Periodic}
-use Rattle.schedule.specs.Plans.{planPasses}
-use Rattle.schedule.specs.RepeatedTableLaws.{drawing-serves-for-ever}
-use Rattle.schedule.specs.Tables.{tableOf}
+use Rattle.drawings.specs.Drawings.{Drawing}
+use Rattle.drawings.specs.FitLaws.{passing-table-passes, drawn-plan-passes, passing-plan-is-drawn}
+use Rattle.tables.specs.Periods.{Periodic}
+use Rattle.plan_rules.specs.Plans.{planPasses}
+use Rattle.drawings.specs.RepeatedTableLaws.{drawing-serves-for-ever}
+use Rattle.tables.specs.Tables.{tableOf}
 use Rattle.planner.specs.BestPlanLaws.{best-plan-is-best, best-plan-passes, no-best-plan, none-is-none}
 use Rattle.planner.specs.CheapestLaws.{NoWorsePlan}
 use Rattle.planner.specs.CostLaws.{cost-is-total}

@@ -10,7 +10,7 @@ use Rattle.laws.specs.Truth.{false-not-true}
 use Rattle.instance.specs.Node.{Problem, taskCount}
 use Rattle.refusals.specs.declared.Verdict.{Verdict}
 use Rattle.refusals.specs.declared.Verdict.the-variants.{Accepted, Refused}
-use Rattle.schedule.specs.Plans.{mostChoice, planPasses}
+use Rattle.plan_rules.specs.Plans.{mostChoice, planPasses}
 use Rattle.assignment.specs.Assignment.{Item, Options, ChoicesAllowed, Allowed, NoWorse, Best}
 use Rattle.assignment.specs.SearchTheorem.{best-unique}
 use Rattle.planner.specs.Planning.{passes, isAllowed, bestPlan, choiceLists}

@@ -11,7 +11,7 @@ use lib.Dec.{leb}
 use borrow.Author.Tests.{leb-true, leb-false}
 use Rattle.laws.specs.Truth.{false-not-true}
 use Rattle.instance.specs.Node.{Problem}
-use Rattle.schedule.specs.Quantities.{cost}
+use Rattle.prices.specs.Prices.{cost}
 use Rattle.assignment.specs.Assignment.{Before}
 use Rattle.planner.specs.Planning.{isAllowed, better, firstCheapest}
 use Rattle.planner.specs.ChoiceListLaws.{Ascending}

@@ -10,8 +10,9 @@ use lib.ListN.{length, getD}
 use Rattle.laws.specs.SumLaws.{sum-cong}
 use Rattle.laws.specs.Sums.{sum}
 use Rattle.instance.specs.Node.{Problem, levelCount, taskCount, taskAt, levelAt, span}
-use Rattle.schedule.specs.Plans.{fits}
-use Rattle.schedule.specs.Quantities.{choiceAt, keeps, levelOf, jobs, ticks, jobTicks, ticksOn, loadOn, coreLoad, coreEnergy}
+use Rattle.plan_rules.specs.Plans.{fits}
+use Rattle.plan_rules.specs.Quantities.{choiceAt, keeps, levelOf, jobs, ticks, jobTicks, ticksOn, loadOn, coreLoad}
+use Rattle.prices.specs.Prices.{coreEnergy}
 use Rattle.assignment.specs.Assignment.{onCore, corePattern}
 
 pub corePattern-length : (levels k : ℕ) (plan : List ℕ) → length (corePattern levels k plan) ≡ length plan

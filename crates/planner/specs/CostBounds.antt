@@ -11,10 +11,11 @@ use Rattle.laws.specs.SumBounds.{sum-at-most}
 use Rattle.ranges.specs.Limits.{mostWeight, mostCores, mostPower, mostPenalty, mostSpan, mostTasks, mayNotBeRefused}
 use Rattle.instance.specs.Node.{Problem, taskCount, taskAt}
 use Rattle.instance.specs.Valid.{InRange, Valid}
-use Rattle.schedule.specs.PlanLaws.{PassingPlan}
-use Rattle.schedule.specs.PriceBounds.{penaltyOf, passing-energy-at-most}
-use Rattle.schedule.specs.QuantityBounds.{jobs-at-most}
-use Rattle.schedule.specs.Quantities.{choiceAt, isRefused, jobs, energy, penalty, cost}
+use Rattle.plan_rules.specs.PlanLaws.{PassingPlan}
+use Rattle.prices.specs.PriceBounds.{penaltyOf, passing-energy-at-most}
+use Rattle.plan_rules.specs.QuantityBounds.{jobs-at-most}
+use Rattle.plan_rules.specs.Quantities.{choiceAt, isRefused, jobs}
+use Rattle.prices.specs.Prices.{energy, penalty, cost}
 
 module _ {p : Problem} (v : Valid p) (plan : List ℕ) (passing : PassingPlan p plan) where
   -- a refused task may be refused

@@ -10,7 +10,8 @@ use lib.ListN.{length}
 use Rattle.laws.specs.SumLaws.{sum-cong, sum-scaled}
 use Rattle.laws.specs.Sums.{sum}
 use Rattle.instance.specs.Node.{Problem, levelCount, taskCount, taskAt}
-use Rattle.schedule.specs.Quantities.{choiceAt, isRefused, jobs, coreEnergy, energy, penalty, cost}
+use Rattle.plan_rules.specs.Quantities.{choiceAt, isRefused, jobs}
+use Rattle.prices.specs.Prices.{coreEnergy, energy, penalty, cost}
 use Rattle.assignment.specs.Assignment.{Item, coresCost, refusedCost, totalCost}
 use Rattle.planner.specs.CorePatternLaws.{energy-of-pattern}
 use Rattle.planner.specs.OptionsLaws.{total-over-tasks}

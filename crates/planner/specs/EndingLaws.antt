@@ -13,10 +13,10 @@ use Rattle.refusals.specs.RoomLaws.{room-accepts, front-written}
 use Rattle.instance.specs.SiteFileRefusals.{reading-refuses-2-3-4}
 use Rattle.refusals.specs.declared.Verdict.{Verdict}
 use Rattle.refusals.specs.declared.Verdict.the-variants.{Accepted}
-use Rattle.schedule.specs.Outcomes.{priceVerdict}
-use Rattle.schedule.specs.TableLaws.{length-tableOf}
-use Rattle.schedule.specs.Tables.{tableOf, tableSize}
-use Rattle.schedule.specs.VerdictLaws.{andThen-accepts}
+use Rattle.prices.specs.Outcomes.{priceVerdict}
+use Rattle.tables.specs.TableLaws.{length-tableOf}
+use Rattle.tables.specs.Tables.{tableOf, tableSize}
+use Rattle.refusals.specs.VerdictLaws.{andThen-accepts}
 use Rattle.planner.specs.BestPlanLaws.{best-plan-passes}
 use Rattle.planner.specs.Endings.{planFound, PlanningEnds}
 use Rattle.planner.specs.OptionsLaws.{passing-choices}

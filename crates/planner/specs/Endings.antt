@@ -9,9 +9,9 @@ use Rattle.instance.specs.SiteFile.{problemOf}
 use Rattle.refusals.specs.declared.Refusal.the-variants.{NoPlan}
 use Rattle.refusals.specs.declared.Verdict.{Verdict}
 use Rattle.refusals.specs.declared.Verdict.the-variants.{Accepted, Refused}
-use Rattle.schedule.specs.Outcomes.{priceVerdict}
-use Rattle.schedule.specs.Tables.{tableSize}
-use Rattle.schedule.specs.declared.prices.Priced.{Priced}
+use Rattle.prices.specs.Outcomes.{priceVerdict}
+use Rattle.tables.specs.Tables.{tableSize}
+use Rattle.prices.specs.declared.amounts.Priced.{Priced}
 use Rattle.planner.specs.Planning.{bestPlan}
 
 -- 5: "no plan keeps every task that may not be refused with all cores fitting"

@@ -10,7 +10,7 @@ use Rattle.instance.specs.Node.{levelCount, taskCount, taskAt, noLevel, noTask}
 use Rattle.instance.specs.declared.Instance.{Instance}
 use Rattle.instance.specs.declared.Level.{Level}
 use Rattle.instance.specs.declared.Task.{Task}
-use Rattle.schedule.specs.Quantities.{ticks}
+use Rattle.plan_rules.specs.Quantities.{ticks}
 use Rattle.planner.specs.OptionsOf.{jobsOf, loadAt, itemOf}
 
 module _ (inst : Instance) (s : Sound inst) where

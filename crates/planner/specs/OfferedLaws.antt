@@ -17,9 +17,10 @@ use Rattle.laws.specs.SumOrderLaws.{total-is-sum}
 use Rattle.laws.specs.Sums.{sum}
 use Rattle.instance.specs.Node.{Problem, levelCount, levelAt, noTask, taskAt, taskCount, span}
 use Rattle.instance.specs.Valid.{Valid}
-use Rattle.schedule.specs.Plans.{fits}
-use Rattle.schedule.specs.Quantities
-use Rattle.schedule.specs.Quantities.{choiceAt, levelOf, ticks, jobs, jobTicks, ticksOn, loadOn, coreLoad, coreEnergy}
+use Rattle.plan_rules.specs.Plans.{fits}
+use Rattle.plan_rules.specs.Quantities
+use Rattle.plan_rules.specs.Quantities.{choiceAt, levelOf, ticks, jobs, jobTicks, ticksOn, loadOn, coreLoad}
+use Rattle.prices.specs.Prices.{coreEnergy}
 use Rattle.assignment.specs.AlikeLaws.{Alike}
 use Rattle.assignment.specs.Assignment.{Item, Options}
 use Rattle.assignment.specs.Keeping.{Keeps, done, refused, kept}

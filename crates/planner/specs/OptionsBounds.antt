@@ -16,10 +16,11 @@ use Rattle.instance.specs.Node.{Problem, levelCount, taskCount, levelAt, taskAt
 use Rattle.instance.specs.Valid.{InRange, Valid}
 use Rattle.instance.specs.declared.Task.{Task}
 use Rattle.refusals.specs.declared.Verdict.the-variants.{Accepted}
-use Rattle.schedule.specs.Plans.{mostChoice, planPasses}
-use Rattle.schedule.specs.PriceBounds.{job-penalty-at-most}
-use Rattle.schedule.specs.QuantityBounds.{ticks-at-most, jobs-at-most}
-use Rattle.schedule.specs.Quantities.{choiceAt, jobs, cost}
+use Rattle.plan_rules.specs.Plans.{mostChoice, planPasses}
+use Rattle.prices.specs.PriceBounds.{job-penalty-at-most}
+use Rattle.plan_rules.specs.QuantityBounds.{ticks-at-most, jobs-at-most}
+use Rattle.plan_rules.specs.Quantities.{choiceAt, jobs}
+use Rattle.prices.specs.Prices.{cost}
 use Rattle.assignment.specs.Assignment.{choiceCost, choiceLoad, totalCost}
 use Rattle.planner.specs.CostLaws.{core-of-choice, total-cost-by-task, cost-is-total}
 use Rattle.planner.specs.OptionsLaws.{core-load-by-task, passing-choices, passing-is-allowed}

@@ -14,12 +14,12 @@ use Rattle.ranges.specs.Limits.{mayNotBeRefused}
 use Rattle.instance.specs.Node.{Problem, levelCount, taskCount, taskAt, noTask, span}
 use Rattle.instance.specs.declared.Task.{Task}
 use Rattle.refusals.specs.declared.Verdict.the-variants.{Accepted}
-use Rattle.schedule.specs.CheckLaws.{choices-pass}
-use Rattle.schedule.specs.Drawings.{AllowedPlan}
-use Rattle.schedule.specs.Plans.{mostChoice, choicesPass, fits, coresFit, planPasses}
-use Rattle.schedule.specs.Quantities
-use Rattle.schedule.specs.Quantities.{choiceAt, keeps, jobs, jobTicks, ticksOn, loadOn}
-use Rattle.schedule.specs.VerdictLaws.{andThen-accepts, none-refused}
+use Rattle.plan_rules.specs.AllowedPlanLaws.{choices-pass}
+use Rattle.plan_rules.specs.AllowedPlans.{AllowedPlan}
+use Rattle.plan_rules.specs.Plans.{mostChoice, choicesPass, fits, coresFit, planPasses}
+use Rattle.plan_rules.specs.Quantities
+use Rattle.plan_rules.specs.Quantities.{choiceAt, keeps, jobs, jobTicks, ticksOn, loadOn}
+use Rattle.refusals.specs.VerdictLaws.{andThen-accepts, none-refused}
 use Rattle.assignment.specs.Assignment.{Item, corePattern, ChoiceAllowed, ChoicesAllowed, Allowed}
 use Rattle.planner.specs.CorePatternLaws.{fits-of-pattern}
 use Rattle.planner.specs.ChoiceLaws.{AllowedAt, allowed-at, at-allowed}

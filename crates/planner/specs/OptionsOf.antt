@@ -6,8 +6,9 @@ use lib.Dec.{eqb}
 use Rattle.ranges.specs.Limits.{mayNotBeRefused}
 use Rattle.instance.specs.Node.{Problem, levelCount, levelAt, span}
 use Rattle.instance.specs.declared.Task.{Task}
-use Rattle.schedule.specs.Plans.{fits}
-use Rattle.schedule.specs.Quantities.{ticks, coreEnergy}
+use Rattle.plan_rules.specs.Plans.{fits}
+use Rattle.plan_rules.specs.Quantities.{ticks}
+use Rattle.prices.specs.Prices.{coreEnergy}
 use Rattle.assignment.specs.Assignment.{Item, Options}
 use Rattle.knapsack.specs.Offers.{Offer}
 

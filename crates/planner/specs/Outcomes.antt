@@ -11,10 +11,10 @@ use Rattle.refusals.specs.declared.Refusal.{Refusal}
 use Rattle.refusals.specs.declared.Refusal.the-variants.{NoPlan}
 use Rattle.refusals.specs.declared.Verdict.{Verdict}
 use Rattle.refusals.specs.declared.Verdict.the-variants.{Accepted, Refused}
-use Rattle.schedule.specs.Quantities.{priceOf}
-use Rattle.schedule.specs.Tables.{tableOf, tableSize}
-use Rattle.schedule.specs.declared.prices.Priced.{Priced}
-use Rattle.schedule.specs.declared.prices.Priced.the-variants as Priced
+use Rattle.prices.specs.Prices.{priceOf}
+use Rattle.tables.specs.Tables.{tableOf, tableSize}
+use Rattle.prices.specs.declared.amounts.Priced.{Priced}
+use Rattle.prices.specs.declared.amounts.Priced.the-variants as Priced
 use Rattle.planner.specs.Planning.{bestPlan}
 
 -- "Planning writes that plan and its table, and returns energy, penalty and cost."

@@ -13,11 +13,11 @@ use Rattle.refusals.specs.RoomLaws.{enough-room, no-room, front-of-onto}
 use Rattle.refusals.specs.declared.Refusal.the-variants as Refusal
 use Rattle.refusals.specs.declared.Refusal.{Refusal}
 use Rattle.refusals.specs.declared.Verdict.the-variants.{Accepted}
-use Rattle.schedule.specs.Plans.{planPasses}
-use Rattle.schedule.specs.Quantities.{priceOf}
-use Rattle.schedule.specs.Tables.{tableOf, tableSize}
-use Rattle.schedule.specs.declared.prices.Priced.the-variants as Priced
-use Rattle.schedule.specs.declared.prices.Priced.{Priced}
+use Rattle.plan_rules.specs.Plans.{planPasses}
+use Rattle.prices.specs.Prices.{priceOf}
+use Rattle.tables.specs.Tables.{tableOf, tableSize}
+use Rattle.prices.specs.declared.amounts.Priced.the-variants as Priced
+use Rattle.prices.specs.declared.amounts.Priced.{Priced}
 use Rattle.search.specs.declared.Found.the-variants as Found
 use Rattle.search.specs.declared.Found.{Found}
 use Rattle.planner.specs.BestChoices.{foundOf, chosenOnto}

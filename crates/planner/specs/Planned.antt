@@ -11,13 +11,13 @@ use Rattle.instance.specs.SiteFile.{problemOf}
 use Rattle.refusals.specs.declared.Refusal.{Refusal}
 use Rattle.refusals.specs.declared.Refusal.the-variants.{NoPlan, ShortBuffer}
 use Rattle.refusals.specs.declared.Verdict.the-variants.{Accepted}
-use Rattle.schedule.specs.Checks.{check}
-use Rattle.schedule.specs.Drawings.{Drawing}
-use Rattle.schedule.specs.Quantities.{cost, priceOf}
-use Rattle.schedule.specs.RepeatedTables.{ServesForEver}
-use Rattle.schedule.specs.Tables.{tableOf, tableSize}
-use Rattle.schedule.specs.declared.prices.Priced.{Priced}
-use Rattle.schedule.specs.declared.prices.Priced.the-variants as Priced
+use Rattle.checks.specs.Checks.{check}
+use Rattle.drawings.specs.Drawings.{Drawing}
+use Rattle.prices.specs.Prices.{cost, priceOf}
+use Rattle.drawings.specs.RepeatedTables.{ServesForEver}
+use Rattle.tables.specs.Tables.{tableOf, tableSize}
+use Rattle.prices.specs.declared.amounts.Priced.{Priced}
+use Rattle.prices.specs.declared.amounts.Priced.the-variants as Priced
 use Rattle.assignment.specs.Assignment.{Before}
 use Rattle.planner.specs.Endings.{PlanningEnds}
 

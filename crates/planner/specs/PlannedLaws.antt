@@ -15,13 +15,13 @@ use Rattle.instance.specs.SiteFileLaws.{accepted-is-valid}
 use Rattle.refusals.specs.declared.Refusal.the-variants.{NoPlan, ShortBuffer}
 use Rattle.refusals.specs.declared.Verdict.{Verdict}
 use Rattle.refusals.specs.declared.Verdict.the-variants.{Accepted, Refused}
-use Rattle.schedule.specs.Outcomes.{priceVerdict}
-use Rattle.schedule.specs.Periods.{Periodic, valid-is-periodic}
-use Rattle.schedule.specs.Quantities.{priceOf}
-use Rattle.schedule.specs.TableLaws.{length-tableOf}
-use Rattle.schedule.specs.Tables.{tableOf, tableSize}
-use Rattle.schedule.specs.declared.prices.Priced.{Priced}
-use Rattle.schedule.specs.declared.prices.Priced.the-variants as Priced
+use Rattle.prices.specs.Outcomes.{priceVerdict}
+use Rattle.tables.specs.Periods.{Periodic, valid-is-periodic}
+use Rattle.prices.specs.Prices.{priceOf}
+use Rattle.tables.specs.TableLaws.{length-tableOf}
+use Rattle.tables.specs.Tables.{tableOf, tableSize}
+use Rattle.prices.specs.declared.amounts.Priced.{Priced}
+use Rattle.prices.specs.declared.amounts.Priced.the-variants as Priced
 use Rattle.planner.specs.BestDrawingLaws.{no-plan-iff-no-drawing, answered-is-best-drawing}
 use Rattle.planner.specs.EndingLaws.{best-plan-length, planning-ends}
 use Rattle.planner.specs.Outcomes.{PlanOutcome, planAnswered, planWhere, planOutcomeOf, planOutcome}

@@ -10,8 +10,8 @@ use Rattle.laws.specs.Lists.{joined}
 use Rattle.instance.specs.Node.{Problem, taskCount}
 use Rattle.refusals.specs.declared.Verdict.{Verdict}
 use Rattle.refusals.specs.declared.Verdict.the-variants.{Accepted, Refused}
-use Rattle.schedule.specs.Plans.{mostChoice, planPasses}
-use Rattle.schedule.specs.Quantities.{cost}
+use Rattle.plan_rules.specs.Plans.{mostChoice, planPasses}
+use Rattle.prices.specs.Prices.{cost}
 
 -- every list of n choices from 0 to `most`, the smaller first differing choice first
 unfoldable pub choiceLists : ℕ → ℕ → List (List ℕ)

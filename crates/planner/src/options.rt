@@ -1,9 +1,9 @@
 // A problem as the search takes it: what each task asks of a core and costs, at each level and where it is refused.
 use instance::Instance;
 use instance::Task;
+use plan_rules::jobs_in;
+use plan_rules::ticks_of;
 use ranges::MAY_NOT_BE_REFUSED;
-use schedule::jobs_in;
-use schedule::ticks_of;
 ghost use Prim.Native.Nat.{_+_, _*_, _≤_, _<_};
 ghost use mathlib.Core.Path.{_≡_};
 ghost use Rattle.instance.specs.Held.{Sound, problemIn};

@@ -2,13 +2,13 @@
 use crate::best::best_choices;
 use instance::Instance;
 use instance::read_instance;
+use prices::Priced;
+use prices::price_of;
 use refusals::Refusal;
 use refusals::Verdict;
-use schedule::Priced;
-use schedule::fill_table;
-use schedule::price_of;
-use schedule::table_size;
 use search::Found;
+use tables::fill_table;
+use tables::table_size;
 ghost use mathlib.Core.Path.{_≡_};
 ghost use Rattle.instance.specs.Held.{Sound, problemIn};
 ghost use Rattle.refusals.specs.Refusals.{accepted};

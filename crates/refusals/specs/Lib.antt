@@ -3,3 +3,4 @@ pub mod Endings
 pub mod RoomLaws
 pub mod RefusalNumbers
 pub mod EndingLaws
+pub mod VerdictLaws

@@ -1,11 +1,11 @@
 // Prints a line for each example.
+use prices::Price;
+use prices::Priced;
 use printing::print;
 use printing::print_field;
 use printing::print_filled;
 use refusals::Refusal;
 use refusals::Verdict;
-use schedule::Price;
-use schedule::Priced;
 
 fn print_refusal(r: Refusal) {
     let numbers = [refusals::refusal_number(r), refusals::refusal_place(r)];
@@ -18,7 +18,7 @@ fn print_price(price: Price) {
 }
 
 pub(crate) fn price(words: &[u32], plan: &[u32]) {
-    match schedule::price(words, plan) {
+    match prices::price(words, plan) {
         Priced::Cost(price) => print_price(price),
         Priced::Refused(r) => print_refusal(r),
     }
@@ -45,7 +45,7 @@ fn print_slots(slots: &[u8]) {
 
 // Tables into a buffer, and prints the buffer.
 fn table_into(words: &[u32], plan: &[u32], slots: &mut [u8]) {
-    print_verdict(schedule::tabulate(words, plan, slots), b"table");
+    print_verdict(tables::tabulate(words, plan, slots), b"table");
     print_slots(slots);
     print(b"\n");
 }
@@ -83,11 +83,11 @@ fn print_counts(slots: &[u8; 4096]) {
 // Tables a long row, prints what it holds, and checks it.
 pub(crate) fn long_table(words: &[u32], plan: &[u32]) {
     let mut slots = [77u8; 4096];
-    print_verdict(schedule::tabulate(words, plan, &mut slots), b"idle ");
+    print_verdict(tables::tabulate(words, plan, &mut slots), b"idle ");
     print_counts(&slots);
     check(words, plan, &slots);
 }
 
 pub(crate) fn check(words: &[u32], plan: &[u32], table: &[u8]) {
-    print_verdict(schedule::check_table(words, plan, table), b"accepted\n");
+    print_verdict(checks::check_table(words, plan, table), b"accepted\n");
 }

@@ -1,4 +1,4 @@
-use Rattle.schedule.specs.ReadLaws.{HoldsProblemOf, accepted-read-holds-problem, refused-read-refuses-words}
+use Rattle.instance.specs.ReadLaws.{HoldsProblemOf, accepted-read-holds-problem, refused-read-refuses-words}
 use Rattle.desk.specs.OwnPlanLaws.{refused-words-outcome, room-for-plan, short-plan-outcome}
 use borrow.Author.Needs.{needs}
 use Rattle.desk.proofs.planning.plan_words.Statement.{statement}

@@ -2,7 +2,7 @@ use Prim.Native.Nat.{_<_, _-_}
 use Rattle.listing_lines.specs.PlacingParts.{PartsPut, no-part-put, room-for-part, part-put, parts-keep-length, all-parts-put}
 use native.Mathlib.Omega.{arith}
 use Rattle.instance.specs.Held.{problemIn}
-use Rattle.schedule.specs.HeldPlans.{held-cores}
+use Rattle.plan_rules.specs.HeldPlans.{held-cores}
 use Rattle.listing_lines.specs.ListingLines.{coreLine}
 use Rattle.listing_lines.proofs.cores.put_cores.Statement.{statement}
 use Rattle.listing_lines.proofs.cores.put_cores.Tie as tie

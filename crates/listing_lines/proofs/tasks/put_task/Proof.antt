@@ -2,7 +2,7 @@ use Prim.Native.Nat.{_-_}
 use lib.ListN.{getD}
 use native.Mathlib.Omega.{arith}
 use native.Mathlib.Nat.{div-le-self, mod-lt}
-use Rattle.schedule.specs.HeldQuantities.{level-count-above-zero, level-count-at-most}
+use Rattle.plan_rules.specs.HeldQuantities.{level-count-above-zero, level-count-at-most}
 use Rattle.listing_lines.specs.HeldLines.{refused-task-line, kept-task-line}
 use borrow.Author.Needs.{needs}
 use Rattle.listing_lines.proofs.tasks.put_task.Statement.{statement}

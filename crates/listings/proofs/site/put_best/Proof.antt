@@ -5,7 +5,7 @@ use lib.ListN.{take}
 use borrow.Author.Needs.{needs}
 use Rattle.instance.specs.Held.{held-taskcount}
 use Rattle.instance.specs.SiteFile.{problemOf}
-use Rattle.schedule.specs.HeldSlots.{held-table-size, table-size-at-most}
+use Rattle.tables.specs.HeldTables.{held-table-size, table-size-at-most}
 use Rattle.listing_lines.specs.ListingLines.{refusalLine}
 use Rattle.listings.specs.Listing.{listingOfProblem}
 use Rattle.listings.specs.ListingLaws.{AtHand, front-within, no-plan-listing, planned-listing}

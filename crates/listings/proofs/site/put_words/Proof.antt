@@ -1,7 +1,7 @@
 use mathlib.Core.Path.{_≡_}
 use borrow.Author.Needs.{needs}
 use Rattle.instance.specs.SiteFile.{problemOf}
-use Rattle.schedule.specs.ReadLaws.{accepted-read-holds-problem, refused-read-refuses-words}
+use Rattle.instance.specs.ReadLaws.{accepted-read-holds-problem, refused-read-refuses-words}
 use Rattle.listing_lines.specs.ListingLines.{refusalLine}
 use Rattle.listings.specs.Listing.{listingOfProblem}
 use Rattle.listings.specs.ListingLaws.{refused-words-listing}

@@ -1,6 +1,6 @@
 use mathlib.Core.Path.{refl}
 use borrow.Author.Needs.{needs}
-use Rattle.schedule.specs.ReadLaws.{accepted-read-holds-problem, refused-read-refuses-words}
+use Rattle.instance.specs.ReadLaws.{accepted-read-holds-problem, refused-read-refuses-words}
 use Rattle.planner.specs.PlanLaws.{given-outcome-is-promised, given-reading}
 use Rattle.planner.proofs.planning.plan.Statement.{statement}
 use Rattle.planner.proofs.planning.plan.Tie as tie

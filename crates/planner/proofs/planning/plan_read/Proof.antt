@@ -13,10 +13,10 @@ use Rattle.instance.specs.Node.{Problem}
 use Rattle.refusals.specs.Refusals.{accepted}
 use Rattle.refusals.specs.declared.Refusal.the-variants as Refusal
 use Rattle.refusals.specs.declared.Verdict.the-variants.{Accepted}
-use Rattle.schedule.specs.Plans.{planPasses}
-use Rattle.schedule.specs.Tables.{tableSize}
-use Rattle.schedule.specs.declared.prices.Price.{Price}
-use Rattle.schedule.specs.declared.prices.Priced.the-variants as Priced
+use Rattle.plan_rules.specs.Plans.{planPasses}
+use Rattle.tables.specs.Tables.{tableSize}
+use Rattle.prices.specs.declared.amounts.Price.{Price}
+use Rattle.prices.specs.declared.amounts.Priced.the-variants as Priced
 use Rattle.search.specs.declared.Found.the-variants as Found
 use Rattle.search.specs.declared.Found.{Found}
 use Rattle.search.proofs.Found.{the-type}

@@ -1,0 +1,111 @@
+-- What the check's tests for the refusals 9 and 10 say when they accept, and the whole check.
+use Prim.Native.Nat.{ℕ, zero, suc, _+_, _*_, _/_, _%_, _<_}
+use mathlib.Core.Bool.{true, false, not}
+use mathlib.Core.List.{List}
+use mathlib.Core.Logic.{_↔_, _⊎_, inl, inr}
+use mathlib.Core.Path.{_≡_, refl, ap}
+use lib.Arith.{digits-lt, digits-div}
+use lib.Dec.{eqb·suc-zero}
+use lib.ListN.{length, getD}
+use borrow.Author.Tests.{eqb-true, eqb-false, eq-eqb, ne-eqb, not-false}
+use Rattle.laws.specs.SearchFacts.{every-iff}
+use Rattle.laws.specs.Truth.{or-is-true}
+use Rattle.instance.specs.Node.{Problem, taskCount, span}
+use Rattle.refusals.specs.declared.Verdict.the-variants.{Accepted}
+use Rattle.checks.specs.Checks.{check, strayValue, straySlot, slotsPass, jobSlots, isServed, jobsPass}
+use Rattle.plan_rules.specs.AllowedPlans.{AllowedPlan}
+use Rattle.tables.specs.Periods.{Periodic, row-of-index, tick-of-index, slot-of-index}
+use Rattle.plan_rules.specs.Quantities.{choiceAt, coreOf, jobs, jobTicks}
+use Rattle.tables.specs.Tables.{slotAt}
+use Rattle.refusals.specs.VerdictLaws.{andThen-accepts, length-accepts, none-refused}
+use Rattle.plan_rules.specs.AllowedPlanLaws.{choices-pass}
+use Rattle.plan_rules.specs.KeepsLaws.{keeps-iff}
+
+-- a slot that names a kept task of core k
+pub record KeptSlot (p : Problem) (plan : List ℕ) (k slot : ℕ) : Type 0 where
+  pub task : ℕ
+  pub its-number : slot ≡ suc task
+  pub kept : choiceAt plan task ≡ 0 → ⊥
+  pub on-its-core : coreOf p plan task ≡ k
+
+module _ (p : Problem) (plan : List ℕ) (k : ℕ) where
+  slot-not-stray : (slot : ℕ) → strayValue p plan k slot ≡ false → (slot ≡ 0) ⊎ KeptSlot p plan k slot
+  unfolding strayValue
+  slot-not-stray zero e = inl refl
+  slot-not-stray (suc i) e =
+      let kept = keeps-iff p plan k i .0 (not-false _ (rw eqb·suc-zero at e)) in
+      inr (record { task = i; its-number = refl; kept = kept .0; on-its-core = kept .1 })
+
+  not-stray-slot : (slot : ℕ) → (slot ≡ 0) ⊎ KeptSlot p plan k slot → strayValue p plan k slot ≡ false
+  unfolding strayValue
+  not-stray-slot slot (inl idle) = rw idle
+  not-stray-slot slot (inr r) =
+      rw (r .its-number, eqb·suc-zero, keeps-iff p plan k (r .task) .1 (r .kept, r .on-its-core))
+
+-- 9: "a table of M × L slots", each 0 or naming a kept task of its core
+pub record NamedSlots (p : Problem) (plan table : List ℕ) : Type 0 where
+  pub table-size : length table ≡ p .cores * span p
+  pub idle-or-kept : (k t : ℕ) → k < p .cores → t < span p →
+      (slotAt p table k t ≡ 0) ⊎ KeptSlot p plan k (slotAt p table k t)
+
+pub slots-pass : (p : Problem) → Periodic p → (plan table : List ℕ) →
+    (slotsPass p plan table ≡ Accepted) ↔ NamedSlots p plan table
+unfolding slotsPass straySlot slotAt
+slots-pass p periodic plan table = (
+  λ e.
+      let both = length-accepts _ _ _ _ .0 e in
+      record {
+        table-size = both .0;
+        idle-or-kept = λ k t h l.
+            let not-stray = none-refused _ _ _ .0 (both .1) (k * span p + t) (digits-lt h l) in
+            slot-not-stray p plan k (slotAt p table k t) (rw (digits-div k l) at not-stray);
+      },
+  λ named.
+      length-accepts _ _ _ _ .1 (
+        named .table-size,
+        none-refused _ _ _ .1 (λ x h.
+            let here = named .idle-or-kept (x / span p) (x % span p) (row-of-index p periodic x h) (tick-of-index p periodic x) in
+            not-stray-slot p plan (x / span p) (getD table x 0) (rw slot-of-index at here)),
+      ),
+)
+
+-- 10: each job of a kept task has as many slots as ticks
+abbrev pub ServedJobs : Problem → List ℕ → List ℕ → Type 0
+ServedJobs p plan table =
+    (i j : ℕ) → i < taskCount p → (choiceAt plan i ≡ 0 → ⊥) → j < jobs p i →
+    jobSlots p plan table i j ≡ jobTicks p plan i
+
+task-is-served : (p : Problem) (plan table : List ℕ) (i : ℕ) → (isServed p plan table i ≡ true) ↔
+    ((choiceAt plan i ≡ 0 → ⊥) → (j : ℕ) → j < jobs p i → jobSlots p plan table i j ≡ jobTicks p plan i)
+unfolding isServed
+task-is-served p plan table i = (
+  λ e kept j l. eqb-true _ _ (every-iff _ _ .0 (or-is-true _ _ .0 e (ne-eqb _ _ kept)) j l),
+  λ served. or-is-true _ _ .1 (λ kept. every-iff _ _ .1 (λ j l. eq-eqb _ _ (served (eqb-false _ _ kept) j l))),
+)
+
+pub jobs-pass : (p : Problem) (plan table : List ℕ) → (jobsPass p plan table ≡ Accepted) ↔ ServedJobs p plan table
+unfolding jobsPass
+jobs-pass p plan table = (
+  λ e i j h kept l. task-is-served p plan table i .0 (not-false _ (none-refused _ _ _ .0 e i h)) kept j l,
+  λ served. none-refused _ _ _ .1 (λ i h.
+      ap not (task-is-served p plan table i .1 (λ kept j l. served i j h kept l))),
+)
+
+-- "The check tests 7, 9 (length before slots), 10, and not 8."
+pub check-accepts : (p : Problem) → Periodic p → (plan table : List ℕ) →
+    (check p plan table ≡ Accepted) ↔ (AllowedPlan p plan × NamedSlots p plan table × ServedJobs p plan table)
+unfolding check
+check-accepts p periodic plan table = (
+  λ e.
+      let plan-and-table = andThen-accepts _ _ .0 e in
+      let slots-and-jobs = andThen-accepts _ _ .0 (plan-and-table .1) in (
+        choices-pass p plan .0 (plan-and-table .0),
+        slots-pass p periodic plan table .0 (slots-and-jobs .0),
+        jobs-pass p plan table .0 (slots-and-jobs .1),
+      ),
+  λ all.
+      andThen-accepts _ _ .1 (
+        choices-pass p plan .1 (all .0),
+        andThen-accepts _ _ .1 (slots-pass p periodic plan table .1 (all .1), jobs-pass p plan table .1 (all .2)),
+      ),
+)

@@ -1,0 +1,7 @@
+pub mod Checks
+pub mod CheckLaws
+pub mod Outcomes
+pub mod RefusalLaws
+pub mod EndingLaws
+pub mod HeldSlots
+pub mod HeldJobs

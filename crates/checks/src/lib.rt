@@ -1,0 +1,4 @@
+// The check of a given table.
+mod check;
+
+pub use check::check_table;

@@ -1,0 +1,12 @@
+pub mod Drawings
+pub mod ExactSlotLaws
+pub mod DrawingLaws
+pub mod ServedRows
+pub mod ServedRowLaws
+pub mod CheckTheorem
+pub mod FitLaws
+pub mod TableRowLaws
+pub mod WorkedOut
+pub mod WorkedOutLaws
+pub mod RepeatedTables
+pub mod RepeatedTableLaws

@@ -1,0 +1,42 @@
+-- The quantities of a plan, from the fields of the struct that holds the problem.
+use Prim.Native.Nat.{ℕ, pred, _/_, _%_, _<_, _≤_}
+use mathlib.Core.Path.{_≡_, ap, ap₂, _∙_}
+use mathlib.Core.Bool.{not, _&&_}
+use mathlib.Core.List.{List}
+use lib.Dec.{eqb}
+use lib.ListN.{getD}
+use native.Mathlib.Nat.{mod-lt}
+use native.Mathlib.Omega.{arith}
+use Rattle.instance.specs.Held.{problemIn, Sound, held-level, held-levelcount, held-span}
+use Rattle.ranges.specs.Limits.{mostLevels}
+use Rattle.instance.specs.Node.{levelCount, levelAt, taskAt, noLevel}
+use Rattle.instance.specs.declared.Instance.{Instance}
+use Rattle.instance.specs.declared.Task.{Task}
+use Rattle.plan_rules.specs.Quantities.{choiceAt, keeps, jobs}
+
+module _ (inst : Instance) (s : Sound inst) where
+  pub level-count-above-zero : 0 < inst .levelcount
+  level-count-above-zero = omega (arith, held-levelcount inst s, s .valid .level-count .at-least)
+
+  pub level-count-at-most : inst .levelcount ≤ mostLevels
+  level-count-at-most = omega (arith, held-levelcount inst s, s .valid .level-count .at-most)
+
+  -- the level that a choice names, as the struct's arrays have it
+  pub held-level-of : (choice l : ℕ) → l ≡ pred choice % inst .levelcount →
+      getD (inst .levels) l noLevel ≡ levelAt (problemIn inst) (pred choice % levelCount (problemIn inst))
+  held-level-of choice l e =
+      let same = e ∙ ap (λ (h : ℕ). pred choice % h) (held-levelcount inst s) in
+      ap (λ (n : ℕ). getD (inst .levels) n noLevel) same ∙ held-level inst s _ (mod-lt (pred choice) (s .valid .level-count .at-least))
+
+  pub level-below : (x l : ℕ) → l ≡ x % inst .levelcount → l < mostLevels
+  level-below x l e = omega (arith, mod-lt x level-count-above-zero, level-count-at-most)
+
+  pub held-keeps : (plan : List ℕ) (k i : ℕ) →
+      (not (eqb (choiceAt plan i) 0) && eqb (pred (choiceAt plan i) / inst .levelcount) k) ≡ keeps (problemIn inst) plan k i
+  unfolding keeps
+  held-keeps plan k i =
+      ap (λ (h : ℕ). not (eqb (choiceAt plan i) 0) && eqb (pred (choiceAt plan i) / h) k) (held-levelcount inst s)
+
+  pub held-jobs : (i : ℕ) (task : Task) → task ≡ taskAt (problemIn inst) i → inst .span / task .period ≡ jobs (problemIn inst) i
+  unfolding jobs
+  held-jobs i task e = ap₂ (λ (a b : ℕ). a / b) (held-span inst s) (ap (λ (t : Task). t .period) e)

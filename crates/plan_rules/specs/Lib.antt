@@ -1,0 +1,14 @@
+pub mod Quantities
+pub mod Windows
+pub mod Plans
+pub mod AllowedPlans
+pub mod AllowedPlanLaws
+pub mod PlanLaws
+pub mod KeepsLaws
+pub mod RefusalLaws
+pub mod HeldQuantities
+pub mod QuantityBounds
+pub mod HeldPlans
+pub mod KeptColumns
+pub mod KeptColumnLaws
+pub mod KeptSumLaws

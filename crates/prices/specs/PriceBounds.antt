@@ -1,0 +1,78 @@
+-- How large the prices of a valid problem can be, so that the code's numbers fit.
+use Prim.Native.Nat.{ℕ, _*_, _≤_, _<_}
+use mathlib.Core.Bool.{Bool, true, false, cond}
+use mathlib.Core.List.{List}
+use mathlib.Core.Logic.{⊎-elim}
+use native.Mathlib.Nat.{mod-lt, mul-le-mul}
+use native.Mathlib.Omega.{arith}
+use Rattle.laws.specs.SumBounds.{sum-at-most, sum-of-products-at-most}
+use Rattle.ranges.specs.Limits.{mostCores, mostCycles, mostPower, mostSpan, mostTasks, mayNotBeRefused}
+use Rattle.instance.specs.Node.{Problem, levelAt, taskAt, taskCount}
+use Rattle.instance.specs.Valid.{Valid}
+use Rattle.plan_rules.specs.PlanLaws.{PassingPlan}
+use Rattle.plan_rules.specs.QuantityBounds.{jobs-at-most, loadOn-at-most}
+use Rattle.plan_rules.specs.Quantities.{isRefused, levelOf, jobs, loadOn, coreLoad}
+use Rattle.prices.specs.Prices.{coreEnergy, energy, penalty}
+
+-- the energy of task i on core k
+abbrev pub energyOn : Problem → List ℕ → ℕ → ℕ → ℕ
+energyOn p plan k i = loadOn p plan k i * levelAt p (levelOf p plan i) .power
+
+-- the penalty of task i: none where the plan keeps it
+abbrev pub penaltyOf : Problem → List ℕ → ℕ → ℕ
+penaltyOf p plan i = cond (isRefused plan i) (jobs p i * taskAt p i .penalty) 0
+
+-- of any plan, also one whose cores do not fit
+abbrev pub mostEnergyOn : ℕ
+mostEnergyOn = mostSpan * mostCycles * mostPower
+
+abbrev pub mostPenaltyOf : ℕ
+mostPenaltyOf = mostSpan * mayNotBeRefused
+
+pub job-penalty-at-most : (p : Problem) → Valid p → (i : ℕ) → i < taskCount p → taskAt p i .penalty ≤ mayNotBeRefused
+job-penalty-at-most p v i h =
+    ⊎-elim (λ range. omega (arith, range .at-most)) (λ must. omega arith) (v .task i h .penalty)
+
+module _ (p : Problem) (v : Valid p) (plan : List ℕ) where
+  power-at-most : (i : ℕ) → levelAt p (levelOf p plan i) .power ≤ mostPower
+  power-at-most i = v .level (levelOf p plan i) (mod-lt _ (v .level-count .at-least)) .power .at-most
+
+  pub energyOn-at-most : (k i : ℕ) → i < taskCount p → energyOn p plan k i ≤ mostEnergyOn
+  energyOn-at-most k i h = mul-le-mul (loadOn-at-most p v plan i h k) (power-at-most i)
+
+  pub coreEnergy-at-most : (k : ℕ) → coreEnergy p plan k ≤ mostTasks * mostEnergyOn
+  unfolding coreEnergy
+  coreEnergy-at-most k =
+      omega (arith, sum-at-most (energyOn p plan k) mostEnergyOn (taskCount p) (energyOn-at-most k), v .task-count)
+
+  pub penaltyOf-at-most : (i : ℕ) → i < taskCount p → penaltyOf p plan i ≤ mostPenaltyOf
+  penaltyOf-at-most i h = go (isRefused plan i)
+    where
+      go : (refused : Bool) → cond refused (jobs p i * taskAt p i .penalty) 0 ≤ mostPenaltyOf
+      go true = mul-le-mul (jobs-at-most p v plan i h) (job-penalty-at-most p v i h)
+      go false = omega arith
+
+  pub penalty-at-most : penalty p plan ≤ mostTasks * mostPenaltyOf
+  unfolding penalty
+  penalty-at-most =
+      omega (arith, sum-at-most (penaltyOf p plan) mostPenaltyOf (taskCount p) penaltyOf-at-most, v .task-count)
+
+  -- a core that fits is busy for a span at most
+  fitting-core-energy-at-most : (k : ℕ) → coreLoad p plan k ≤ mostSpan → coreEnergy p plan k ≤ mostSpan * mostPower
+  unfolding coreEnergy coreLoad
+  fitting-core-energy-at-most k fits =
+      omega (
+        arith,
+        sum-of-products-at-most (loadOn p plan k) (λ i. levelAt p (levelOf p plan i) .power) mostPower (taskCount p) (λ i h.
+            power-at-most i),
+      )
+
+  pub passing-energy-at-most : PassingPlan p plan → energy p plan ≤ mostCores * (mostSpan * mostPower)
+  unfolding energy
+  passing-energy-at-most passing =
+      omega (
+        arith,
+        sum-at-most (coreEnergy p plan) (mostSpan * mostPower) (p .cores) (λ k h.
+            fitting-core-energy-at-most k (omega (arith, passing .load-at-most k h, v .span-at-most))),
+        v .cores .at-most,
+      )
