@@ -28,7 +28,7 @@ use Rattle.assignment.specs.KeyLaws.{keeps-length}
 use Rattle.knapsack.specs.Offered.{offerAt, offersOf}
 use Rattle.knapsack.specs.Offers.{Offer, entryLoad, entryCost, patternLoad, patternCost, loadOptions}
 use Rattle.values.specs.Items.{itemAt, itemsOf}
-use Rattle.planner.specs.OfferedOptions.{LevelOffered, OptionsOffered}
+use Rattle.planner.specs.OfferedOptions.{OptionsOffered, offered-level}
 use Rattle.planner.specs.OptionsLaws.{item-count, item-at}
 use Rattle.planner.specs.OptionsOf.{jobsOf, loadAt, itemOf, offerOf, optionsOf}
 
@@ -42,9 +42,6 @@ keeps-choice (kept d h k) (suc i) = keeps-choice k i
 
 module _ {p : Problem} (v : Valid p) {load cost refusal : List ℕ} {must : List Bool}
     (o : OptionsOffered p (taskCount p) load cost refusal must) where
-  offered-level : (i l : ℕ) → i < taskCount p → l < levelCount p → LevelOffered p load cost i l
-  offered-level i l h k = o .levels .level i l k (omega (arith, v .level-count .at-most))
-
   module _ (i : ℕ) (h : i < taskCount p) where
     -- what choice c asks of core 0 for task i, as the problem says it
     loadOf : ℕ → ℕ
@@ -53,7 +50,7 @@ module _ {p : Problem} (v : Valid p) {load cost refusal : List ℕ} {must : List
     entry-load : (c : ℕ) → c ≤ levelCount p → entryLoad (offerAt load cost i) c ≡ loadOf c
     unfolding entryLoad offerAt loadOf offerOf loadAt jobsOf jobs
     entry-load zero low = sym (mul-zero (jobs p i))
-    entry-load (suc l) low = rw (eqb·suc-zero, div-eq-of-lt low, mod-eq-of-lt low) (offered-level i l h low .same-load)
+    entry-load (suc l) low = rw (eqb·suc-zero, div-eq-of-lt low, mod-eq-of-lt low) (offered-level (v .level-count .at-most) o i l h low .same-load)
 
     entry-cost : (c : ℕ) → c ≤ levelCount p → loadOf c ≤ span p →
         entryCost (offerAt load cost i) c ≡ p .weights .energy * (loadOf c * levelAt p (pred c % levelCount p) .power)
@@ -61,7 +58,7 @@ module _ {p : Problem} (v : Valid p) {load cost refusal : List ℕ} {must : List
     entry-cost zero low takes = omega (arith, mul-zero (jobs p i))
     entry-cost (suc l) low takes =
         let asked : offerOf p (taskAt p i) .load l ≤ span p = rw (eqb·suc-zero, div-eq-of-lt low, mod-eq-of-lt low) at takes in
-        rw (eqb·suc-zero, div-eq-of-lt low, mod-eq-of-lt low) (offered-level i l h low .same-cost asked)
+        rw (eqb·suc-zero, div-eq-of-lt low, mod-eq-of-lt low) (offered-level (v .level-count .at-most) o i l h low .same-cost asked)
 
   module _ {T : List Bool} {pattern : List ℕ} (keeps : Keeps (levelCount p) T pattern) (of-items : length T ≡ taskCount p) where
     offers-counted : length pattern ≡ length (offersOf load cost (taskCount p))

@@ -11,7 +11,7 @@ use lib.Seq.{getD-set-same, getD-set-other}
 use borrow.Author.Count.{below-more}
 use Rattle.laws.specs.Below.{lt-or-le}
 use Rattle.ranges.specs.Limits.{mostLevels, mostTasks}
-use Rattle.instance.specs.Node.{Problem, levelCount, taskAt, span}
+use Rattle.instance.specs.Node.{Problem, levelCount, taskAt, taskCount, span}
 use Rattle.planner.specs.OptionsOf.{itemOf, offerOf}
 
 -- task i at level l: a load that no core takes is never chosen, and its cost does not matter
@@ -32,6 +32,10 @@ pub record OptionsOffered (p : Problem) (n : ℕ) (load cost refusal : List ℕ)
   pub must-length : length must ≡ mostTasks
   pub same-refusal : (i : ℕ) → i < n → getD refusal i 0 ≡ itemOf p (taskAt p i) .refusal
   pub same-must : (i : ℕ) → i < n → getD must i false ≡ itemOf p (taskAt p i) .must
+
+pub offered-level : {p : Problem} {load cost refusal : List ℕ} {must : List Bool} → levelCount p ≤ mostLevels →
+    OptionsOffered p (taskCount p) load cost refusal must → (i l : ℕ) → i < taskCount p → l < levelCount p → LevelOffered p load cost i l
+offered-level few o i l h k = o .levels .level i l k (omega arith)
 
 pub nothing-offered : (p : Problem) (load cost refusal : List ℕ) (must : List Bool) → length load ≡ mostTasks * mostLevels →
     length cost ≡ mostTasks * mostLevels → length refusal ≡ mostTasks → length must ≡ mostTasks →
