@@ -19,7 +19,7 @@ use Rattle.assignment.specs.SetLaws.{setNumber-below}
 use Rattle.assignment.specs.Partition.{leastSplit, moved, best}
 use Rattle.assignment.specs.SplitLaws.{rest-length, leastSplit-parts}
 use Rattle.assignment.specs.Bounds.{bounded-within, best-bounded}
-use Rattle.partition.specs.Tables.{SmallTable, OneCoreTable, one-core-small, small-by-values}
+use Rattle.partition.specs.Tables.{SmallTable, OneCoreTable, one-core-bounded, small-by-values}
 use Rattle.partition.specs.Cores.{CoreReady, CoreAdded}
 
 pub record BestReady (n levels cores : ℕ) (coreCosts coreKeys costs keys : List ℕ) : Type 0 where
@@ -36,6 +36,12 @@ pub record BestFilled (n levels cores : ℕ) (coreCosts coreKeys costs keys : Li
   pub small : SmallTable n (cores * mostCoreCost) costs keys
   pub holds : (S : List Bool) → length S ≡ n →
       tableAt n costs keys S ≡ best levels (tableAt n coreCosts coreKeys) (pred cores) S
+
+-- the table of one core is that of the first
+pub first-core : {n levels : ℕ} {coreCosts coreKeys : List ℕ} → OneCoreTable n levels coreCosts coreKeys →
+    BestFilled n levels 1 coreCosts coreKeys coreCosts coreKeys
+unfolding best
+first-core given = record { small = given .small; holds = λ S of-items. refl }
 
 module _ {n levels cores : ℕ} {coreCosts coreKeys costs keys : List ℕ} (filled : BestFilled n levels cores coreCosts coreKeys costs keys) where
   -- a copy holds the same values
@@ -64,16 +70,6 @@ module _ {n levels cores : ℕ} {coreCosts coreKeys costs keys : List ℕ} (fill
       key-at x h = rw keys-copied (getD-onto-listOf (λ k. getD keys k 0) keyBuffer (2 ^ n) x 0 h)
 
 module _ {n levels cores : ℕ} {coreCosts coreKeys lentCosts lentKeys : List ℕ}
-    (ready : BestReady n levels cores coreCosts coreKeys lentCosts lentKeys) where
-  levels-digit : levels < keyBase
-  levels-digit = omega (arith, mul-le-mul-right levels (ready .some-core), ready .few-choices)
-
-  -- the table of one core is that of the first
-  pub first-core : BestFilled n levels 1 coreCosts coreKeys coreCosts coreKeys
-  unfolding best
-  first-core = record { small = one-core-small levels-digit (ready .core-table); holds = λ S of-items. refl }
-
-module _ {n levels cores : ℕ} {coreCosts coreKeys lentCosts lentKeys : List ℕ}
     (ready : BestReady n levels cores coreCosts coreKeys lentCosts lentKeys) {c : ℕ} (more : c < cores) where
   -- the choices on one core more are still below the key base
   pub next-choices : c * levels < keyBase
@@ -89,7 +85,7 @@ module _ {n levels cores : ℕ} {coreCosts coreKeys lentCosts lentKeys : List �
           small-shift = next-choices;
           most-top = mostCoreCost;
           most-rest = c * mostCoreCost;
-          top-table = one-core-small (levels-digit ready) (ready .core-table);
+          top-table = ready .core-table .small;
           rest-table = filled .small;
           room = omega (arith, ready .few-cores);
         }
@@ -127,7 +123,7 @@ module _ {n levels cores : ℕ} {coreCosts coreKeys lentCosts lentKeys : List �
             let choices : suc (pred (c + 1)) * levels < keyBase =
             rw counted (omega (arith, mul-le-mul-right levels under, ready .few-choices)) in
             rw (holds S of-items)
-            (rw counted at (bounded-within choices (best-bounded (ready .core-table .bounded) (pred (c + 1))) S of-items))
+            (rw counted at (bounded-within choices (best-bounded (one-core-bounded (ready .core-table)) (pred (c + 1))) S of-items))
 
         cost-bound : (x : ℕ) → (getD costs' x 0 < noCost) ⊎ ((getD costs' x 0 ≡ noCost) × (getD keys' x 0 ≡ 0)) →
             getD costs' x 0 ≤ noCost

@@ -23,7 +23,7 @@ use Rattle.assignment.specs.Entries.{entryAt}
 use Rattle.partition.specs.Splits.{sumAt, leastFrom, LoweredFrom, SumsReady, SplitsReady}
 use Rattle.partition.specs.Moves.{MovesReady, MovedBelow}
 use Rattle.partition.specs.MoveLaws.{weight-below}
-use Rattle.partition.specs.Tables.{room-for-sets}
+use Rattle.partition.specs.Tables.{mostSets, room-for-sets}
 use Rattle.partition.specs.Cores.{CoreReady, CoreAdded}
 
 module _ {n shift : ℕ} {tops topKeys costs keys : List ℕ} (ready : CoreReady n shift tops topKeys costs keys) where
@@ -63,7 +63,7 @@ module _ {n shift : ℕ} {tops topKeys costs keys : List ℕ} (ready : CoreReady
           };
         }
 
-    pub splits-ready : {next nextKeys : List ℕ} → 4096 ≤ length next → 4096 ≤ length nextKeys →
+    pub splits-ready : {next nextKeys : List ℕ} → mostSets ≤ length next → mostSets ≤ length nextKeys →
         SplitsReady (2 ^ n) 0 0 0 tops movedKeys costs keys next nextKeys
     splits-ready room key-room =
         let few = room-for-sets (ready .few-items) in

@@ -19,7 +19,8 @@ use Rattle.assignment.specs.SplitLaws.{rest-length, leastSplit-parts}
 use Rattle.assignment.specs.Refusing.{every, refusing}
 use Rattle.assignment.specs.RefusingLaws.{refusing-same}
 use Rattle.assignment.specs.Entries.{entryAt, NoDearer}
-use Rattle.partition.specs.Items.{itemsOf, items-from-first}
+use Rattle.values.specs.Items.{itemsOf}
+use Rattle.partition.specs.ItemsFrom.{items-from-first}
 use Rattle.partition.specs.Tables.{SmallTable, small-within, small-by-values}
 use Rattle.partition.specs.Moves.{MovesReady}
 use Rattle.partition.specs.Cores.{CoreReady}

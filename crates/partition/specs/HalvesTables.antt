@@ -10,7 +10,7 @@ use Rattle.assignment.specs.Words.{noCost}
 use Rattle.assignment.specs.Sets.{tableAt}
 use Rattle.assignment.specs.Partition.{leastSplit, moved}
 use Rattle.assignment.specs.Refusing.{every, refusing}
-use Rattle.partition.specs.Items.{itemsOf}
+use Rattle.values.specs.Items.{itemsOf}
 use Rattle.partition.specs.Tables.{SmallTable}
 
 -- what refusing of all n items asks: real costs stay real with all refusals

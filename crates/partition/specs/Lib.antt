@@ -7,7 +7,7 @@ pub mod Tables
 pub mod Cores
 pub mod CoreLaws
 pub mod BestFilled
-pub mod Items
+pub mod ItemsFrom
 pub mod RefusedTables
 pub mod RefusedLaws
 pub mod RefusingBounds

@@ -14,7 +14,8 @@ use Rattle.assignment.specs.Words.{words-within}
 use Rattle.assignment.specs.Limits.{mostCost}
 use Rattle.assignment.specs.Sets.{setNumber}
 use Rattle.assignment.specs.SetLaws.{setNumber-below, numbered}
-use Rattle.partition.specs.Items.{itemAt, listFrom}
+use Rattle.values.specs.Items.{itemAt}
+use Rattle.partition.specs.ItemsFrom.{listFrom}
 use Rattle.partition.specs.SplitLaws.{kept-entry, same-power, half-is-power}
 use Rattle.partition.specs.RefusedTables.{ItemReady, ItemRefused, RefuseReady, RefusedFrom}
 use Rattle.partition.specs.RefusedLaws.{refused-nothing, at-without, refused-with-must, refused-either}

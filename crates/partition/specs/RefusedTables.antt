@@ -12,7 +12,7 @@ use Rattle.assignment.specs.Limits.{mostCost}
 use Rattle.assignment.specs.Sets.{setNumber}
 use Rattle.assignment.specs.Refusing.{refusing}
 use Rattle.assignment.specs.Entries.{entryAt, NoDearer, Kept}
-use Rattle.partition.specs.Items.{itemsFrom}
+use Rattle.partition.specs.ItemsFrom.{itemsFrom}
 
 -- what refusing one item asks: with its refusal a cost fits 64 bits, and a real one stays real
 pub record ItemReady (half s refusal : ℕ) (costs keys : List ℕ) : Type 0 where

@@ -11,7 +11,8 @@ use Rattle.assignment.specs.Values.{Value, none, pair, add, lesser, Within, abs
 use Rattle.assignment.specs.ValueLaws.{lesser-either}
 use Rattle.assignment.specs.Limits.{mostCost}
 use Rattle.assignment.specs.Refusing.{refusing}
-use Rattle.partition.specs.Items.{itemAt, listFrom, itemsFrom}
+use Rattle.values.specs.Items.{itemAt}
+use Rattle.partition.specs.ItemsFrom.{listFrom, itemsFrom}
 
 module _ (refusal : List ℕ) (must : List Bool) (keyBound : ℕ) where
   within-either : {m : ℕ} {u v : Value} → Within m keyBound u → Within m keyBound v → Within m keyBound (lesser u v)

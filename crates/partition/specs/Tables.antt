@@ -14,8 +14,9 @@ use Rattle.assignment.specs.Values.{Value, Within, absent, present}
 use Rattle.assignment.specs.Words.{noCost, valueOf, words-none, words-pair, words-within}
 use Rattle.assignment.specs.Keys.{keyBase}
 use Rattle.assignment.specs.Sets.{setNumber, tableAt, Tabled}
-use Rattle.assignment.specs.SetLaws.{numbered}
-use Rattle.assignment.specs.Bounds.{BoundedTable, bounded-within}
+use Rattle.assignment.specs.SetLaws.{setNumber-below, numbered}
+use Rattle.assignment.specs.CoreTables.{Keyed}
+use Rattle.assignment.specs.Bounds.{Bounded, BoundedTable}
 use Rattle.assignment.specs.Entries.{entryAt}
 
 -- no entry above noCost, no real cost above `most`, and every key of n digits
@@ -26,16 +27,16 @@ pub record SmallTable (n most : ℕ) (costs keys : List ℕ) : Type 0 where
   pub real-bound : (x : ℕ) → x < 2 ^ n → getD costs x 0 < noCost → getD costs x 0 ≤ most
   pub key-bound : (x : ℕ) → x < 2 ^ n → getD keys x 0 < keyBase ^ n
 
--- each real entry has a cost of at most mostCoreCost, and the key of a pattern that keeps exactly its set
+-- each real entry has the key of a pattern that keeps exactly its set
 pub record OneCoreTable (n levels : ℕ) (costs keys : List ℕ) : Type 0 where
-  pub costs-for-all : 2 ^ n ≤ length costs
-  pub keys-for-all : 2 ^ n ≤ length keys
-  pub cost-bound : (x : ℕ) → x < 2 ^ n → getD costs x 0 ≤ noCost
-  pub key-bound : (x : ℕ) → x < 2 ^ n → getD keys x 0 < keyBase ^ n
-  pub bounded : BoundedTable levels n mostCoreCost (tableAt n costs keys)
+  pub small : SmallTable n mostCoreCost costs keys
+  pub keyed : (S : List Bool) → length S ≡ n → Keyed levels S (tableAt n costs keys S)
 
--- 2^n sets have room in the code's arrays
-pub room-for-sets : {n : ℕ} → n ≤ mostItems → 2 ^ n ≤ 4096
+-- the entries of the code's arrays
+abbrev pub mostSets : ℕ
+mostSets = 2 ^ mostItems
+
+pub room-for-sets : {n : ℕ} → n ≤ mostItems → 2 ^ n ≤ mostSets
 room-for-sets few = pow-mono few
 
 module _ {n most : ℕ} {costs keys : List ℕ} where
@@ -70,20 +71,29 @@ module _ {n most : ℕ} {costs keys : List ℕ} where
       key x h (inl real) = within x h real .1
       key x h (inr dear) = no-key x h dear
 
-pub one-core-small : {n levels : ℕ} {costs keys : List ℕ} → levels < keyBase → OneCoreTable n levels costs keys →
-    SmallTable n mostCoreCost costs keys
-one-core-small digit given =
-    small-by-values (given .costs-for-all) (given .keys-for-all) (given .cost-bound) (λ x h dear. given .key-bound x h)
-    (bounded-within digit (given .bounded))
+pub one-core-bounded : {n levels : ℕ} {costs keys : List ℕ} → OneCoreTable n levels costs keys →
+    BoundedTable levels n mostCoreCost (tableAt n costs keys)
+unfolding tableAt entryAt
+one-core-bounded {n} {levels} {costs} {keys} given =
+    record { entry = λ S of-items. go (given .keyed S of-items) (small-within (given .small) (setNumber n S) (setNumber-below n S)) }
+  where
+    go : {S : List Bool} {v : Value} → Keyed levels S v → Within mostCoreCost (keyBase ^ n) v → Bounded levels mostCoreCost S v
+    go Keyed.absent within = Bounded.absent
+    go (Keyed.present cost keeps) (present cheap digits) = Bounded.present cost cheap keeps
 
--- of a table that was filled with some values it is left to show that these are small
+-- a table that was filled with any values, of which these two facts are known
 pub one-core-table : {n levels : ℕ} {f : List Bool → Value} {costs keys : List ℕ} → Tabled n (keyBase ^ n) f costs keys →
-    BoundedTable levels n mostCoreCost (tableAt n costs keys) → OneCoreTable n levels costs keys
-one-core-table filled bounded =
+    ((x : ℕ) → x < 2 ^ n → getD costs x 0 < noCost → getD costs x 0 ≤ mostCoreCost) →
+    ((S : List Bool) → length S ≡ n → Keyed levels S (tableAt n costs keys S)) → OneCoreTable n levels costs keys
+one-core-table filled costs-limited keyed =
     record {
-      costs-for-all = filled .costs-for-all;
-      keys-for-all = filled .marks-for-all;
-      cost-bound = filled .cost-bound;
-      key-bound = filled .key-bound;
-      bounded = bounded;
+      small =
+          record {
+            costs-for-all = filled .costs-for-all;
+            keys-for-all = filled .marks-for-all;
+            cost-bound = filled .cost-bound;
+            real-bound = costs-limited;
+            key-bound = filled .key-bound;
+          };
+      keyed = keyed;
     }

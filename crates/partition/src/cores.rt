@@ -1,7 +1,7 @@
 // The least values of all sets on several cores, one core after the other.
-use crate::MOST_SETS;
 use crate::splits::lower_splits;
 use values::KEY_BASE;
+use values::MOST_SETS;
 use values::NO_COST;
 use values::sets_of;
 ghost use mathlib.Core.Path.{_≡_};

@@ -1,8 +1,8 @@
 // What the best plan is worth, by the values of all sets on the two halves of the cores.
-use crate::MOST_SETS;
 use crate::cores::move_keys;
 use crate::keeping::least_parted;
 use crate::keeping::refuse;
+use values::MOST_SETS;
 use values::Worth;
 use values::sets_of;
 ghost use mathlib.Core.Path.{_≡_};

@@ -8,6 +8,3 @@ mod splits;
 pub use cores::fill_best;
 pub use halves::least_on_one;
 pub use halves::least_over_halves;
-
-// The sets of the most items, 2^12.
-pub const MOST_SETS: usize = 4096;

@@ -4,7 +4,7 @@ use native.Mathlib.Omega.{arith}
 use lib.ListN.{getD-replicate}
 use Rattle.assignment.specs.Words.{noCost}
 use Rattle.partition.specs.CoreLaws.{moves-ready, splits-ready, core-added}
-use Rattle.partition.specs.Tables.{room-for-sets}
+use Rattle.partition.specs.Tables.{mostSets, room-for-sets}
 use borrow.Author.Needs.{needs}
 use Rattle.partition.proofs.cores.add_core.Statement.{statement}
 use Rattle.partition.proofs.cores.add_core.Tie as tie
@@ -33,7 +33,7 @@ lower-splits-requires c κs =
     let moved = c .before .before .before .before .before .before .before .move-keys in
     let room = room-for-sets (ready .few-items) in
     rw (c .before .before .before .before .before .sets-of .ensures)
-    (splits-ready ready (omega (arith, moved .kept .1 .1 .1 .0)) (moved .ensures) (le-refl 4096) (le-refl 4096))
+    (splits-ready ready (omega (arith, moved .kept .1 .1 .1 .0)) (moved .ensures) (le-refl mostSets) (le-refl mostSets))
 
 slice-aggregate-copy-entries : tie.Need-slice-aggregate-copy-entries
 slice-aggregate-copy-entries c = search needs
@@ -67,7 +67,7 @@ returns c =
     let moved = c .before .before .before .before .before .before .before .before .before .before .before .before .before .before .before .before .before .before .before .before .move-keys in
     let room = room-for-sets (ready .few-items) in
     core-added ready (omega (arith, moved .kept .1 .1 .1 .0)) (moved .ensures)
-    (λ x h. getD-replicate 4096 x noCost 0 (lt-of-lt-of-le h room)) (λ x h. getD-replicate 4096 x 0 0 (lt-of-lt-of-le h room))
+    (λ x h. getD-replicate mostSets x noCost 0 (lt-of-lt-of-le h room)) (λ x h. getD-replicate mostSets x 0 0 (lt-of-lt-of-le h room))
     (c .before .before .before .before .before .before .before .before .before .before .before .before .lower-splits .ensures (c .before .before .before .before .before .before .before .before .before .before .before .before .before .before .before .before .before .before .before .before .before .before .before .before .before .before .args .items) (c .before .before .before .before .before .before .before .before .before .before .before .before .before .before .before .before .before .before .sets-of .ensures))
     (c .before .before .before .before .before .before .before .copy-entries .ensures) (c .before .before .copy-entries2 .ensures)
 

@@ -18,11 +18,11 @@ abbrev μ-loop : tie.MeasureT-loop
 
 copy-entries-requires : tie.Need-copy-entries-requires Inv-loop μ-loop
 copy-entries-requires c κs =
-    let ready = c .before .before .before .before .before .pre in (ready .few-items, (ready .core-table .costs-for-all, ready .costs-for-all))
+    let ready = c .before .before .before .before .before .pre in (ready .few-items, (ready .core-table .small .costs-for-all, ready .costs-for-all))
 
 copy-entries-requires-2 : tie.Need-copy-entries-requires-2 Inv-loop μ-loop
 copy-entries-requires-2 c κs =
-    let ready = c .before .before .before .before .before .before .before .before .before .pre in (ready .few-items, (ready .core-table .keys-for-all, ready .keys-for-all))
+    let ready = c .before .before .before .before .before .before .before .before .before .pre in (ready .few-items, (ready .core-table .small .keys-for-all, ready .keys-for-all))
 
 loop-holds : tie.Need-loop-holds Inv-loop μ-loop
 loop-holds c =
@@ -34,7 +34,7 @@ loop-holds c =
       refl,
       omega arith,
       ready .some-core,
-      copied (first-core ready) (now (start .args .costs)) (now (start .args .keys)) (first .ensures) (second .ensures)
+      copied (first-core (ready .core-table)) (now (start .args .costs)) (now (start .args .keys)) (first .ensures) (second .ensures)
           (omega (arith, ready .costs-for-all, first .kept .1 .1 .0)) (omega (arith, ready .keys-for-all, second .kept .1 .1 .0)),
     )
 

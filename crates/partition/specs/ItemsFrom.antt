@@ -1,18 +1,12 @@
--- The items as the code has them: a slice of refusals, and one of those that must be kept.
+-- The items from any one on.
 use Prim.Native.Nat.{ℕ, zero, suc, _+_}
 use mathlib.Core.Path.{_≡_, refl, sym, ap, _∙_}
-use mathlib.Core.Bool.{Bool, false}
+use mathlib.Core.Bool.{Bool}
 use mathlib.Core.List.{List, [], _∷_, _++_}
 use native.Mathlib.Nat.{zero-add, add-zero, add-suc, suc-add}
-use lib.ListN.{getD}
 use Rattle.laws.specs.Lists.{listOf}
 use Rattle.assignment.specs.Assignment.{Item}
-
-unfoldable pub itemAt : List ℕ → List Bool → ℕ → Item
-itemAt refusal must i = record { refusal = getD refusal i 0; must = getD must i false }
-
-unfoldable pub itemsOf : List ℕ → List Bool → ℕ → List Item
-itemsOf refusal must = listOf (itemAt refusal must)
+use Rattle.values.specs.Items.{itemAt, itemsOf}
 
 -- f i, f (i + 1), .., f (i + n - 1)
 unfoldable pub listFrom : {A : Type 0} → (ℕ → A) → ℕ → ℕ → List A
