@@ -1,9 +1,9 @@
 -- Where the cores admit the first cheapest choice of every item together, these are the best plan.
 use Prim.Native.Nat.{ℕ, zero, suc, _+_, _*_, _/_, _%_, _≤_, _<_}
 use mathlib.Core.Path.{_≡_, refl, sym, ap, ap₂, _∙_}
-use mathlib.Core.Logic.{_⊎_, inl, inr, _≢_}
+use mathlib.Core.Logic.{_⊎_, inl, inr}
 use mathlib.Core.Bool.{true, cond}
-use mathlib.Core.List.{List, [], _∷_}
+use mathlib.Core.List.{List, _∷_}
 use native.Mathlib.Nat.{div-add-mod', div-eq-of-lt, div-lt-iff-lt-mul, mod-le, mod-lt, mul-le-mul-right, zero-mul, zero-add, add-zero}
 use native.Mathlib.Omega.{arith}
 use lib.Dec.{eqb, eqb·suc-zero}
@@ -29,7 +29,7 @@ use Rattle.assignment.specs.Assignment.{
 }
 use Rattle.assignment.specs.KeepingLaws.{refused-runs, level-runs, other-runs, some-level}
 use Rattle.knapsack.specs.Offers.{Offer, entryLoad, entryCost, patternLoad, patternCost}
-use Rattle.light.specs.CheapestChoices.{LowChoice, refusing, keeping, CheapestChoice, CheapestChoices, none, more, OfLoads}
+use Rattle.light.specs.CheapestChoices.{LowChoice, refusing, keeping, CheapestChoices, none, more, OfLoads}
 
 -- a low choice has core 0 run its level, and no other core run anything
 

@@ -13,7 +13,7 @@ use lib.ListN.{length, length-append}
 use Rattle.laws.specs.Below.{lt-or-le}
 use Rattle.laws.specs.JoinedLaws.{length-listOf}
 use Rattle.laws.specs.Lists.{listOf}
-use Rattle.assignment.specs.Assignment.{Item, Options, corePattern, refusedCost}
+use Rattle.assignment.specs.Assignment.{Item, corePattern, refusedCost}
 use Rattle.assignment.specs.KeyLaws.{InBase, nothing, digit, key-below, digits-key}
 use Rattle.assignment.specs.Keys.{keyBase, planKey, digits}
 use Rattle.assignment.specs.Limits.{mostLevels, mostCost}
@@ -74,7 +74,7 @@ module _ {levels capacity : ℕ} where
   plan-length (more w v here rest) = ap suc (plan-length rest)
 
   -- cores that take load alone admit the choices, where core 0 takes them together
-  pub admitted-together : (cores : ℕ) {offers : List Offer} {items : List Item} {plan : List ℕ} →
+  admitted-together : (cores : ℕ) {offers : List Offer} {items : List Item} {plan : List ℕ} →
       CheapestChoices levels capacity offers items plan → patternLoad offers plan ≤ capacity →
       (k : ℕ) → k < cores → loadOptions cores levels capacity offers items .admits (corePattern levels k plan) ≡ true
   unfolding loadOptions
