@@ -1,5 +1,5 @@
 -- The chosen value is the least total cost and key of the allowed plans.
-use Prim.Native.Nat.{ℕ, zero, suc, pred, _+_, _<_, zero-le}
+use Prim.Native.Nat.{ℕ, zero, suc, pred, _<_, zero-le}
 use mathlib.Core.Path.{_≡_, refl, sym, ap, ap₂, _∙_}
 use mathlib.Core.Logic.{_⊎_, inl, inr}
 use mathlib.Core.Bool.{Bool, true, false, cond, true≢false}
@@ -8,13 +8,13 @@ use native.Mathlib.Nat.{suc-ne-zero}
 use native.Mathlib.Omega.{arith}
 use lib.Dec.{eqb·suc-zero}
 use lib.ListN.{length}
-use Rattle.assignment.specs.Assignment.{Item, Options, coresCost, refusedCost, totalCost, ChoicesAllowed, more, Allowed}
-use Rattle.assignment.specs.Values.{Value, none, pair, add, AtMost, Attained, Least}
+use Rattle.assignment.specs.Assignment.{Item, Options, refusedCost, totalCost, ChoicesAllowed, more, Allowed}
+use Rattle.assignment.specs.Values.{Value, none, pair, add, AtMost, to-none, Attained, Least}
 use Rattle.assignment.specs.ValueLaws.{atMost-refl, atMost-trans, add-mono, lesser-first, lesser-second, lesser-either}
-use Rattle.assignment.specs.Keys.{planKey}
 use Rattle.assignment.specs.Keeping.{Keeps, done, refused, kept, Runs, keptWorth, planWorth}
 use Rattle.assignment.specs.CoreTables.{CoreTable}
 use Rattle.assignment.specs.Partition.{best}
+use Rattle.assignment.specs.SplitLaws.{best-mono}
 use Rattle.assignment.specs.PartitionLaws.{best-least}
 use Rattle.assignment.specs.Choice.{leastHolding, refusals, chosen}
 
@@ -138,3 +138,20 @@ chosen-least {o} {table} core some-core = record { below = lower; attained = go 
     go (inl e) = inl e
     go (inr (S, holds, e)) =
         rw e (set-attained o holds (all-cores-least core some-core S (holds-length holds) .attained))
+
+-- lower tables make lower choices
+pub chosen-mono : {f g : List Bool → Value} (levels : ℕ) (items : List Item) →
+    ((T : List Bool) → length T ≡ length items → AtMost (f T) (g T)) → (c : ℕ) →
+    AtMost (chosen levels items f c) (chosen levels items g c)
+unfolding chosen
+chosen-mono {f} {g} levels items lower c = go (leastHolding-attained items (withRefusals g))
+  where
+    withRefusals : (List Bool → Value) → List Bool → Value
+    withRefusals table S = add (pair (refusals items S) 0) (best levels table c S)
+
+    go : {v : Value} → Attained (Holds items) (withRefusals g) v → AtMost (leastHolding items (withRefusals f)) v
+    go (inl e) = rw e to-none
+    go (inr (S, holds, e)) =
+        rw e
+        (atMost-trans (leastHolding-below (withRefusals f) holds)
+        (add-mono (atMost-refl _) (best-mono levels (length items) lower c S (holds-length holds))))

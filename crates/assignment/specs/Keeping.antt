@@ -1,8 +1,9 @@
 -- Plans that keep exactly a set of the items, and what they are worth. A set is a list of flags, one beside each item.
 use Prim.Native.Nat.{ℕ, suc, _*_, _<_}
 use mathlib.Core.Path.{_≡_}
-use mathlib.Core.Bool.{Bool, true, false}
+use mathlib.Core.Bool.{Bool, true, false, not}
 use mathlib.Core.List.{List, [], _∷_}
+use lib.Dec.{eqb}
 use Rattle.assignment.specs.Assignment.{Options, corePattern, coresCost, totalCost}
 use Rattle.assignment.specs.Keys.{planKey}
 use Rattle.assignment.specs.Values.{Value, pair}
@@ -12,6 +13,15 @@ pub data Keeps (most : ℕ) : List Bool → List ℕ → Type 0 where
   done : Keeps most [] []
   refused : {S : List Bool} {plan : List ℕ} → Keeps most S plan → Keeps most (false ∷ S) (0 ∷ plan)
   kept : {S : List Bool} {plan : List ℕ} (d : ℕ) → d < most → Keeps most S plan → Keeps most (true ∷ S) (suc d ∷ plan)
+
+-- the items that a plan keeps
+unfoldable pub keptItems : List ℕ → List Bool
+keptItems [] = []
+keptItems (c ∷ plan) = not (eqb c 0) ∷ keptItems plan
+
+-- those that core k runs
+unfoldable pub coreSet : ℕ → ℕ → List ℕ → List Bool
+coreSet levels k plan = keptItems (corePattern levels k plan)
 
 -- on the cores below `cores`, each of which admits what it runs
 pub record Runs (o : Options) (cores : ℕ) (S : List Bool) (plan : List ℕ) : Type 0 where

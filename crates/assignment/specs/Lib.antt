@@ -23,5 +23,8 @@ pub mod Choice
 pub mod Refusing
 pub mod RefusingLaws
 pub mod ChoiceLaws
+pub mod AllowedLaws
 pub mod Cheapest
 pub mod SearchTheorem
+pub mod AlikeLaws
+pub mod SettledTheorem

@@ -9,9 +9,9 @@ use native.Mathlib.Nat.{one-mul, zero-add, eq-or-lt-of-le}
 use native.Mathlib.Omega.{arith}
 use lib.ListN.{length}
 use Rattle.assignment.specs.Assignment.{Options, corePattern, coresCost}
-use Rattle.assignment.specs.Values.{Value, none, pair, add, AtMost, Attained, Least}
+use Rattle.assignment.specs.Values.{Value, pair, add, AtMost, Attained, Least}
 use Rattle.assignment.specs.ValueLaws.{atMost-refl, atMost-trans, add-mono}
-use Rattle.assignment.specs.Keys.{planKey, weight}
+use Rattle.assignment.specs.Keys.{weight}
 use Rattle.assignment.specs.Keeping.{Keeps, done, refused, kept, Runs, keptWorth}
 use Rattle.assignment.specs.KeepingLaws.{refused-runs, level-runs}
 use Rattle.assignment.specs.CoreTables.{Admitted, patternWorth, CoreTable}

@@ -10,11 +10,12 @@ use Rattle.assignment.specs.Assignment.{Options, coresCost, totalCost, A
 use Rattle.assignment.specs.Values.{Value, none, pair}
 use Rattle.assignment.specs.Keys.{keyBase, digits}
 use Rattle.assignment.specs.Keeping.{Runs, keptWorth, planWorth}
-use Rattle.assignment.specs.KeyLaws.{InBase, keeps-in-base, keeps-length}
+use Rattle.assignment.specs.KeyLaws.{keeps-in-base, keeps-length}
 use Rattle.assignment.specs.CoreTables.{CoreTable}
 use Rattle.assignment.specs.Partition.{best}
 use Rattle.assignment.specs.Choice.{chosen}
-use Rattle.assignment.specs.ChoiceLaws.{kept-set, holds-length, all-cores-least, chosen-least}
+use Rattle.assignment.specs.ChoiceLaws.{all-cores-least, chosen-least}
+use Rattle.assignment.specs.AllowedLaws.{allowed-in-base, allowed-length}
 use Rattle.assignment.specs.Cheapest.{Answers, least-answers}
 
 -- what a value says of the options: no plan is allowed, or the key's digits are the best plan, of that cost
@@ -30,13 +31,9 @@ pub search-finds-best : (o : Options) (table : List Bool → Value) → CoreTabl
 unfolding planWorth
 search-finds-best o table core some-core small =
     go (chosen (o .levels) (o .items) table (pred (o .cores)))
-    (least-answers (length (o .items)) (Allowed o) (totalCost o) in-base _ (chosen-least core some-core))
+    (least-answers (length (o .items)) (Allowed o) (totalCost o)
+    (λ plan allowed. (allowed-in-base allowed small, allowed-length allowed)) _ (chosen-least core some-core))
   where
-    in-base : (plan : List ℕ) → Allowed o plan → InBase plan × (length plan ≡ length (o .items))
-    in-base plan allowed =
-        let s = kept-set (allowed .choices) in
-        (keeps-in-base small (s .keeps), keeps-length (s .keeps) ∙ holds-length (s .holds))
-
     go : (v : Value) → Answers (length (o .items)) (Allowed o) (totalCost o) v → BestAnswers o v
     go none answer = answer
     go (pair cost key) (first, costs) = (record { allowed = first .has; no-worse = first .no-worse }, costs)
