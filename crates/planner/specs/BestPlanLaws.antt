@@ -58,7 +58,7 @@ module _ (p : Problem) where
   unfolding optionsOf
   allowed-is-tried plan allowed = listed-iff _ _ _ .1 (rw (item-count p) at (choices-in-range (allowed .choices)))
 
-  choice-count : {plan : List ℕ} → Allowed (optionsOf p) plan → length plan ≡ taskCount p
+  pub choice-count : {plan : List ℕ} → Allowed (optionsOf p) plan → length plan ≡ taskCount p
   choice-count {plan} allowed = passing-choices p plan (passing-is-allowed p plan .1 allowed) .one-choice-per-task
 
   no-worse-plan-is-no-worse : {plan other : List ℕ} → Allowed (optionsOf p) plan → Allowed (optionsOf p) other →
