@@ -5,7 +5,8 @@ use mathlib.Core.Logic.{_↔_, ⊎-elim}
 use mathlib.Core.Option.{none, some}
 use mathlib.Core.Path.{_≡_, refl}
 use native.Mathlib.Omega.{arith}
-use Rattle.instance.specs.Node.{Problem}
+use lib.ListN.{length}
+use Rattle.instance.specs.Node.{Problem, taskCount}
 use Rattle.refusals.specs.declared.Verdict.the-variants.{Accepted}
 use Rattle.drawings.specs.Drawings.{Drawing}
 use Rattle.drawings.specs.FitLaws.{passing-table-passes, drawn-plan-passes, passing-plan-is-drawn}
