@@ -1,5 +1,5 @@
 -- One core more is every split of every set, from entries of none.
-use Prim.Native.Nat.{ℕ, suc, _+_, _*_, _^_, _≤_, _<_}
+use Prim.Native.Nat.{ℕ, _+_, _*_, _^_, _≤_, _<_}
 use mathlib.Core.Path.{_≡_, refl, sym, ap, ap₂, _∙_}
 use mathlib.Core.Logic.{_⊎_, inl, inr}
 use mathlib.Core.Bool.{Bool}
@@ -10,7 +10,7 @@ use lib.ListN.{length, getD}
 use Rattle.laws.specs.Lists.{listOf, onto}
 use Rattle.laws.specs.OntoLaws.{getD-onto-listOf}
 use Rattle.assignment.specs.Limits.{mostItems}
-use Rattle.assignment.specs.Values.{Value, none, pair, add, lesser, to-none}
+use Rattle.assignment.specs.Values.{Value, none, add, lesser, to-none}
 use Rattle.assignment.specs.ValueLaws.{lesser-is-second}
 use Rattle.assignment.specs.Words.{noCost, valueOf, words-none, words-pair, words-add}
 use Rattle.assignment.specs.Keys.{keyBase, weight}
@@ -23,20 +23,21 @@ use Rattle.assignment.specs.Entries.{entryAt}
 use Rattle.partition.specs.Splits.{sumAt, leastFrom, LoweredFrom, SumsReady, SplitsReady}
 use Rattle.partition.specs.Moves.{MovesReady, MovedBelow}
 use Rattle.partition.specs.MoveLaws.{weight-below}
-use Rattle.partition.specs.Tables.{mostSets, room-for-sets}
+use Rattle.partition.specs.Tables.{SmallTable, mostSets, room-for-sets}
 use Rattle.partition.specs.Cores.{CoreReady, CoreAdded}
 
-module _ {n shift : ℕ} {tops topKeys costs keys : List ℕ} (ready : CoreReady n shift tops topKeys costs keys) where
-  pub moves-ready : {lent : List ℕ} → 2 ^ n ≤ length lent → MovesReady n shift topKeys lent
-  moves-ready long =
-      record {
-        few-items = ready .few-items;
-        small-shift = ready .small-shift;
-        keys-long = ready .top-table .keys-for-all;
-        key-bound = ready .top-table .key-bound;
-        moved-long = long;
-      }
+pub moves-ready : {n shift most : ℕ} {tops topKeys lent : List ℕ} → n ≤ mostItems → shift < keyBase → SmallTable n most tops topKeys →
+    2 ^ n ≤ length lent → MovesReady n shift topKeys lent
+moves-ready few small table long =
+    record {
+      few-items = few;
+      small-shift = small;
+      keys-long = table .keys-for-all;
+      key-bound = table .key-bound;
+      moved-long = long;
+    }
 
+module _ {n shift : ℕ} {tops topKeys costs keys : List ℕ} (ready : CoreReady n shift tops topKeys costs keys) where
   module _ {movedKeys : List ℕ} (long : 2 ^ n ≤ length movedKeys) (is-moved : MovedBelow n shift (2 ^ n) topKeys movedKeys) where
     moved-bound : (x : ℕ) → x < 2 ^ n → getD movedKeys x 0 < keyBase ^ n + keyBase ^ n
     moved-bound x h =

@@ -12,7 +12,7 @@ use Rattle.assignment.specs.Limits.{mostCoreCost}
 use Rattle.assignment.specs.Keys.{keyBase, weight}
 use Rattle.assignment.specs.Values.{pair, add}
 use Rattle.assignment.specs.Sets.{tableAt}
-use Rattle.assignment.specs.Partition.{leastSplit, moved, best}
+use Rattle.assignment.specs.Partition.{moved, best}
 use Rattle.assignment.specs.SplitLaws.{part-length, leastSplit-parts}
 use Rattle.assignment.specs.Refusing.{every, refusing}
 use Rattle.assignment.specs.RefusingLaws.{refusing-same, chosen-on-one, chosen-in-halves}

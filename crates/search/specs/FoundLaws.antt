@@ -5,7 +5,7 @@ use mathlib.Core.Bool.{Bool}
 use mathlib.Core.List.{List}
 use native.Mathlib.Nat.{zero-add, mul-le-mul}
 use native.Mathlib.Omega.{arith}
-use lib.ListN.{length, getD}
+use lib.ListN.{length}
 use Rattle.laws.specs.Lists.{onto}
 use Rattle.laws.specs.JoinedLaws.{length-listOf}
 use Rattle.assignment.specs.Limits.{mostCost, mostCoreCost}
@@ -18,7 +18,7 @@ use Rattle.assignment.specs.CoreTables.{CoreTable}
 use Rattle.assignment.specs.Partition.{best}
 use Rattle.assignment.specs.Choice.{chosen}
 use Rattle.assignment.specs.Bounds.{bounded-within, best-bounded}
-use Rattle.assignment.specs.Refusing.{every, refusing}
+use Rattle.assignment.specs.Refusing.{every}
 use Rattle.assignment.specs.RefusingLaws.{holding-is-refusing}
 use Rattle.assignment.specs.SearchTheorem.{BestAnswers, search-finds-best}
 use Rattle.partition.specs.HalvesLaws.{every-length}

@@ -1,6 +1,7 @@
 -- `least_of_table` fills the table of the lower cores; the upper cores have the table of one core, or the same table.
 use mathlib.Core.Path.{_∙_}
 use native.Mathlib.Nat.{le-refl}
+use native.Mathlib.Omega.{arith}
 use borrow.Author.Needs.{needs}
 use Rattle.partition.specs.Tables.{mostSets}
 use Rattle.search.specs.ChosenTables.{lower-ready, shift-fits, alone-ready, core-above-ready, table-above-ready, alone-chosen, core-above-chosen, table-above-chosen}
@@ -32,7 +33,7 @@ least-on-one-requires c κs =
 
 returns : tie.Need-returns
 returns c =
-    c .before .before .least-on-one .ensures ∙ alone-chosen (c .before .before .before .before .before .before .before .before .before .before .before .before .before .before .before .before .before .pre) (c .before .before .before .before .before .before .before .before .fill-best .ensures) (c .before .before .before .before .before .if1 .taken)
+    c .before .before .least-on-one .ensures ∙ alone-chosen (c .before .before .before .before .before .before .before .before .before .before .before .before .before .before .before .before .before .pre) (c .before .before .before .before .before .before .before .before .fill-best .ensures) (omega (arith, c .before .before .before .before .before .if1 .taken))
 
 mul-shift : tie.Need-mul-shift
 mul-shift c =
