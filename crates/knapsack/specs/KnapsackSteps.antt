@@ -8,6 +8,7 @@ use lib.Dec.{eqb}
 use lib.ListN.{length}
 use Rattle.laws.specs.Lists.{listOf}
 use Rattle.knapsack.specs.Offers.{Offer}
+use Rattle.assignment.specs.LeastLaws.{leastBelow-alike}
 use Rattle.assignment.specs.Values.{Value, leastBelow}
 use Rattle.knapsack.specs.Knapsacks.{atLevel, knapsack}
 
@@ -27,11 +28,6 @@ knapsackBefore levels offer (suc ahead) places k rest =
 
 -- a knapsack looks at no larger load
 
-leastBelow-same : (n : ℕ) (f g : ℕ → Value) → ((l : ℕ) → f l ≡ g l) → leastBelow n f ≡ leastBelow n g
-unfolding leastBelow
-leastBelow-same zero f g same = refl
-leastBelow-same (suc n) f g same = rw (leastBelow-same n f g same, same n)
-
 atLevel-same : (offer : Offer) (places : ℕ) (f g : ℕ → Value) (w l : ℕ) → ((u : ℕ) → u ≤ w → f u ≡ g u) →
     atLevel offer places f w l ≡ atLevel offer places g w l
 unfolding atLevel
@@ -41,7 +37,7 @@ pub withItem-same : (levels : ℕ) (offer : Offer) (places : ℕ) (f g : ℕ →
     withItem levels offer places f w ≡ withItem levels offer places g w
 unfolding withItem
 withItem-same levels offer places f g w same =
-    leastBelow-same levels _ _ (λ l. atLevel-same offer places f g w l same)
+    leastBelow-alike levels _ _ (λ l under. atLevel-same offer places f g w l same)
 
 pub knapsackBefore-same : (levels : ℕ) (offer : ℕ → Offer) (ahead places k : ℕ) (f g : ℕ → Value) (w : ℕ) →
     ((u : ℕ) → u ≤ w → f u ≡ g u) → knapsackBefore levels offer ahead places k f w ≡ knapsackBefore levels offer ahead places k g w

@@ -6,10 +6,10 @@ use mathlib.Core.List.{List, [], _∷_, append-nil}
 use native.Mathlib.Nat.{zero-add, pow-suc}
 use native.Mathlib.Omega.{arith}
 use lib.ListN.{length}
-use Rattle.knapsack.specs.Knapsacks.{atLevel, knapsack}
-use Rattle.assignment.specs.Values.{Value, pair}
+use Rattle.knapsack.specs.Knapsacks.{knapsack}
+use Rattle.assignment.specs.Values.{pair}
 use Rattle.knapsack.specs.Offered.{offerAt, offersOf}
-use Rattle.knapsack.specs.KnapsackSteps.{withItem, hasLast, knapsackBefore, setBefore, knapsackBefore-knapsack}
+use Rattle.knapsack.specs.KnapsackSteps.{hasLast, knapsackBefore, setBefore, knapsackBefore-knapsack}
 use Rattle.assignment.specs.Sets.{setNumber}
 use Rattle.assignment.specs.SetLaws.{setNumber-below}
 
