@@ -6,8 +6,10 @@ use mathlib.Core.Bool.{Bool}
 use mathlib.Core.List.{List}
 use native.Mathlib.Nat.{zero-add}
 use native.Mathlib.Omega.{arith}
-use lib.ListN.{length, getD}
+use lib.ListN.{length, getD, drop}
+use lib.Seq.{drop-at}
 use Rattle.laws.specs.Lists.{listOf, onto}
+use Rattle.laws.specs.JoinedLaws.{length-listOf}
 use Rattle.laws.specs.OntoLaws.{getD-onto-listOf}
 use Rattle.assignment.specs.Limits.{mostItems}
 use Rattle.assignment.specs.Values.{Value, none, add, lesser, to-none}
@@ -25,6 +27,14 @@ use Rattle.partition.specs.Moves.{MovesReady, MovedBelow}
 use Rattle.partition.specs.MoveLaws.{weight-below}
 use Rattle.partition.specs.Tables.{SmallTable, mostSets, room-for-sets}
 use Rattle.partition.specs.Cores.{CoreReady, CoreAdded}
+
+-- entries that are copied to the front leave the others
+pub others-kept : (from : List ℕ) (n : ℕ) (before : List ℕ) {after : List ℕ} → after ≡ onto (listOf (λ x. getD from x 0) n) before →
+    drop n after ≡ drop n before
+unfolding onto
+others-kept from n before copied =
+    let count = length-listOf (λ x. getD from x 0) n in
+    rw (copied, count) (drop-at (listOf (λ x. getD from x 0) n) (drop n before) n count)
 
 pub moves-ready : {n shift most : ℕ} {tops topKeys lent : List ℕ} → n ≤ mostItems → shift < keyBase → SmallTable n most tops topKeys →
     2 ^ n ≤ length lent → MovesReady n shift topKeys lent
@@ -120,7 +130,13 @@ module _ {n shift : ℕ} {tops topKeys costs keys : List ℕ} (ready : CoreReady
 
       pub core-added : CoreAdded n shift tops topKeys costs keys costs' keys'
       unfolding entryAt tableAt
-      core-added = record { holds = holds; bounded = λ x h. bounded x h (lowered .no-dearer .at x) }
+      core-added =
+          record {
+            holds = holds;
+            other-costs = others-kept next (2 ^ n) costs copied;
+            other-keys = others-kept nextKeys (2 ^ n) keys keys-copied;
+            bounded = λ x h. bounded x h (lowered .no-dearer .at x);
+          }
         where
           holds : (S : List Bool) → length S ≡ n →
               entryAt costs' keys' (setNumber n S)
