@@ -99,7 +99,9 @@ module _ {n shift : ℕ} {tops topKeys costs keys : List ℕ} (ready : CoreReady
         let w = shift * weight T in
         let real : 0 + a < noCost → b < noCost → 0 + a + b < noCost =
         λ p q.
-        omega (arith, ready .top-table .real-bound (setNumber n T) (setNumber-below n T) (omega arith), ready .rest-table .real-bound (setNumber n R) (setNumber-below n R) q, ready .room) in
+        let top = ready .top-table .real-bound (setNumber n T) (setNumber-below n T) (omega arith) in
+        let rest = ready .rest-table .real-bound (setNumber n R) (setNumber-below n R) q in
+        omega (arith, ready .room) in
         rw (zero-add (setNumber n T), zero-add (setNumber n R), is-moved .at T t (setNumber-below n T))
         (ap₂ valueOf (omega arith) (omega arith)
         ∙ sym

@@ -43,7 +43,8 @@ module _ {shape : Shape} {refusal : List ℕ} {must : List Bool} {coreCosts core
   unfolding keyBase
   few-choices = omega (arith, mul-le-mul (ready .shape-limited .cores) (ready .shape-limited .levels))
 
-  found-within : Within (shape .cores * mostCoreCost + shape .items * mostCost) (keyBase ^ shape .items) (foundValue shape refusal must coreCosts coreKeys)
+  found-within :
+      Within (shape .cores * mostCoreCost + shape .items * mostCost) (keyBase ^ shape .items) (foundValue shape refusal must coreCosts coreKeys)
   unfolding foundValue chosen
   found-within =
       let n = shape .items in
@@ -76,9 +77,11 @@ unfolding foundValue
 search-is-best {shape} {refusal} {must} {coreCosts} {coreKeys} {before} {after} {found} ready searched o same-cores same-levels same-items core =
     go (foundValue shape refusal must coreCosts coreKeys) (searched .told)
     (subst (BestAnswers o) value
-    (search-finds-best o (tableAt (shape .items) coreCosts coreKeys) core (rw same-cores (ready .shape-limited .some-core)) (rw (same-cores, same-levels) (few-choices ready))))
+    (search-finds-best o (tableAt (shape .items) coreCosts coreKeys) core (rw same-cores (ready .shape-limited .some-core))
+    (rw (same-cores, same-levels) (few-choices ready))))
   where
-    value : chosen (o .levels) (o .items) (tableAt (shape .items) coreCosts coreKeys) (pred (o .cores)) ≡ foundValue shape refusal must coreCosts coreKeys
+    value : chosen (o .levels) (o .items) (tableAt (shape .items) coreCosts coreKeys) (pred (o .cores))
+        ≡ foundValue shape refusal must coreCosts coreKeys
     value = rw (same-cores, same-levels, same-items)
 
     counted : length (o .items) ≡ shape .items
