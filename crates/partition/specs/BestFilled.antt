@@ -5,7 +5,6 @@ use mathlib.Core.Logic.{_⊎_, inl, inr}
 use mathlib.Core.Bool.{Bool}
 use mathlib.Core.List.{List}
 use native.Mathlib.Nat.{mul-le-mul-right, one-le-pow}
-use native.Mathlib.Numerals.{add-one}
 use native.Mathlib.Omega.{arith}
 use lib.ListN.{length, getD}
 use Rattle.laws.specs.Lists.{listOf, onto}
@@ -16,7 +15,7 @@ use Rattle.assignment.specs.Values.{Value, add, Within}
 use Rattle.assignment.specs.Words.{noCost}
 use Rattle.assignment.specs.Sets.{setNumber, tableAt}
 use Rattle.assignment.specs.SetLaws.{setNumber-below}
-use Rattle.assignment.specs.Partition.{leastSplit, moved, best}
+use Rattle.assignment.specs.Partition.{moved, best}
 use Rattle.assignment.specs.SplitLaws.{rest-length, leastSplit-parts}
 use Rattle.assignment.specs.Bounds.{bounded-within, best-bounded}
 use Rattle.partition.specs.Tables.{SmallTable, OneCoreTable, one-core-bounded, small-by-values}

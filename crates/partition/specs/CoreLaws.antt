@@ -1,16 +1,18 @@
 -- One core more is every split of every set, from entries of none.
-use Prim.Native.Nat.{ℕ, suc, _+_, _*_, _^_, _≤_, _<_}
+use Prim.Native.Nat.{ℕ, _+_, _*_, _^_, _≤_, _<_}
 use mathlib.Core.Path.{_≡_, refl, sym, ap, ap₂, _∙_}
 use mathlib.Core.Logic.{_⊎_, inl, inr}
 use mathlib.Core.Bool.{Bool}
 use mathlib.Core.List.{List}
 use native.Mathlib.Nat.{zero-add}
 use native.Mathlib.Omega.{arith}
-use lib.ListN.{length, getD}
+use lib.ListN.{length, getD, drop}
+use lib.Seq.{drop-at}
 use Rattle.laws.specs.Lists.{listOf, onto}
+use Rattle.laws.specs.JoinedLaws.{length-listOf}
 use Rattle.laws.specs.OntoLaws.{getD-onto-listOf}
 use Rattle.assignment.specs.Limits.{mostItems}
-use Rattle.assignment.specs.Values.{Value, none, pair, add, lesser, to-none}
+use Rattle.assignment.specs.Values.{Value, none, add, lesser, to-none}
 use Rattle.assignment.specs.ValueLaws.{lesser-is-second}
 use Rattle.assignment.specs.Words.{noCost, valueOf, words-none, words-pair, words-add}
 use Rattle.assignment.specs.Keys.{keyBase, weight}
@@ -23,20 +25,29 @@ use Rattle.assignment.specs.Entries.{entryAt}
 use Rattle.partition.specs.Splits.{sumAt, leastFrom, LoweredFrom, SumsReady, SplitsReady}
 use Rattle.partition.specs.Moves.{MovesReady, MovedBelow}
 use Rattle.partition.specs.MoveLaws.{weight-below}
-use Rattle.partition.specs.Tables.{mostSets, room-for-sets}
+use Rattle.partition.specs.Tables.{SmallTable, mostSets, room-for-sets}
 use Rattle.partition.specs.Cores.{CoreReady, CoreAdded}
 
-module _ {n shift : ℕ} {tops topKeys costs keys : List ℕ} (ready : CoreReady n shift tops topKeys costs keys) where
-  pub moves-ready : {lent : List ℕ} → 2 ^ n ≤ length lent → MovesReady n shift topKeys lent
-  moves-ready long =
-      record {
-        few-items = ready .few-items;
-        small-shift = ready .small-shift;
-        keys-long = ready .top-table .keys-for-all;
-        key-bound = ready .top-table .key-bound;
-        moved-long = long;
-      }
+-- entries that are copied to the front leave the others
+pub others-kept : (from : List ℕ) (n : ℕ) (before : List ℕ) {after : List ℕ} → after ≡ onto (listOf (λ x. getD from x 0) n) before →
+    drop n after ≡ drop n before
+unfolding onto
+others-kept from n before copied =
+    let count = length-listOf (λ x. getD from x 0) n in
+    rw (copied, count) (drop-at (listOf (λ x. getD from x 0) n) (drop n before) n count)
 
+pub moves-ready : {n shift most : ℕ} {tops topKeys lent : List ℕ} → n ≤ mostItems → shift < keyBase → SmallTable n most tops topKeys →
+    2 ^ n ≤ length lent → MovesReady n shift topKeys lent
+moves-ready few small table long =
+    record {
+      few-items = few;
+      small-shift = small;
+      keys-long = table .keys-for-all;
+      key-bound = table .key-bound;
+      moved-long = long;
+    }
+
+module _ {n shift : ℕ} {tops topKeys costs keys : List ℕ} (ready : CoreReady n shift tops topKeys costs keys) where
   module _ {movedKeys : List ℕ} (long : 2 ^ n ≤ length movedKeys) (is-moved : MovedBelow n shift (2 ^ n) topKeys movedKeys) where
     moved-bound : (x : ℕ) → x < 2 ^ n → getD movedKeys x 0 < keyBase ^ n + keyBase ^ n
     moved-bound x h =
@@ -88,7 +99,9 @@ module _ {n shift : ℕ} {tops topKeys costs keys : List ℕ} (ready : CoreReady
         let w = shift * weight T in
         let real : 0 + a < noCost → b < noCost → 0 + a + b < noCost =
         λ p q.
-        omega (arith, ready .top-table .real-bound (setNumber n T) (setNumber-below n T) (omega arith), ready .rest-table .real-bound (setNumber n R) (setNumber-below n R) q, ready .room) in
+        let top = ready .top-table .real-bound (setNumber n T) (setNumber-below n T) (omega arith) in
+        let rest = ready .rest-table .real-bound (setNumber n R) (setNumber-below n R) q in
+        omega (arith, ready .room) in
         rw (zero-add (setNumber n T), zero-add (setNumber n R), is-moved .at T t (setNumber-below n T))
         (ap₂ valueOf (omega arith) (omega arith)
         ∙ sym
@@ -119,7 +132,13 @@ module _ {n shift : ℕ} {tops topKeys costs keys : List ℕ} (ready : CoreReady
 
       pub core-added : CoreAdded n shift tops topKeys costs keys costs' keys'
       unfolding entryAt tableAt
-      core-added = record { holds = holds; bounded = λ x h. bounded x h (lowered .no-dearer .at x) }
+      core-added =
+          record {
+            holds = holds;
+            other-costs = others-kept next (2 ^ n) costs copied;
+            other-keys = others-kept nextKeys (2 ^ n) keys keys-copied;
+            bounded = λ x h. bounded x h (lowered .no-dearer .at x);
+          }
         where
           holds : (S : List Bool) → length S ≡ n →
               entryAt costs' keys' (setNumber n S)

@@ -10,19 +10,17 @@ use lib.ListN.{length, getD}
 use lib.Pow.{pow-pos}
 use Rattle.assignment.specs.Limits.{mostCost}
 use Rattle.assignment.specs.Keys.{keyBase}
-use Rattle.assignment.specs.Values.{Value, add, Within}
+use Rattle.assignment.specs.Values.{add, Within}
 use Rattle.assignment.specs.Words.{noCost, valueOf}
 use Rattle.assignment.specs.Sets.{setNumber, tableAt}
 use Rattle.assignment.specs.SetLaws.{setNumber-below}
 use Rattle.assignment.specs.Partition.{leastSplit, moved}
 use Rattle.assignment.specs.SplitLaws.{rest-length, leastSplit-parts}
-use Rattle.assignment.specs.Refusing.{every, refusing}
+use Rattle.assignment.specs.Refusing.{every}
 use Rattle.assignment.specs.RefusingLaws.{refusing-same}
 use Rattle.assignment.specs.Entries.{entryAt, NoDearer}
-use Rattle.values.specs.Items.{itemsOf}
 use Rattle.partition.specs.ItemsFrom.{items-from-first}
 use Rattle.partition.specs.Tables.{SmallTable, small-within, small-by-values}
-use Rattle.partition.specs.Moves.{MovesReady}
 use Rattle.partition.specs.Cores.{CoreReady}
 use Rattle.partition.specs.RefusedTables.{RefuseReady, RefusedFrom}
 use Rattle.partition.specs.RefusingBounds.{refusing-within}
@@ -101,16 +99,6 @@ module _ {n : ℕ} {refusal : List ℕ} {must : List Bool} {costs keys : List �
 
 module _ {n shift : ℕ} {tops topKeys refusal : List ℕ} {must : List Bool} {costs keys : List ℕ}
     (ready : HalvesReady n shift tops topKeys refusal must costs keys) where
-  pub halves-moves : {lent : List ℕ} → 2 ^ n ≤ length lent → MovesReady n shift topKeys lent
-  halves-moves long =
-      record {
-        few-items = ready .lower .few-items;
-        small-shift = ready .small-shift;
-        keys-long = ready .top-table .keys-for-all;
-        key-bound = ready .top-table .key-bound;
-        moved-long = long;
-      }
-
   pub halves-core : {costs' keys' : List ℕ} → SmallTable n (ready .lower .most + n * mostCost) costs' keys' →
       CoreReady n shift tops topKeys costs' keys'
   halves-core rests =

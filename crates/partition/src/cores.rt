@@ -6,7 +6,7 @@ use values::NO_COST;
 use values::sets_of;
 ghost use mathlib.Core.Path.{_≡_};
 ghost use Prim.Native.Nat.{_^_, _≤_};
-ghost use lib.ListN.{length, getD};
+ghost use lib.ListN.{length, getD, drop};
 ghost use Rattle.laws.specs.Lists.{listOf, onto};
 ghost use Rattle.assignment.specs.Limits.{mostItems};
 ghost use Rattle.partition.specs.BestFilled.{BestReady, BestFilled};
@@ -104,6 +104,8 @@ pub fn fill_best(
 )
     requires { ⌜ BestReady items levels cores (now corecosts) (now corekeys) (now costs) (now keys) ⌝ }
     ensures { λ _. ⌜ BestFilled items levels cores (now (corecosts .entry)) (now (corekeys .entry)) (now (costs .exit)) (now (keys .exit)) ⌝ }
+    ensures { λ _. ⌜ drop (2 ^ items) (now (costs .exit)) ≡ drop (2 ^ items) (now (costs .entry)) ⌝ }
+    ensures { λ _. ⌜ drop (2 ^ items) (now (keys .exit)) ≡ drop (2 ^ items) (now (keys .entry)) ⌝ }
 {
     copy_entries(items, corecosts, costs);
     copy_entries(items, corekeys, keys);

@@ -18,6 +18,7 @@ use Rattle.knapsack.specs.Offered.{offersOf}
 use Rattle.knapsack.specs.Offers.{loadOptions}
 use Rattle.knapsack_tables.specs.TabledKnapsacks.{KnapsacksFilled, filled-core-table}
 use Rattle.light.specs.Light.{OfferFits}
+use Rattle.partition.specs.Tables.{one-core-table}
 use Rattle.search.specs.Found.{Searched, BestFound}
 use Rattle.search.specs.FoundLaws.{search-is-best}
 use Rattle.search.specs.Limits.{SearchReady}
@@ -93,18 +94,7 @@ module _ {p : Problem} {load cost refusal : List ℕ} {must : List Bool} (v : Va
           refusals-for-all = omega (arith, o .refusal-length, v .task-count);
           musts-for-all = omega (arith, o .must-length, v .task-count);
           refusals-limited = offered-refusal-at-most v o;
-          core-table =
-              record {
-                small =
-                    record {
-                      costs-for-all = filled .tabled .costs-for-all;
-                      keys-for-all = filled .tabled .marks-for-all;
-                      cost-bound = filled .tabled .cost-bound;
-                      real-bound = filled .costs-limited;
-                      key-bound = filled .tabled .key-bound;
-                    };
-                keyed = filled .keyed;
-              };
+          core-table = one-core-table (filled .tabled) (filled .costs-limited) (filled .keyed);
         }
 
     core-table : CoreTable (optionsOf p) (tableAt (taskCount p) costs keys)

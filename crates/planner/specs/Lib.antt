@@ -21,4 +21,5 @@ pub mod OfferedBounds
 pub mod HeldOptions
 pub mod BestChoices
 pub mod BestChoiceLaws
+pub mod HeldChoices
 pub mod PlanLaws

@@ -12,7 +12,7 @@ use Rattle.assignment.specs.Limits.{mostCoreCost}
 use Rattle.assignment.specs.Keys.{keyBase, weight}
 use Rattle.assignment.specs.Values.{pair, add}
 use Rattle.assignment.specs.Sets.{tableAt}
-use Rattle.assignment.specs.Partition.{leastSplit, moved, best}
+use Rattle.assignment.specs.Partition.{moved, best}
 use Rattle.assignment.specs.SplitLaws.{part-length, leastSplit-parts}
 use Rattle.assignment.specs.Refusing.{every, refusing}
 use Rattle.assignment.specs.RefusingLaws.{refusing-same, chosen-on-one, chosen-in-halves}
@@ -91,7 +91,8 @@ module _ {shape : Shape} {refusal : List ℕ} {must : List Bool} {coreCosts core
     -- keeping what is best, by the table
     kept-best : (R : List Bool) →
         keptBest (shape .items) refusal must costs keys R
-        ≡ refusing (itemsOf refusal must (shape .items)) (best (shape .levels) (tableAt (shape .items) coreCosts coreKeys) (pred (lowerCores shape))) R
+        ≡ refusing (itemsOf refusal must (shape .items))
+        (best (shape .levels) (tableAt (shape .items) coreCosts coreKeys) (pred (lowerCores shape))) R
     unfolding keptBest
     kept-best R = refusing-same _ (λ S h. filled .holds S (h ∙ items-counted refusal must (shape .items))) R
 

@@ -24,7 +24,8 @@ abbrev pub Tells : ℕ → Value → (before after : List ℕ) → Found → Typ
 Tells n none before after found = (found ≡ NoPlan) × (after ≡ before)
 Tells n (pair cost key) before after found = (found ≡ Cheapest cost) × (after ≡ onto (digits n key) before)
 
-pub record Searched (shape : Shape) (refusal : List ℕ) (must : List Bool) (coreCosts coreKeys before after : List ℕ) (found : Found) : Type 0 where
+pub record Searched (shape : Shape) (refusal : List ℕ) (must : List Bool) (coreCosts coreKeys before after : List ℕ) (found : Found) :
+    Type 0 where
   pub told : Tells (shape .items) (foundValue shape refusal must coreCosts coreKeys) before after found
 
 -- the best plan, at the front of the lent one, and its cost

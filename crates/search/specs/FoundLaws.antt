@@ -5,7 +5,7 @@ use mathlib.Core.Bool.{Bool}
 use mathlib.Core.List.{List}
 use native.Mathlib.Nat.{zero-add, mul-le-mul}
 use native.Mathlib.Omega.{arith}
-use lib.ListN.{length, getD}
+use lib.ListN.{length}
 use Rattle.laws.specs.Lists.{onto}
 use Rattle.laws.specs.JoinedLaws.{length-listOf}
 use Rattle.assignment.specs.Limits.{mostCost, mostCoreCost}
@@ -18,7 +18,7 @@ use Rattle.assignment.specs.CoreTables.{CoreTable}
 use Rattle.assignment.specs.Partition.{best}
 use Rattle.assignment.specs.Choice.{chosen}
 use Rattle.assignment.specs.Bounds.{bounded-within, best-bounded}
-use Rattle.assignment.specs.Refusing.{every, refusing}
+use Rattle.assignment.specs.Refusing.{every}
 use Rattle.assignment.specs.RefusingLaws.{holding-is-refusing}
 use Rattle.assignment.specs.SearchTheorem.{BestAnswers, search-finds-best}
 use Rattle.partition.specs.HalvesLaws.{every-length}
@@ -43,7 +43,8 @@ module _ {shape : Shape} {refusal : List ℕ} {must : List Bool} {coreCosts core
   unfolding keyBase
   few-choices = omega (arith, mul-le-mul (ready .shape-limited .cores) (ready .shape-limited .levels))
 
-  found-within : Within (shape .cores * mostCoreCost + shape .items * mostCost) (keyBase ^ shape .items) (foundValue shape refusal must coreCosts coreKeys)
+  found-within :
+      Within (shape .cores * mostCoreCost + shape .items * mostCost) (keyBase ^ shape .items) (foundValue shape refusal must coreCosts coreKeys)
   unfolding foundValue chosen
   found-within =
       let n = shape .items in
@@ -76,9 +77,11 @@ unfolding foundValue
 search-is-best {shape} {refusal} {must} {coreCosts} {coreKeys} {before} {after} {found} ready searched o same-cores same-levels same-items core =
     go (foundValue shape refusal must coreCosts coreKeys) (searched .told)
     (subst (BestAnswers o) value
-    (search-finds-best o (tableAt (shape .items) coreCosts coreKeys) core (rw same-cores (ready .shape-limited .some-core)) (rw (same-cores, same-levels) (few-choices ready))))
+    (search-finds-best o (tableAt (shape .items) coreCosts coreKeys) core (rw same-cores (ready .shape-limited .some-core))
+    (rw (same-cores, same-levels) (few-choices ready))))
   where
-    value : chosen (o .levels) (o .items) (tableAt (shape .items) coreCosts coreKeys) (pred (o .cores)) ≡ foundValue shape refusal must coreCosts coreKeys
+    value : chosen (o .levels) (o .items) (tableAt (shape .items) coreCosts coreKeys) (pred (o .cores))
+        ≡ foundValue shape refusal must coreCosts coreKeys
     value = rw (same-cores, same-levels, same-items)
 
     counted : length (o .items) ≡ shape .items

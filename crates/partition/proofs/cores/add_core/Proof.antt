@@ -13,7 +13,7 @@ slice-aggregate-move-keys : tie.Need-slice-aggregate-move-keys
 slice-aggregate-move-keys c = search needs
 
 move-keys-requires : tie.Need-move-keys-requires
-move-keys-requires c κs = let ready = c .before .before .before .before .before .pre in moves-ready ready (room-for-sets (ready .few-items))
+move-keys-requires c κs = let ready = c .before .before .before .before .before .pre in moves-ready (ready .few-items) (ready .small-shift) (ready .top-table) (room-for-sets (ready .few-items))
 
 sets-of-requires : tie.Need-sets-of-requires
 sets-of-requires c κs = search needs

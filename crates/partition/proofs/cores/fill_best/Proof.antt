@@ -1,17 +1,18 @@
 -- `fill_best` copies the table of one core, and fills the values on one core more in each turn.
-use Prim.Native.Nat.{_-_, _≤_}
+use Prim.Native.Nat.{_-_, _^_, _≤_}
 use mathlib.Core.Path.{_≡_, refl, _∙_}
 use native.Mathlib.Omega.{arith}
 use borrow.Author.Needs.{needs}
 use denote.Ref.{now}
-use lib.ListN.{length}
+use lib.ListN.{length, drop}
 use Rattle.assignment.specs.Keys.{keyBase}
 use Rattle.partition.specs.BestFilled.{BestFilled, first-core, copied, next-choices, core-ready, next-core}
+use Rattle.partition.specs.CoreLaws.{others-kept}
 use Rattle.partition.proofs.cores.fill_best.Statement.{statement}
 use Rattle.partition.proofs.cores.fill_best.Tie as tie
 
 abbrev Inv-loop : tie.InvT-loop
-Inv-loop items levels cores corecosts corekeys costs₀ keys₀ c₀ costs keys c = (length costs ≡ length costs₀) × (length keys ≡ length keys₀) × (1 ≤ c) × (c ≤ cores) × BestFilled items levels c corecosts corekeys costs keys
+Inv-loop items levels cores corecosts corekeys costs₀ keys₀ c₀ costs keys c = (length costs ≡ length costs₀) × (length keys ≡ length keys₀) × (1 ≤ c) × (c ≤ cores) × BestFilled items levels c corecosts corekeys costs keys × (drop (2 ^ items) costs ≡ drop (2 ^ items) costs₀) × (drop (2 ^ items) keys ≡ drop (2 ^ items) keys₀)
 
 abbrev μ-loop : tie.MeasureT-loop
 μ-loop items levels cores corecosts corekeys costs₀ keys₀ c₀ costs keys c = cores - c
@@ -36,6 +37,8 @@ loop-holds c =
       ready .some-core,
       copied (first-core (ready .core-table)) (now (start .args .costs)) (now (start .args .keys)) (first .ensures) (second .ensures)
           (omega (arith, ready .costs-for-all, first .kept .1 .1 .0)) (omega (arith, ready .keys-for-all, second .kept .1 .1 .0)),
+      refl,
+      refl,
     )
 
 mul-shift : tie.Need-mul-shift Inv-loop μ-loop
@@ -63,6 +66,8 @@ loop-again c =
       omega arith,
       omega arith,
       next-core (c .before .before .before .before .before .before .before .before .before .before .before .before .before .before .before .before .before .before .before .before .before .pre) (omega arith) (at .inv .2) (at .inv .4) (added .ensures) same-costs same-keys,
+      added .ensures .other-costs ∙ at .inv .5,
+      added .ensures .other-keys ∙ at .inv .6,
     )
 
 same-length : tie.Need-same-length Inv-loop μ-loop
@@ -74,8 +79,15 @@ same-length-2 c = search needs
 returns : tie.Need-returns Inv-loop μ-loop
 returns c =
     let at = c .before .loop in
-    let all : at .c ≡ c .before .before .before .before .before .before .before .before .before .before .before .before .before .before .args .cores = omega arith in
-    rw all at (at .inv .4)
+    let a = c .before .before .before .before .before .before .before .before .before .before .before .before .before .before .args in
+    let sets = 2 ^ a .items in
+    let all : at .c ≡ a .cores = omega arith in (
+      rw all at (at .inv .4),
+      (
+        at .inv .5 ∙ others-kept (now (a .corecosts)) sets (now (a .costs)) (c .before .before .before .before .before .before .before .before .copy-entries .ensures),
+        at .inv .6 ∙ others-kept (now (a .corekeys)) sets (now (a .keys)) (c .before .before .before .before .copy-entries2 .ensures),
+      ),
+    )
 
 pub fill-best-spec : {M : Type 1} → statement M
 fill-best-spec =

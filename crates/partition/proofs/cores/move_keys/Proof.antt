@@ -1,10 +1,9 @@
 -- `move_keys` fills the moved keys one after the other.
-use Prim.Native.Nat.{_+_, _*_, _≤_, _-_, _^_}
+use Prim.Native.Nat.{_≤_, _-_, _^_}
 use mathlib.Core.Path.{_≡_, refl, _∙_}
 use native.Mathlib.Omega.{arith}
 use borrow.Author.Needs.{needs}
-use denote.Ref.{now}
-use lib.ListN.{length, getD, length-set}
+use lib.ListN.{length, length-set}
 use Rattle.partition.specs.Moves.{MovedBelow}
 use Rattle.partition.specs.MoveLaws.{nothing-moved, next-move-fits, one-more-moved}
 use Rattle.partition.specs.Tables.{room-for-sets}

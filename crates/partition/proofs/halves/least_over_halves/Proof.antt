@@ -1,8 +1,8 @@
 -- `least_over_halves` moves the keys of the upper cores, refuses in the table of the lower ones, and takes the least sum.
 use mathlib.Core.Path.{_∙_}
 use native.Mathlib.Omega.{arith}
-use Rattle.partition.specs.CoreLaws.{sums-ready, sums-same}
-use Rattle.partition.specs.HalvesLaws.{all-ready, every-length, refused-table, halves-core, halves-moves, least-over-halves}
+use Rattle.partition.specs.CoreLaws.{moves-ready, sums-ready, sums-same}
+use Rattle.partition.specs.HalvesLaws.{all-ready, every-length, refused-table, halves-core, least-over-halves}
 use Rattle.partition.specs.Tables.{room-for-sets}
 use Rattle.assignment.specs.Refusing.{every}
 use borrow.Author.Needs.{needs}
@@ -13,7 +13,7 @@ slice-aggregate-move-keys : tie.Need-slice-aggregate-move-keys
 slice-aggregate-move-keys c = search needs
 
 move-keys-requires : tie.Need-move-keys-requires
-move-keys-requires c κs = let ready = c .before .before .before .before .before .before .before .pre in halves-moves ready (room-for-sets (ready .lower .few-items))
+move-keys-requires c κs = let ready = c .before .before .before .before .before .before .before .pre in moves-ready (ready .lower .few-items) (ready .small-shift) (ready .top-table) (room-for-sets (ready .lower .few-items))
 
 sets-of-requires : tie.Need-sets-of-requires
 sets-of-requires c κs = search needs

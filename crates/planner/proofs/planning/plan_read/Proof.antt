@@ -111,18 +111,8 @@ returns-3 c =
 same-length-3 : tie.Need-same-length-3
 same-length-3 c = search needs
 
--- the search found no plan
-outcome-of-none : (p : Problem) (plan table : List ℕ) (n : ℕ) (outcome : PlanOutcome) (r : Found) → OneOf (1 ∷ 2 ∷ []) (tagOf the-type r) →
-    planFrom p n table r plan ≡ outcome → planRefused Refusal.NoPlan plan table ≡ outcome
-outcome-of-none p plan table n outcome Found.NoPlan none is = is
-outcome-of-none p plan table n outcome Found.OutOfLimits none is = is
-outcome-of-none p plan table n outcome (Found.Cheapest total) none is = ⊎-elim (λ one. absurd (omega arith)) (λ two. absurd (omega arith)) none
-
 returns-4 : tie.Need-returns-4
-returns-4 c =
-    let chosen = c .before .before .before in
-    let args = c .before .before .before .before .before .before .before .before .before .before .args in
-    outcome-of-none (problemIn (args .inst)) _ _ (args .inst .taskcount) _ (chosen .best-choices .result) (c .match .keys2) (outcome-of-chosen chosen)
+returns-4 c = rw (c .enum-told2 .given .1) at (outcome-of-chosen (c .before .before .before .before))
 
 pub plan-read-spec : {M : Type 1} → statement M
 plan-read-spec =
