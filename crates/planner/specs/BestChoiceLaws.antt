@@ -1,10 +1,9 @@
 -- What is found in what is offered for a problem is the problem's best plan: on light sites, and from the table of one core.
-use Prim.Native.Nat.{ℕ, _≤_, _<_}
+use Prim.Native.Nat.{ℕ, _<_}
 use mathlib.Core.Bool.{Bool}
 use mathlib.Core.List.{List}
 use mathlib.Core.Path.{_≡_, refl, sym, ap, _∙_}
 use native.Mathlib.Omega.{arith}
-use lib.ListN.{length, getD}
 use Rattle.laws.specs.Lists.{onto}
 use Rattle.instance.specs.Node.{Problem, taskCount, levelCount, span}
 use Rattle.instance.specs.Valid.{Valid}
@@ -13,7 +12,6 @@ use Rattle.assignment.specs.Assignment.{Best, totalCost}
 use Rattle.assignment.specs.CoreTables.{CoreTable}
 use Rattle.assignment.specs.Keys.{digits}
 use Rattle.assignment.specs.Sets.{tableAt}
-use Rattle.assignment.specs.Words.{noCost}
 use Rattle.knapsack.specs.Offered.{offersOf}
 use Rattle.knapsack.specs.Offers.{loadOptions}
 use Rattle.knapsack_tables.specs.TabledKnapsacks.{KnapsacksFilled, filled-core-table}

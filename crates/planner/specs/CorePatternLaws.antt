@@ -1,17 +1,16 @@
 -- A core runs its pattern as the first core would: it asks for the same load and draws the same energy.
-use Prim.Native.Nat.{ℕ, zero, suc, pred, _+_, _*_, _/_, _%_, _<_}
+use Prim.Native.Nat.{ℕ, zero, suc, pred, _*_, _/_, _%_}
 use mathlib.Core.Bool.{Bool, true, false, cond, not, _&&_}
 use mathlib.Core.List.{List, [], _∷_}
-use mathlib.Core.Path.{_≡_, refl, sym, ap, ap₂, _∙_}
+use mathlib.Core.Path.{_≡_, refl, ap}
 use native.Mathlib.Nat.{div-zero, div-eq-of-lt, mod-mod, mod-lt, zero-lt-suc}
 use native.Mathlib.Omega.{arith}
 use lib.Dec.{eqb, eqb·suc-zero}
-use lib.ListN.{length, getD}
+use lib.ListN.{length}
 use Rattle.laws.specs.SumLaws.{sum-cong}
-use Rattle.laws.specs.Sums.{sum}
-use Rattle.instance.specs.Node.{Problem, levelCount, taskCount, taskAt, levelAt, span}
+use Rattle.instance.specs.Node.{Problem, levelCount, taskCount, taskAt, levelAt}
 use Rattle.plan_rules.specs.Plans.{fits}
-use Rattle.plan_rules.specs.Quantities.{choiceAt, keeps, levelOf, jobs, ticks, jobTicks, ticksOn, loadOn, coreLoad}
+use Rattle.plan_rules.specs.Quantities.{choiceAt, keeps, jobs, ticks, jobTicks, ticksOn, loadOn, coreLoad}
 use Rattle.prices.specs.Prices.{coreEnergy}
 use Rattle.assignment.specs.Assignment.{onCore, corePattern}
 

@@ -8,14 +8,14 @@ use native.Mathlib.Nat.{mul-le-mul}
 use native.Mathlib.Omega.{arith}
 use borrow.Author.Tests.{eqb-true}
 use Rattle.laws.specs.SumBounds.{sum-at-most}
-use Rattle.ranges.specs.Limits.{mostWeight, mostCores, mostPower, mostPenalty, mostSpan, mostTasks, mayNotBeRefused}
+use Rattle.ranges.specs.Limits.{mostPenalty, mostSpan, mostTasks, mayNotBeRefused}
 use Rattle.instance.specs.Node.{Problem, taskCount, taskAt}
 use Rattle.instance.specs.Valid.{InRange, Valid}
 use Rattle.plan_rules.specs.PlanLaws.{PassingPlan}
 use Rattle.prices.specs.PriceBounds.{penaltyOf, passing-energy-at-most}
 use Rattle.plan_rules.specs.QuantityBounds.{jobs-at-most}
-use Rattle.plan_rules.specs.Quantities.{choiceAt, isRefused, jobs}
-use Rattle.prices.specs.Prices.{energy, penalty, cost}
+use Rattle.plan_rules.specs.Quantities.{isRefused, jobs}
+use Rattle.prices.specs.Prices.{penalty, cost}
 
 module _ {p : Problem} (v : Valid p) (plan : List ℕ) (passing : PassingPlan p plan) where
   -- a refused task may be refused

@@ -1,5 +1,5 @@
 -- What a plan costs is what its options cost: core by core, and refusal by refusal.
-use Prim.Native.Nat.{ℕ, zero, suc, _+_, _*_, _<_}
+use Prim.Native.Nat.{ℕ, zero, suc, _+_, _*_}
 use mathlib.Core.Bool.{Bool, true, false, cond}
 use mathlib.Core.List.{List}
 use mathlib.Core.Path.{_≡_, refl, sym, ap, ap₂, _∙_}
@@ -9,7 +9,7 @@ use lib.Dec.{eqb}
 use lib.ListN.{length}
 use Rattle.laws.specs.SumLaws.{sum-cong, sum-scaled}
 use Rattle.laws.specs.Sums.{sum}
-use Rattle.instance.specs.Node.{Problem, levelCount, taskCount, taskAt}
+use Rattle.instance.specs.Node.{Problem, taskCount, taskAt}
 use Rattle.plan_rules.specs.Quantities.{choiceAt, isRefused, jobs}
 use Rattle.prices.specs.Prices.{coreEnergy, energy, penalty, cost}
 use Rattle.assignment.specs.Assignment.{Item, coresCost, refusedCost, totalCost}

@@ -1,22 +1,19 @@
 -- Each kept task is on exactly one core, so that the sum over cores of what it draws there is what it draws.
-use Prim.Native.Nat.{ℕ, zero, suc, pred, _+_, _*_, _/_, _≤_, _<_}
+use Prim.Native.Nat.{ℕ, zero, suc, pred, _*_, _/_, _≤_, _<_}
 use mathlib.Core.Bool.{Bool, true, false, cond, not, _&&_}
 use mathlib.Core.List.{List}
 use mathlib.Core.Path.{_≡_, refl, sym, _∙_}
 use native.Mathlib.Nat.{div-lt-iff-lt-mul, zero-lt-suc}
 use native.Mathlib.Omega.{arith}
 use lib.Dec.{eqb, eqb·suc-zero}
-use lib.ListN.{length}
 use borrow.Author.Tests.{eq-eqb, ne-eqb}
-use Rattle.laws.specs.SumLaws.{sum-cong, sum-zero, sum-add, sum-scaled}
+use Rattle.laws.specs.SumLaws.{sum-cong, sum-zero}
 use Rattle.laws.specs.SumOrderLaws.{sum-exchange, sum-of-one-term}
 use Rattle.laws.specs.Sums.{sum}
-use Rattle.instance.specs.Node.{Problem, levelCount, taskCount, levelAt, taskAt}
-use Rattle.refusals.specs.declared.Verdict.the-variants.{Accepted}
+use Rattle.instance.specs.Node.{Problem, levelCount, taskCount, levelAt}
 use Rattle.plan_rules.specs.AllowedPlans.{AllowedPlan}
-use Rattle.plan_rules.specs.Plans.{planPasses}
 use Rattle.plan_rules.specs.Quantities.{choiceAt, isRefused, levelOf, keeps, jobs, jobTicks, ticksOn, loadOn}
-use Rattle.prices.specs.Prices.{coreEnergy, energy, penalty, cost}
+use Rattle.prices.specs.Prices.{coreEnergy, energy}
 
 -- the core of a choice in range is one of the cores
 pub core-of-choice : (cores levels : ℕ) {d : ℕ} → d < cores * levels → d / levels < cores

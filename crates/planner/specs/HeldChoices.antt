@@ -10,7 +10,7 @@ use Rattle.instance.specs.Held.{Sound, problemIn, held-taskcount, held-levelcou
 use Rattle.instance.specs.Node.{levelCount, span, taskCount}
 use Rattle.instance.specs.declared.Instance.{Instance}
 use Rattle.plan_rules.specs.HeldPlans.{held-cores}
-use Rattle.assignment.specs.Keys.{keyBase, digits}
+use Rattle.assignment.specs.Keys.{digits}
 use Rattle.knapsack.specs.Offered.{offersOf}
 use Rattle.knapsack.specs.Offers.{loadOptions}
 use Rattle.knapsack_tables.specs.TabledKnapsacks.{KnapsacksFit, KnapsacksFilled}

@@ -2,10 +2,9 @@
 use Prim.Native.Nat.{ℕ, _*_, _≤_, _<_}
 use mathlib.Core.Bool.{Bool}
 use mathlib.Core.List.{List, []}
-use mathlib.Core.Path.{_≡_}
 use native.Mathlib.Nat.{le-trans, mul-le-mul}
 use native.Mathlib.Omega.{arith}
-use lib.ListN.{length, getD}
+use lib.ListN.{getD}
 use Rattle.ranges.specs.Limits.{mostPower, mostSpan, mostWeight, mayNotBeRefused}
 use Rattle.instance.specs.Node.{Problem, levelCount, taskAt, taskCount, span}
 use Rattle.instance.specs.Valid.{Valid}

@@ -1,13 +1,12 @@
 -- What is offered for a problem is what its cores admit and cost, and what its refusals cost.
 use Prim.Native.Nat.{ℕ, zero, suc, pred, _+_, _*_, _/_, _%_, _≤_, _<_}
-use mathlib.Core.Bool.{Bool, true, false, cond, not, _&&_}
-use mathlib.Core.List.{List, [], _∷_, map}
-use mathlib.Core.Logic.{inl, inr}
-use mathlib.Core.Path.{_≡_, refl, sym, ap, ap₂, _∙_}
+use mathlib.Core.Bool.{Bool, cond, not, _&&_}
+use mathlib.Core.List.{List, [], _∷_}
+use mathlib.Core.Path.{_≡_, refl, sym, _∙_}
 use native.Mathlib.Nat.{div-eq-of-lt, mod-eq-of-lt, mul-zero, le-trans, le-of-eq}
 use native.Mathlib.Omega.{arith}
 use borrow.Author.Tests.{leb-true}
-use lib.Dec.{leb, eqb, eqb·suc-zero}
+use lib.Dec.{eqb, eqb·suc-zero}
 use lib.ListN.{length, getD}
 use lib.Seq.{take-all}
 use Rattle.laws.specs.JoinedLaws.{length-listOf, getD-listOf, listOf-same, take-is-listOf}
@@ -22,7 +21,6 @@ use Rattle.plan_rules.specs.Quantities
 use Rattle.plan_rules.specs.Quantities.{choiceAt, levelOf, ticks, jobs, jobTicks, ticksOn, loadOn, coreLoad}
 use Rattle.prices.specs.Prices.{coreEnergy}
 use Rattle.assignment.specs.AlikeLaws.{Alike}
-use Rattle.assignment.specs.Assignment.{Item, Options}
 use Rattle.assignment.specs.Keeping.{Keeps, done, refused, kept}
 use Rattle.assignment.specs.KeyLaws.{keeps-length}
 use Rattle.knapsack.specs.Offered.{offerAt, offersOf}

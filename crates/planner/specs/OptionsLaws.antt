@@ -1,24 +1,22 @@
 -- A problem's plans are the plans of its options: those that pass are those that are allowed.
-use Prim.Native.Nat.{ℕ, _+_, _*_, _≤_, _<_}
-use mathlib.Core.Bool.{Bool, true, false, cond}
+use Prim.Native.Nat.{ℕ, _+_, _≤_, _<_}
+use mathlib.Core.Bool.{true}
 use mathlib.Core.List.{List, [], _∷_}
 use mathlib.Core.Logic.{_↔_}
-use mathlib.Core.Path.{_≡_, refl, sym, _∙_}
-use native.Mathlib.Nat.{mul-zero}
+use mathlib.Core.Path.{_≡_, sym, _∙_}
 use lib.ListN.{length, getD, length-map, List·getD-map}
-use borrow.Author.Tests.{leb-true, le-leb, eqb-true, eq-eqb, not-false}
-use Rattle.laws.specs.SumLaws.{sum-cong}
+use borrow.Author.Tests.{eqb-true, eq-eqb, not-false}
 use Rattle.laws.specs.SumOrderLaws.{total-is-sum}
 use Rattle.laws.specs.Sums.{sum}
 use Rattle.ranges.specs.Limits.{mayNotBeRefused}
-use Rattle.instance.specs.Node.{Problem, levelCount, taskCount, taskAt, noTask, span}
+use Rattle.instance.specs.Node.{Problem, levelCount, taskCount, taskAt, noTask}
 use Rattle.instance.specs.declared.Task.{Task}
 use Rattle.refusals.specs.declared.Verdict.the-variants.{Accepted}
 use Rattle.plan_rules.specs.AllowedPlanLaws.{choices-pass}
 use Rattle.plan_rules.specs.AllowedPlans.{AllowedPlan}
 use Rattle.plan_rules.specs.Plans.{mostChoice, choicesPass, fits, coresFit, planPasses}
 use Rattle.plan_rules.specs.Quantities
-use Rattle.plan_rules.specs.Quantities.{choiceAt, keeps, jobs, jobTicks, ticksOn, loadOn}
+use Rattle.plan_rules.specs.Quantities.{choiceAt}
 use Rattle.refusals.specs.VerdictLaws.{andThen-accepts, none-refused}
 use Rattle.assignment.specs.Assignment.{Item, corePattern, ChoiceAllowed, ChoicesAllowed, Allowed}
 use Rattle.planner.specs.CorePatternLaws.{fits-of-pattern}

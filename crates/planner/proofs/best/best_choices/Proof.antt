@@ -31,8 +31,7 @@ light-plan-requires c κs =
 
 write-plan-requires : tie.Need-write-plan-requires
 write-plan-requires c κs =
-    let start = c .before .before .before .before .before .before .before .before .before .before .before .before .before .before .before in
-    (
+    let start = c .before .before .before .before .before .before .before .before .before .before .before .before .before .before .before in (
       omega (arith, start .pre .0 .valid .task-count, held-taskcount _ (start .pre .0)),
       (
         c .before .before .before .light-plan .ensures (c .before .if1 .taken) 1 (omega arith) .key-below,

@@ -2,7 +2,6 @@ use Prim.Native.Nat.{ℕ, _*_, _≤_}
 use mathlib.Core.Path.{refl}
 use native.Mathlib.Nat.{le-trans, mul-le-mul}
 use native.Mathlib.Omega.{arith}
-use borrow.Author.Needs.{needs}
 use Rattle.ranges.specs.Limits.{mostPower, mostSpan}
 use Rattle.planner.proofs.options.cost_of.Statement.{statement}
 use Rattle.planner.proofs.options.cost_of.Tie as tie

@@ -1,26 +1,18 @@
 use Prim.Native.Nat.{ℕ, _≤_}
-use mathlib.Core.List.{List, [], _∷_}
-use mathlib.Core.Logic.{⊎-elim}
+use mathlib.Core.List.{List}
 use mathlib.Core.Path.{_≡_, sym, ap₂, _∙_}
 use native.Mathlib.Omega.{arith}
 use lib.ListN.{length, take}
 use lib.Seq.{length-take-le}
 use borrow.Author.Needs.{needs}
-use denote.Enum.Declared.{tagOf}
-use types.Run.{OneOf}
 use Rattle.instance.specs.Held.{problemIn, held-taskcount}
-use Rattle.instance.specs.Node.{Problem}
 use Rattle.refusals.specs.Refusals.{accepted}
-use Rattle.refusals.specs.declared.Refusal.the-variants as Refusal
 use Rattle.refusals.specs.declared.Verdict.the-variants.{Accepted}
 use Rattle.plan_rules.specs.Plans.{planPasses}
 use Rattle.tables.specs.Tables.{tableSize}
 use Rattle.prices.specs.declared.amounts.Price.{Price}
 use Rattle.prices.specs.declared.amounts.Priced.the-variants as Priced
-use Rattle.search.specs.declared.Found.the-variants as Found
-use Rattle.search.specs.declared.Found.{Found}
-use Rattle.search.proofs.Found.{the-type}
-use Rattle.planner.specs.Outcomes.{PlanOutcome, planRefused, planOutcomeOf}
+use Rattle.planner.specs.Outcomes.{planOutcomeOf}
 use Rattle.planner.specs.PlanLaws.{planGiven, planFrom, short-plan-outcome, short-table-outcome, chosen-outcome, chosen-passes}
 use Rattle.planner.proofs.planning.plan_read.Statement.{statement}
 use Rattle.planner.proofs.planning.plan_read.Tie as tie
@@ -108,6 +100,9 @@ returns-3 c =
     (c .before .before .before .fill-table .ensures)
     ∙ (rw (c .before .before .before .before .before .before .enum-told .given .1) at (outcome-of-chosen chosen))
 
+enum-told-2 : tie.Need-enum-told-2
+enum-told-2 c = search needs
+
 same-length-3 : tie.Need-same-length-3
 same-length-3 c = search needs
 
@@ -130,5 +125,6 @@ plan-read-spec =
     same-length
     same-length-2
     returns-3
+    enum-told-2
     same-length-3
     returns-4)
