@@ -1,43 +1,50 @@
 -- What is searched for: each item is refused, or put on one core at one level. Choices are numbered as in a plan: 0
--- refuses, 1 + core × levels + level keeps, with cores and levels counted from 0.
-use Prim.Native.Nat.{ℕ, pred, _+_, _*_, _/_, _%_, _≤_, _<_}
+-- refuses, 1 + core × levels + level keeps, with cores and levels counted from 0. Of a core nothing is known but which
+-- patterns it admits and what each costs. A pattern is what one core runs: 0 for an item that it does not run, 1 + level for
+-- one that it runs, so a plan on core 0 alone.
+use Prim.Native.Nat.{ℕ, zero, suc, pred, _+_, _*_, _/_, _%_, _≤_, _<_}
 use mathlib.Core.Path.{_≡_}
 use mathlib.Core.Logic.{_⊎_}
 use mathlib.Core.Bool.{Bool, true, cond, not, _&&_}
 use mathlib.Core.List.{List, [], _∷_}
 use lib.Dec.{eqb}
 
--- load and cost at a level, and the cost of refusing it, where it may be refused
+-- the cost of refusing it, and whether it may not be refused
 pub record Item : Type 0 where
-  pub load : ℕ → ℕ
-  pub cost : ℕ → ℕ
   pub refusal : ℕ
   pub must : Bool
 
 pub record Options : Type 0 where
   pub cores : ℕ
   pub levels : ℕ
-  -- the most load that a core takes
-  pub capacity : ℕ
   pub items : List Item
+  -- whether a core may run a pattern
+  pub admits : List ℕ → Bool
+  -- what a core that runs a pattern costs
+  pub coreCost : List ℕ → ℕ
 
--- what choice c of an item costs
-unfoldable pub choiceCost : ℕ → Item → ℕ → ℕ
-choiceCost levels item c = cond (eqb c 0) (item .refusal) (item .cost (pred c % levels))
+-- what choice c has core k run of its item
+unfoldable pub onCore : ℕ → ℕ → ℕ → ℕ
+onCore levels k c = cond (not (eqb c 0) && eqb (pred c / levels) k) (suc (pred c % levels)) 0
 
--- the load that choice c of an item puts on core k
-unfoldable pub choiceLoad : ℕ → ℕ → Item → ℕ → ℕ
-choiceLoad levels k item c = cond (not (eqb c 0) && eqb (pred c / levels) k) (item .load (pred c % levels)) 0
+-- the pattern that core k runs
+unfoldable pub corePattern : ℕ → ℕ → List ℕ → List ℕ
+corePattern levels k [] = []
+corePattern levels k (c ∷ plan) = onCore levels k c ∷ corePattern levels k plan
 
-unfoldable pub totalCost : ℕ → List Item → List ℕ → ℕ
-totalCost levels [] plan = 0
-totalCost levels (item ∷ items) [] = 0
-totalCost levels (item ∷ items) (c ∷ plan) = choiceCost levels item c + totalCost levels items plan
+-- what the cores 0 to `cores` - 1 cost
+unfoldable pub coresCost : Options → ℕ → List ℕ → ℕ
+coresCost o zero plan = 0
+coresCost o (suc k) plan = coresCost o k plan + o .coreCost (corePattern (o .levels) k plan)
 
-unfoldable pub coreLoad : ℕ → ℕ → List Item → List ℕ → ℕ
-coreLoad levels k [] plan = 0
-coreLoad levels k (item ∷ items) [] = 0
-coreLoad levels k (item ∷ items) (c ∷ plan) = choiceLoad levels k item c + coreLoad levels k items plan
+-- what the refused items cost
+unfoldable pub refusedCost : List Item → List ℕ → ℕ
+refusedCost [] plan = 0
+refusedCost (item ∷ items) [] = 0
+refusedCost (item ∷ items) (c ∷ plan) = cond (eqb c 0) (item .refusal) 0 + refusedCost items plan
+
+unfoldable pub totalCost : Options → List ℕ → ℕ
+totalCost o plan = coresCost o (o .cores) plan + refusedCost (o .items) plan
 
 -- a choice that an item may have: none above `most`, and no refusal where it must be kept
 pub record ChoiceAllowed (most : ℕ) (item : Item) (c : ℕ) : Type 0 where
@@ -52,7 +59,7 @@ pub data ChoicesAllowed (most : ℕ) : List Item → List ℕ → Type 0 where
 
 pub record Allowed (o : Options) (plan : List ℕ) : Type 0 where
   pub choices : ChoicesAllowed (o .cores * o .levels) (o .items) plan
-  pub cores-fit : (k : ℕ) → k < o .cores → coreLoad (o .levels) k (o .items) plan ≤ o .capacity
+  pub cores-admit : (k : ℕ) → k < o .cores → o .admits (corePattern (o .levels) k plan) ≡ true
 
 -- the first differing choice is smaller
 pub data Before : List ℕ → List ℕ → Type 0 where
@@ -62,8 +69,7 @@ pub data Before : List ℕ → List ℕ → Type 0 where
 -- cheaper, or as cheap and not after
 abbrev pub NoWorse : Options → List ℕ → List ℕ → Type 0
 NoWorse o plan other =
-    (totalCost (o .levels) (o .items) plan < totalCost (o .levels) (o .items) other)
-    ⊎ ((totalCost (o .levels) (o .items) plan ≡ totalCost (o .levels) (o .items) other) × ((plan ≡ other) ⊎ Before plan other))
+    (totalCost o plan < totalCost o other) ⊎ ((totalCost o plan ≡ totalCost o other) × ((plan ≡ other) ⊎ Before plan other))
 
 -- the plan to be found: there is at most one
 pub record Best (o : Options) (plan : List ℕ) : Type 0 where

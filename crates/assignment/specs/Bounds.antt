@@ -1,63 +1,77 @@
 -- How large values grow: what 64-bit numbers have to hold.
-use Prim.Native.Nat.{ℕ, suc, _*_, _/_, _%_, _^_, _≤_, _<_}
-use mathlib.Core.Path.{sym}
+use Prim.Native.Nat.{ℕ, zero, suc, _+_, _*_, _^_, _≤_, _<_}
+use mathlib.Core.Path.{_≡_, sym, _∙_}
 use mathlib.Core.Logic.{inl, inr}
 use mathlib.Core.Bool.{Bool}
-use mathlib.Core.List.{List, [], _∷_}
-use native.Mathlib.Nat.{pow-le-pow-right, mod-lt, div-add-mod', div-lt-iff-lt-mul, le-refl}
+use mathlib.Core.List.{List}
+use native.Mathlib.Nat.{one-mul, suc-mul}
 use native.Mathlib.Omega.{arith}
 use lib.ListN.{length}
-use Rattle.assignment.specs.Assignment.{Item, Options, coreLoad}
-use Rattle.assignment.specs.Values.{Value, Attained, Within, absent, present}
-use Rattle.assignment.specs.Knapsacks.{keyBase}
-use Rattle.assignment.specs.KeepingLaws.{level-load, some-level}
-use Rattle.assignment.specs.Partition.{best}
-use Rattle.assignment.specs.PartitionLaws.{best-least}
-use Rattle.assignment.specs.Keeping.{Keeps, done, refused, kept, Runs, keptChoiceCost, keptCost, keptWorth}
-use Rattle.assignment.specs.KeyLaws.{keeps-in-base, key-below}
+use Rattle.assignment.specs.Assignment.{Options}
+use Rattle.assignment.specs.Values.{Value, none, pair, add, Attained, Within}
+use Rattle.assignment.specs.Keys.{keyBase, planKey, weight}
+use Rattle.assignment.specs.Keeping.{Keeps}
+use Rattle.assignment.specs.KeyLaws.{keeps-in-base, keeps-length, key-below}
+use Rattle.assignment.specs.CoreTables.{Admitted, patternWorth, CoreTable}
+use Rattle.assignment.specs.Partition.{Parts, moved, best}
+use Rattle.assignment.specs.SplitLaws.{part-length, rest-length, SplitAt, leastSplit-attained}
+use Rattle.assignment.specs.CoreSplits.{core-split-plan, core-split-key, merged}
 
--- no level that fits a core costs more than `most`
-pub data CostsAtMost (levels capacity most : ℕ) : List Item → Type 0 where
-  nothing : CostsAtMost levels capacity most []
-  more : {item : Item} {items : List Item} → ((l : ℕ) → l < levels → item .load l ≤ capacity → item .cost l ≤ most) →
-      CostsAtMost levels capacity most items → CostsAtMost levels capacity most (item ∷ items)
+-- none, or a cost of at most `most` with the key of a plan that keeps exactly the set, with no choice above `choices`
+pub data Bounded (choices most : ℕ) (S : List Bool) : Value → Type 0 where
+  absent : Bounded choices most S none
+  present : (cost : ℕ) {plan : List ℕ} → cost ≤ most → Keeps choices S plan → Bounded choices most S (pair cost (planKey plan))
 
-runs-cost : {levels capacity most cores : ℕ} {items : List Item} {S : List Bool} {plan : List ℕ} →
-    CostsAtMost levels capacity most items → Keeps (cores * levels) items S plan →
-    ((k : ℕ) → k < cores → coreLoad levels k items plan ≤ capacity) → keptCost levels items plan ≤ length items * most
-unfolding keptCost keptChoiceCost coreLoad
-runs-cost nothing done fits = omega arith
-runs-cost (more cheap costs) (refused keeps) fits =
-    let tail = runs-cost costs keeps (λ k h. omega (arith, fits k h)) in
-    omega arith
-runs-cost {levels} {cores = cores} (more {item} cheap costs) (kept d h keeps) fits =
-    let tail = runs-cost costs keeps (λ k h. omega (arith, fits k h)) in
-    let core = div-lt-iff-lt-mul (some-level cores levels h) .1 h in
-    let level = mod-lt d (some-level cores levels h) in
-    let load = level-load levels (d / levels) item d level (sym (div-add-mod' d levels)) in
-    let cost = cheap (d % levels) level (omega (arith, fits (d / levels) core)) in
-    omega arith
+-- a table of such values, one for each set of n items
+pub record BoundedTable (choices n most : ℕ) (table : List Bool → Value) : Type 0 where
+  pub entry : (S : List Bool) → length S ≡ n → Bounded choices most S (table S)
 
--- what some plan that fits is worth stays within n × most, and its key within n digits
-runs-within : {levels capacity most cores w : ℕ} {items : List Item} {S : List Bool} {v : Value} →
-    cores * levels < keyBase → CostsAtMost levels capacity most items → w ≤ capacity →
-    Attained (Runs levels w cores items S) (keptWorth levels items) v →
-    Within (length items * most) (keyBase ^ length items) v
-unfolding keptWorth
-runs-within small costs le (inl e) = rw e absent
-runs-within small costs le (inr (plan, runs, e)) =
-    let cost = runs-cost costs (runs .keeps) (λ k h. omega (arith, runs .cores-fit k h)) in
-    rw e (present cost (key-below (keeps-in-base small (runs .keeps))))
+-- where each choice is a digit, the keys have n digits
+pub bounded-within : {choices n most : ℕ} {table : List Bool → Value} → choices < keyBase → BoundedTable choices n most table →
+    (S : List Bool) → length S ≡ n → Within most (keyBase ^ n) (table S)
+bounded-within {choices} {n} {most} small bounded S of-items = go (bounded .entry S of-items)
+  where
+    go : {v : Value} → Bounded choices most S v → Within most (keyBase ^ n) v
+    go absent = Within.absent
+    go (present cost cheap keeps) =
+        let in-plan = keeps-length keeps ∙ of-items in
+        Within.present cheap (rw in-plan at (key-below (keeps-in-base small keeps)))
 
-pub best-within : (o : Options) (c : ℕ) (S : List Bool) {most : ℕ} → suc c * o .levels < keyBase →
-    CostsAtMost (o .levels) (o .capacity) most (o .items) →
-    Within (length (o .items) * most) (keyBase ^ length (o .items)) (best o c S)
-best-within o c S small costs = runs-within small costs (le-refl (o .capacity)) (best-least o c S .attained)
+-- a table of least values, where no admitted pattern costs more than `most`
+pub core-table-bounded : {o : Options} {table : List Bool → Value} {most : ℕ} → CoreTable o table →
+    ((T : List Bool) → length T ≡ length (o .items) → (pattern : List ℕ) → Admitted o T pattern → o .coreCost pattern ≤ most) →
+    BoundedTable (o .levels) (length (o .items)) most table
+unfolding patternWorth
+core-table-bounded {o} {table} {most} core cheap = record { entry = λ T of-items. go T of-items (core .least T of-items .attained) }
+  where
+    go : (T : List Bool) → length T ≡ length (o .items) → {v : Value} → Attained (Admitted o T) (patternWorth o) v → Bounded (o .levels) most T v
+    go T of-items (inl e) = rw e absent
+    go T of-items (inr (pattern, admitted, e)) = rw e (present (o .coreCost pattern) (cheap T of-items pattern admitted) (admitted .keeps))
 
--- with at most twelve items, eight keys add up within 64 bits
-pub keys-fit : {n : ℕ} → n ≤ 12 → 8 * keyBase ^ n < 2 ^ 64
-unfolding keyBase
-keys-fit {n} h =
-    let some-digit : 0 < 33 = omega arith in
-    let most : keyBase ^ n ≤ keyBase ^ 12 = pow-le-pow-right some-digit h in
-    omega arith
+sum-bounded : (c : ℕ) {levels a b : ℕ} {S T R : List Bool} {u v : Value} → Parts S T R → Bounded levels a T u →
+    Bounded (c * levels) b R v →
+    Bounded (suc c * levels) (b + a) S (add (add (pair 0 (c * levels * weight T)) u) v)
+unfolding add
+sum-bounded c parts absent rest = absent
+sum-bounded c parts (present x low top) absent = absent
+sum-bounded c parts (present x low top) (present y cheap rest) =
+    let (plan, split) = merged {c = c} parts top rest in
+    rw (sym (core-split-key split)) (present (0 + x + y) (omega arith) (core-split-plan split))
+
+-- on c cores more the costs add up
+pub best-bounded : {levels n most : ℕ} {table : List Bool → Value} → BoundedTable levels n most table → (c : ℕ) →
+    BoundedTable (suc c * levels) n (suc c * most) (best levels table c)
+unfolding best moved
+best-bounded {levels} {n} {most} bounded zero =
+    record { entry = λ S of-items. rw (one-mul levels, one-mul most) (bounded .entry S of-items) }
+best-bounded {levels} {n} {most} {table} bounded (suc c) =
+    record { entry = λ S of-items. go of-items (leastSplit-attained S _) (best-bounded bounded c) }
+  where
+    go : {S : List Bool} {v : Value} → length S ≡ n →
+        SplitAt S (λ T R. add (moved (suc c * levels) table T) (best levels table c R)) v →
+        BoundedTable (suc c * levels) n (suc c * most) (best levels table c) →
+        Bounded (suc (suc c) * levels) (suc (suc c) * most) S v
+    go of-items s below =
+        let top = bounded .entry (s .part) (part-length (s .parts) ∙ of-items) in
+        let rest = below .entry (s .others) (rest-length (s .parts) ∙ of-items) in
+        rw (s .value, suc-mul (suc c) most) (sum-bounded (suc c) (s .parts) top rest)

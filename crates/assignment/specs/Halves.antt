@@ -6,63 +6,12 @@ use mathlib.Core.Bool.{Bool, true, false}
 use mathlib.Core.List.{List, [], _∷_}
 use native.Mathlib.Nat.{add-zero, add-suc, mul-add, add-mul}
 use native.Mathlib.Omega.{arith}
-use Rattle.assignment.specs.Assignment.{Item, Options}
+use Rattle.assignment.specs.Keys.{weight}
 use Rattle.assignment.specs.Values.{Value, none, pair, add, lesser}
 use Rattle.assignment.specs.ValueLaws.{lesser-assoc}
-use Rattle.assignment.specs.LeastLaws.{lesser-swap, add-lesser, lesser-add}
-use Rattle.assignment.specs.Knapsacks.{knapsack}
-use Rattle.assignment.specs.Partition.{leastSplit, weight, movedKnapsack, best}
-use Rattle.assignment.specs.CoreSplits.{Parts, nothing, neither, first, second}
-
--- a value of each set, with each choice larger by c × levels
-unfoldable pub moved : Options → ℕ → (List Bool → Value) → List Bool → Value
-moved o c f U = add (pair 0 (c * o .levels * weight (o .items) U)) (f U)
-
--- splits of equal worth have the same least
-pub leastSplit-parts : (S : List Bool) {f g : List Bool → List Bool → Value} →
-    ((T R : List Bool) → Parts S T R → f T R ≡ g T R) → leastSplit S f ≡ leastSplit S g
-unfolding leastSplit
-leastSplit-parts [] same = same [] [] nothing
-leastSplit-parts (false ∷ S) same = leastSplit-parts S (λ T R p. same (false ∷ T) (false ∷ R) (neither p))
-leastSplit-parts (true ∷ S) same =
-    ap₂ lesser (leastSplit-parts S (λ T R p. same (true ∷ T) (false ∷ R) (first p)))
-    (leastSplit-parts S (λ T R p. same (false ∷ T) (true ∷ R) (second p)))
-
-pub lesser-exchange : (a b c d : Value) → lesser (lesser a b) (lesser c d) ≡ lesser (lesser a c) (lesser b d)
-lesser-exchange a b c d =
-    lesser-assoc a b (lesser c d)
-    ∙ ap (lesser a) (sym (lesser-assoc b c d) ∙ ap (λ (u : Value). lesser u d) (lesser-swap b c) ∙ lesser-assoc c b d)
-    ∙ sym (lesser-assoc a c (lesser b d))
-
--- the least of the lesser of two, and of a sum with one value
-
-pub leastSplit-lesser : (S : List Bool) (f g : List Bool → List Bool → Value) →
-    leastSplit S (λ T R. lesser (f T R) (g T R)) ≡ lesser (leastSplit S f) (leastSplit S g)
-unfolding leastSplit
-leastSplit-lesser [] f g = refl
-leastSplit-lesser (false ∷ S) f g = leastSplit-lesser S (λ T R. f (false ∷ T) (false ∷ R)) (λ T R. g (false ∷ T) (false ∷ R))
-leastSplit-lesser (true ∷ S) f g =
-    ap₂ lesser (leastSplit-lesser S (λ T R. f (true ∷ T) (false ∷ R)) (λ T R. g (true ∷ T) (false ∷ R)))
-    (leastSplit-lesser S (λ T R. f (false ∷ T) (true ∷ R)) (λ T R. g (false ∷ T) (true ∷ R)))
-    ∙ lesser-exchange _ _ _ _
-
-pub add-leastSplit : (v : Value) (S : List Bool) (f : List Bool → List Bool → Value) →
-    add v (leastSplit S f) ≡ leastSplit S (λ T R. add v (f T R))
-unfolding leastSplit
-add-leastSplit v [] f = refl
-add-leastSplit v (false ∷ S) f = add-leastSplit v S (λ T R. f (false ∷ T) (false ∷ R))
-add-leastSplit v (true ∷ S) f =
-    add-lesser v _ _
-    ∙ ap₂ lesser (add-leastSplit v S (λ T R. f (true ∷ T) (false ∷ R))) (add-leastSplit v S (λ T R. f (false ∷ T) (true ∷ R)))
-
-leastSplit-add : (S : List Bool) (f : List Bool → List Bool → Value) (v : Value) →
-    add (leastSplit S f) v ≡ leastSplit S (λ T R. add (f T R) v)
-unfolding leastSplit
-leastSplit-add [] f v = refl
-leastSplit-add (false ∷ S) f v = leastSplit-add S (λ T R. f (false ∷ T) (false ∷ R)) v
-leastSplit-add (true ∷ S) f v =
-    lesser-add _ _ v
-    ∙ ap₂ lesser (leastSplit-add S (λ T R. f (true ∷ T) (false ∷ R)) v) (leastSplit-add S (λ T R. f (false ∷ T) (true ∷ R)) v)
+use Rattle.assignment.specs.LeastLaws.{add-assoc}
+use Rattle.assignment.specs.Partition.{leastSplit, moved, best}
+use Rattle.assignment.specs.SplitLaws.{parts-weight, leastSplit-parts, leastSplit-lesser, add-leastSplit, leastSplit-add}
 
 -- the parts of a rest and the parts of a part are the same three
 leastSplit-assoc : (S : List Bool) (f : List Bool → List Bool → List Bool → Value) →
@@ -87,20 +36,11 @@ leastSplit-assoc (true ∷ S) f =
     in-third : List Bool → List Bool → List Bool → Value
     in-third T U X = f (false ∷ T) (false ∷ U) (true ∷ X)
 
-pub add-assoc : (u v w : Value) → add u (add v w) ≡ add (add u v) w
+pub sum-assoc : (u v w : Value) → add u (add v w) ≡ add (add u v) w
 unfolding add
-add-assoc none v w = refl
-add-assoc (pair a x) none w = refl
-add-assoc (pair a x) (pair b y) none = refl
-add-assoc (pair a x) (pair b y) (pair c z) = ap₂ pair (omega arith) (omega arith)
-
-parts-weight : (items : List Item) {S T R : List Bool} → Parts S T R → weight items S ≡ weight items T + weight items R
-unfolding weight
-parts-weight [] p = refl
-parts-weight (item ∷ items) nothing = refl
-parts-weight (item ∷ items) (neither p) = omega (arith, parts-weight items p)
-parts-weight (item ∷ items) (first p) = omega (arith, parts-weight items p)
-parts-weight (item ∷ items) (second p) = omega (arith, parts-weight items p)
+sum-assoc none v w = refl
+sum-assoc (pair a x) none w = refl
+sum-assoc (pair a x) (pair b y) w = add-assoc a x b y w
 
 -- what is moved up together is moved up part by part
 keys-move : (c d e t u : ℕ) (v w : Value) → e ≡ c + d →
@@ -113,41 +53,44 @@ keys-move c d e t u (pair a x) (pair b y) is =
     let sum = mul-add c t u in
     ap₂ pair (omega arith) (omega arith)
 
-module _ (o : Options) (below above : ℕ) where
+module _ (levels : ℕ) (table : List Bool → Value) (below above : ℕ) where
   -- the top core's choices on all cores are those on the upper half, moved up
   upper-half : (W : List Bool) →
-      leastSplit W (λ T U. add (movedKnapsack o (suc (suc (below + above))) T) (moved o (suc below) (best o above) U))
-      ≡ moved o (suc below) (best o (suc above)) W
-  unfolding best moved movedKnapsack
+      leastSplit W (λ T U. add (moved (suc (suc (below + above)) * levels) table T) (moved (suc below * levels) (best levels table above) U))
+      ≡ moved (suc below * levels) (best levels table (suc above)) W
+  unfolding best moved
   upper-half W =
-      let levels = o .levels in
       let all : suc (suc (below + above)) * levels ≡ suc below * levels + suc above * levels = omega arith in
       leastSplit-parts W
       (λ T U p.
-      rw (parts-weight (o .items) p)
-      (keys-move (suc below * levels) (suc above * levels) _ (weight (o .items) T) (weight (o .items) U) (knapsack levels (o .items) T (o .capacity)) (best o above U) all))
-      ∙ sym (add-leastSplit (pair 0 (suc below * levels * weight (o .items) W)) W (λ T U. add (movedKnapsack o (suc above) T) (best o above U)))
+      rw (parts-weight p)
+      (keys-move (suc below * levels) (suc above * levels) _ (weight T) (weight U) (table T) (best levels table above U) all))
+      ∙ sym (add-leastSplit (pair 0 (suc below * levels * weight W)) W (λ T U. add (moved (suc above * levels) table T) (best levels table above U)))
 
   halves-step : (S : List Bool) →
-      ((R : List Bool) → best o (suc (below + above)) R ≡ leastSplit R (λ U X. add (moved o (suc below) (best o above) U) (best o below X))) →
-      best o (suc (suc (below + above))) S
-      ≡ leastSplit S (λ W X. add (moved o (suc below) (best o (suc above)) W) (best o below X))
+      ((R : List Bool) →
+      best levels table (suc (below + above)) R
+      ≡ leastSplit R (λ U X. add (moved (suc below * levels) (best levels table above) U) (best levels table below X))) →
+      best levels table (suc (suc (below + above))) S
+      ≡ leastSplit S (λ W X. add (moved (suc below * levels) (best levels table (suc above)) W) (best levels table below X))
   unfolding best
   halves-step S before =
-      let top = movedKnapsack o (suc (suc (below + above))) in
-      let upper = moved o (suc below) (best o above) in
+      let top = moved (suc (suc (below + above)) * levels) table in
+      let upper = moved (suc below * levels) (best levels table above) in
+      let lower = best levels table below in
       leastSplit-parts S
       (λ T R p.
-      ap (add (top T)) (before R) ∙ add-leastSplit (top T) R (λ U X. add (upper U) (best o below X))
-      ∙ leastSplit-parts R (λ U X q. add-assoc (top T) (upper U) (best o below X)))
-      ∙ leastSplit-assoc S (λ T U X. add (add (top T) (upper U)) (best o below X))
+      ap (add (top T)) (before R) ∙ add-leastSplit (top T) R (λ U X. add (upper U) (lower X))
+      ∙ leastSplit-parts R (λ U X q. sum-assoc (top T) (upper U) (lower X)))
+      ∙ leastSplit-assoc S (λ T U X. add (add (top T) (upper U)) (lower X))
       ∙ leastSplit-parts S
-      (λ W X p.
-      sym (leastSplit-add W (λ T U. add (top T) (upper U)) (best o below X)) ∙ ap (λ (u : Value). add u (best o below X)) (upper-half W))
+      (λ W X p. sym (leastSplit-add W (λ T U. add (top T) (upper U)) (lower X)) ∙ ap (λ (u : Value). add u (lower X)) (upper-half W))
 
 -- the cores 0 to `below` take the rest, the cores above them, one more than `above`, the part
-pub best-in-halves : (o : Options) (below above : ℕ) (S : List Bool) →
-    best o (suc (below + above)) S ≡ leastSplit S (λ U R. add (moved o (suc below) (best o above) U) (best o below R))
-unfolding best moved movedKnapsack
-best-in-halves o below zero S = rw (add-zero below)
-best-in-halves o below (suc above) S = rw (add-suc below above) (halves-step o below above S (best-in-halves o below above))
+pub best-in-halves : (levels : ℕ) (table : List Bool → Value) (below above : ℕ) (S : List Bool) →
+    best levels table (suc (below + above)) S
+    ≡ leastSplit S (λ U R. add (moved (suc below * levels) (best levels table above) U) (best levels table below R))
+unfolding best
+best-in-halves levels table below zero S = rw (add-zero below)
+best-in-halves levels table below (suc above) S =
+    rw (add-suc below above) (halves-step levels table below above S (best-in-halves levels table below above))

@@ -1,63 +1,62 @@
--- What one choice of a plan loads and is worth.
-use Prim.Native.Nat.{ℕ, zero, suc, _+_, _*_, _/_, _%_, _^_, _≤_, _<_}
+-- What one choice of a plan has each core run, and which items a core keeps.
+use Prim.Native.Nat.{ℕ, zero, suc, _+_, _*_, _/_, _%_, _<_}
 use mathlib.Core.Path.{_≡_, refl, ap, _∙_}
 use mathlib.Core.Logic.{_≢_}
-use mathlib.Core.Bool.{Bool, cond}
-use mathlib.Core.List.{List, _∷_}
-use native.Mathlib.Nat.{one-mul, mod-eq-of-lt, zero-add, zero-mul, zero-lt-suc}
+use mathlib.Core.Bool.{Bool, true, false, cond, not}
+use mathlib.Core.List.{List, [], _∷_}
+use native.Mathlib.Nat.{zero-lt-suc, mod-lt}
 use native.Mathlib.Omega.{arith}
 use borrow.Author.Tests.{eq-eqb, ne-eqb}
 use lib.Arith.{digits-div, digits-mod}
 use lib.Dec.{eqb, eqb·suc-zero}
 use lib.ListN.{length}
-use Rattle.assignment.specs.Assignment.{Item, choiceLoad, coreLoad}
-use Rattle.assignment.specs.Values.{pair, add}
-use Rattle.assignment.specs.Knapsacks.{keyBase}
-use Rattle.assignment.specs.Keeping.{Keeps, Runs, keptChoiceCost, keptCost, planKey, keptWorth}
+use Rattle.assignment.specs.Assignment.{onCore, corePattern}
+use Rattle.assignment.specs.Keeping.{Keeps, done, refused, kept, keptItems, coreSet}
 
-pub refused-load : (levels k : ℕ) (item : Item) → choiceLoad levels k item 0 ≡ 0
-unfolding choiceLoad
-refused-load levels k item = refl
+pub refused-runs : (levels k : ℕ) → onCore levels k 0 ≡ 0
+unfolding onCore
+refused-runs levels k = refl
 
-kept-load : (levels k : ℕ) (item : Item) (d : ℕ) →
-    choiceLoad levels k item (suc d) ≡ cond (eqb (d / levels) k) (item .load (d % levels)) 0
-unfolding choiceLoad
-kept-load levels k item d = rw eqb·suc-zero
+pub kept-runs : (levels k d : ℕ) → onCore levels k (suc d) ≡ cond (eqb (d / levels) k) (suc (d % levels)) 0
+unfolding onCore
+kept-runs levels k d = rw eqb·suc-zero
 
-pub refused-worth : (levels : ℕ) (item : Item) (items : List Item) (plan : List ℕ) →
-    keptWorth levels (item ∷ items) (0 ∷ plan) ≡ keptWorth levels items plan
-unfolding keptWorth keptCost planKey keptChoiceCost
-refused-worth levels item items plan = simp (zero-mul, zero-add)
+-- level l of core k is choice 1 + k × levels + l, and has that core alone run it
 
--- level l of core k is choice 1 + k × levels + l, and loads that core alone
+pub level-runs : (levels k d : ℕ) {l : ℕ} → l < levels → d ≡ k * levels + l → onCore levels k (suc d) ≡ suc l
+level-runs levels k d h e = kept-runs levels k d ∙ rw (e, digits-div k h, digits-mod k h, eq-eqb k k refl)
 
-pub level-load : (levels k : ℕ) (item : Item) (d : ℕ) {l : ℕ} → l < levels → d ≡ k * levels + l →
-    choiceLoad levels k item (suc d) ≡ item .load l
-level-load levels k item d h e =
-    kept-load levels k item d ∙ rw (e, digits-div k h, digits-mod k h, eq-eqb k k refl)
-
-pub other-load : (levels k : ℕ) (item : Item) (d : ℕ) → d / levels ≢ k → choiceLoad levels k item (suc d) ≡ 0
-other-load levels k item d h = kept-load levels k item d ∙ rw (ne-eqb (d / levels) k h)
-
-pub level-worth : {levels : ℕ} (item : Item) (items : List Item) (plan : List ℕ) (l : ℕ) → l < levels →
-    keptWorth levels (item ∷ items) (suc l ∷ plan)
-    ≡ add (pair (item .cost l) (suc l * keyBase ^ length items)) (keptWorth levels items plan)
-unfolding keptWorth keptCost planKey keptChoiceCost add
-level-worth {levels} item items plan l h =
-    let tail = keptCost levels items plan in
-    ap (λ (m : ℕ). pair (item .cost m + tail) (suc l * keyBase ^ length items + planKey items plan)) (mod-eq-of-lt h)
+pub other-runs : (levels k d : ℕ) → d / levels ≢ k → onCore levels k (suc d) ≡ 0
+other-runs levels k d h = kept-runs levels k d ∙ rw (ne-eqb (d / levels) k h)
 
 pub some-level : (cores levels : ℕ) {d : ℕ} → d < cores * levels → zero < levels
 some-level cores zero h = absurd (omega arith)
 some-level cores (suc levels) h = zero-lt-suc levels
 
--- on core 0 alone
+-- a pattern keeps the items that it keeps, and what a core runs is a pattern
 
-pub one-core : {levels w : ℕ} {items : List Item} {T : List Bool} {plan : List ℕ} → Keeps levels items T plan →
-    coreLoad levels 0 items plan ≤ w → Runs levels w 1 items T plan
-one-core keeps fits =
-    record { keeps = rw one-mul keeps; cores-fit = λ k h. let first-core : k ≡ 0 = omega arith in rw first-core fits }
+pub kept-items : {most : ℕ} {S : List Bool} {plan : List ℕ} → Keeps most S plan → keptItems plan ≡ S
+unfolding keptItems
+kept-items done = refl
+kept-items (refused k) = ap (λ (S : List Bool). false ∷ S) (kept-items k)
+kept-items (kept d h k) = rw eqb·suc-zero (ap (λ (S : List Bool). true ∷ S) (kept-items k))
 
-pub one-core-keeps : {levels w : ℕ} {items : List Item} {T : List Bool} {plan : List ℕ} → Runs levels w 1 items T plan →
-    Keeps levels items T plan
-one-core-keeps runs = rw one-mul at (runs .keeps)
+pub core-keeps : (cores levels k : ℕ) {S : List Bool} {plan : List ℕ} → Keeps (cores * levels) S plan →
+    Keeps levels (coreSet levels k plan) (corePattern levels k plan)
+unfolding coreSet keptItems corePattern
+core-keeps cores levels k done = done
+core-keeps cores levels k (refused keeps) = rw (refused-runs levels k) (refused (core-keeps cores levels k keeps))
+core-keeps cores levels k (kept {plan = plan} d h keeps) =
+    rw (kept-runs levels k d) (go (eqb (d / levels) k) (core-keeps cores levels k keeps))
+  where
+    go : (here : Bool) → Keeps levels (keptItems (corePattern levels k plan)) (corePattern levels k plan) →
+        Keeps levels
+        (not (eqb (cond here (suc (d % levels)) 0) 0) ∷ keptItems (corePattern levels k plan))
+        (cond here (suc (d % levels)) 0 ∷ corePattern levels k plan)
+    go true tail = rw eqb·suc-zero (kept (d % levels) (mod-lt d (some-level cores levels h)) tail)
+    go false tail = refused tail
+
+pub coreSet-length : (levels k : ℕ) (plan : List ℕ) → length (coreSet levels k plan) ≡ length plan
+unfolding coreSet keptItems corePattern
+coreSet-length levels k [] = refl
+coreSet-length levels k (c ∷ plan) = ap suc (coreSet-length levels k plan)

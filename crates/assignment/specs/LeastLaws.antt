@@ -30,6 +30,12 @@ lesser-swap u v = go (in-order u v)
 pub lesser-last-two : (u v w : Value) → lesser (lesser u v) w ≡ lesser (lesser u w) v
 lesser-last-two u v w = lesser-assoc u v w ∙ ap (lesser u) (lesser-swap v w) ∙ sym (lesser-assoc u w v)
 
+pub lesser-exchange : (a b c d : Value) → lesser (lesser a b) (lesser c d) ≡ lesser (lesser a c) (lesser b d)
+lesser-exchange a b c d =
+    lesser-assoc a b (lesser c d)
+    ∙ ap (lesser a) (sym (lesser-assoc b c d) ∙ ap (λ (u : Value). lesser u d) (lesser-swap b c) ∙ lesser-assoc c b d)
+    ∙ sym (lesser-assoc a c (lesser b d))
+
 pub add-lesser : (v a b : Value) → add v (lesser a b) ≡ lesser (add v a) (add v b)
 add-lesser v a b = go (in-order a b)
   where

@@ -1,138 +1,149 @@
--- A partition's value is the least worth of the plans that keep exactly its set on its cores.
-use Prim.Native.Nat.{ℕ, zero, suc, pred, _*_, _≤_, _<_}
+-- From a table of one core's least values, a partition's value is the least worth of the plans that keep exactly its set on its
+-- cores.
+use Prim.Native.Nat.{ℕ, zero, suc, _*_, _<_}
 use mathlib.Core.Path.{_≡_, refl, sym, ap, ap₂, _∙_}
 use mathlib.Core.Logic.{_⊎_, inl, inr}
-use mathlib.Core.Bool.{Bool, true, false}
-use mathlib.Core.List.{List, [], _∷_}
-use native.Mathlib.Nat.{eq-or-lt-of-le}
+use mathlib.Core.Bool.{Bool, true}
+use mathlib.Core.List.{List, _∷_}
+use native.Mathlib.Nat.{one-mul, zero-add, eq-or-lt-of-le}
 use native.Mathlib.Omega.{arith}
-use Rattle.assignment.specs.Assignment.{Item, Options, coreLoad}
+use lib.ListN.{length}
+use Rattle.assignment.specs.Assignment.{Options, corePattern, coresCost}
 use Rattle.assignment.specs.Values.{Value, pair, add, AtMost, Attained, Least}
-use Rattle.assignment.specs.ValueLaws.{atMost-refl, atMost-trans, add-mono, lesser-first, lesser-second, lesser-either}
-use Rattle.assignment.specs.Knapsacks.{knapsack}
-use Rattle.assignment.specs.KnapsackLaws.{knapsack-least}
-use Rattle.assignment.specs.Partition.{leastSplit, weight, movedKnapsack, best, bestOf}
-use Rattle.assignment.specs.Keeping.{Runs, RunsSet, keptWorth}
-use Rattle.assignment.specs.KeepingLaws.{one-core, one-core-keeps}
-use Rattle.assignment.specs.CoreSplits.{Parts, nothing, neither, first, second, CoreSplit, core-split-parts, core-split-top, core-split-rest, core-split-plan, some-core-split, merged, core-split-cost, core-split-key, core-split-top-load, core-split-rest-load}
+use Rattle.assignment.specs.ValueLaws.{atMost-refl, atMost-trans, add-mono}
+use Rattle.assignment.specs.Keys.{weight}
+use Rattle.assignment.specs.Keeping.{Keeps, done, refused, kept, Runs, keptWorth}
+use Rattle.assignment.specs.KeepingLaws.{refused-runs, level-runs}
+use Rattle.assignment.specs.CoreTables.{Admitted, patternWorth, CoreTable}
+use Rattle.assignment.specs.Partition.{Parts, leastSplit, moved, best}
+use Rattle.assignment.specs.SplitLaws.{part-length, rest-length, leastSplit-below, SplitAt, leastSplit-attained}
+use Rattle.assignment.specs.CoreSplits.{CoreSplit, core-split-parts, core-split-top, core-split-rest, core-split-plan, some-core-split, merged, core-split-pattern, core-split-lower, core-split-key}
 
-leastSplit-below : {S T R : List Bool} (f : List Bool → List Bool → Value) → Parts S T R → AtMost (leastSplit S f) (f T R)
-unfolding leastSplit
-leastSplit-below f nothing = atMost-refl (f [] [])
-leastSplit-below f (neither s) = leastSplit-below (λ T R. f (false ∷ T) (false ∷ R)) s
-leastSplit-below f (first s) = atMost-trans (lesser-first _ _) (leastSplit-below (λ T R. f (true ∷ T) (false ∷ R)) s)
-leastSplit-below f (second s) = atMost-trans (lesser-second _ _) (leastSplit-below (λ T R. f (false ∷ T) (true ∷ R)) s)
+-- core 0 runs a pattern as it is
+pattern-itself : {levels : ℕ} {T : List Bool} {pattern : List ℕ} → Keeps levels T pattern → corePattern levels 0 pattern ≡ pattern
+unfolding corePattern
+pattern-itself done = refl
+pattern-itself {levels} (refused k) = ap₂ _∷_ (refused-runs levels 0) (pattern-itself k)
+pattern-itself {levels} (kept d h k) = ap₂ _∷_ (level-runs levels 0 d h (omega arith)) (pattern-itself k)
 
-record SplitAt (S : List Bool) (f : List Bool → List Bool → Value) (v : Value) : Type 0 where
-  part : List Bool
-  others : List Bool
-  parts : Parts S part others
-  value : v ≡ f part others
+-- cores cost the same where what each runs does
+pub cores-cost-same : (o o' : Options) (k : ℕ) (plan plan' : List ℕ) →
+    ((j : ℕ) → j < k → o .coreCost (corePattern (o .levels) j plan) ≡ o' .coreCost (corePattern (o' .levels) j plan')) →
+    coresCost o k plan ≡ coresCost o' k plan'
+unfolding coresCost
+cores-cost-same o o' zero plan plan' same = refl
+cores-cost-same o o' (suc k) plan plan' same =
+    rw (same k (omega arith), cores-cost-same o o' k plan plan' (λ j h. same j (omega arith)))
 
-leastSplit-attained : (S : List Bool) (f : List Bool → List Bool → Value) → SplitAt S f (leastSplit S f)
-unfolding leastSplit
-leastSplit-attained [] f = record { part = []; others = []; parts = nothing; value = refl }
-leastSplit-attained (false ∷ S) f =
-    let s = leastSplit-attained S (λ T R. f (false ∷ T) (false ∷ R)) in
-    record { part = false ∷ s .part; others = false ∷ s .others; parts = neither (s .parts); value = s .value }
-leastSplit-attained (true ∷ S) f =
-    go (lesser-either _ _) (leastSplit-attained S in-first) (leastSplit-attained S in-second)
-  where
-    in-first : List Bool → List Bool → Value
-    in-first T R = f (true ∷ T) (false ∷ R)
+module _ (o : Options) where
+  one-core-worth : {T : List Bool} {pattern : List ℕ} → Keeps (o .levels) T pattern → keptWorth o 1 pattern ≡ patternWorth o pattern
+  unfolding keptWorth patternWorth coresCost
+  one-core-worth keeps = rw (pattern-itself keeps, zero-add)
 
-    in-second : List Bool → List Bool → Value
-    in-second T R = f (false ∷ T) (true ∷ R)
+  one-core : {T : List Bool} {pattern : List ℕ} → Admitted o T pattern → Runs o 1 T pattern
+  one-core admitted =
+      record {
+        keeps = rw one-mul (admitted .keeps);
+        cores-admit = λ k h.
+            let first-core : k ≡ 0 = omega arith in
+            rw (first-core, pattern-itself (admitted .keeps)) (admitted .admitted);
+      }
 
-    go : {u v w : Value} → (w ≡ u) ⊎ (w ≡ v) → SplitAt S in-first u → SplitAt S in-second v → SplitAt (true ∷ S) f w
-    go (inl e) s t =
-        record { part = true ∷ s .part; others = false ∷ s .others; parts = first (s .parts); value = e ∙ s .value }
-    go (inr e) s t =
-        record { part = false ∷ t .part; others = true ∷ t .others; parts = second (t .parts); value = e ∙ t .value }
+  one-core-admits : {T : List Bool} {pattern : List ℕ} → Runs o 1 T pattern → Admitted o T pattern
+  one-core-admits runs =
+      let keeps = rw one-mul at (runs .keeps) in
+      record { keeps = keeps; admitted = rw (pattern-itself keeps) at (runs .cores-admit 0 (omega arith)) }
 
--- the worth of a plan is that of its parts
-core-split-worth : {levels c : ℕ} {items : List Item} {S T R : List Bool} {plan top rest : List ℕ} →
-    CoreSplit levels c items S T R plan top rest →
-    keptWorth levels items plan
-    ≡ add (add (pair 0 (c * levels * weight items T)) (keptWorth levels items top)) (keptWorth levels items rest)
-unfolding keptWorth add
-core-split-worth p = ap₂ pair (omega (arith, core-split-cost p)) (core-split-key p)
+  module _ {c : ℕ} {S T R : List Bool} {plan top rest : List ℕ} (split : CoreSplit (o .levels) c S T R plan top rest) where
+    -- the worth of a plan is that of its parts
+    core-split-worth : keptWorth o (suc c) plan
+        ≡ add (add (pair 0 (c * o .levels * weight T)) (patternWorth o top)) (keptWorth o c rest)
+    unfolding keptWorth patternWorth add coresCost
+    core-split-worth =
+        let below = cores-cost-same o o c plan rest (λ j h. ap (o .coreCost) (core-split-lower h split)) in
+        rw (core-split-pattern split) (ap₂ pair (omega arith) (core-split-key split))
 
--- a plan fits its cores when its parts fit theirs
+    -- a plan's cores admit what they run where those of its parts do
 
-core-split-runs-top : {levels capacity c : ℕ} {items : List Item} {S T R : List Bool} {plan top rest : List ℕ} →
-    CoreSplit levels c items S T R plan top rest → Runs levels capacity (suc c) items S plan →
-    Runs levels capacity 1 items T top
-core-split-runs-top {c = c} p runs =
-    one-core (core-split-top p) (omega (arith, core-split-top-load p, runs .cores-fit c (omega arith)))
+    core-split-admitted : Runs o (suc c) S plan → Admitted o T top
+    core-split-admitted runs =
+        record {
+          keeps = core-split-top split;
+          admitted = rw (core-split-pattern split) at (runs .cores-admit c (omega arith));
+        }
 
-core-split-runs-rest : {levels capacity c : ℕ} {items : List Item} {S T R : List Bool} {plan top rest : List ℕ} →
-    CoreSplit levels c items S T R plan top rest → Runs levels capacity (suc c) items S plan →
-    Runs levels capacity c items R rest
-core-split-runs-rest p runs =
-    record { keeps = core-split-rest p; cores-fit = λ k h. omega (arith, core-split-rest-load h p, runs .cores-fit k (omega arith)) }
+    core-split-runs-rest : Runs o (suc c) S plan → Runs o c R rest
+    core-split-runs-rest runs =
+        record {
+          keeps = core-split-rest split;
+          cores-admit = λ k h. rw (core-split-lower h split) at (runs .cores-admit k (omega arith));
+        }
 
-core-split-runs : {levels capacity c : ℕ} {items : List Item} {S T R : List Bool} {plan top rest : List ℕ} →
-    CoreSplit levels c items S T R plan top rest → Runs levels capacity 1 items T top → Runs levels capacity c items R rest →
-    Runs levels capacity (suc c) items S plan
-core-split-runs {levels} {capacity} {c} {items} {plan = plan} p on-top on-rest =
-    record { keeps = core-split-plan p; cores-fit = λ k h. fits k (eq-or-lt-of-le h) }
-  where
-    fits : (k : ℕ) → (suc k ≡ suc c) ⊎ (suc k < suc c) → coreLoad levels k items plan ≤ capacity
-    fits k (inl e) =
-        let d : k ≡ c = omega arith in rw d (omega (arith, core-split-top-load p, on-top .cores-fit 0 (omega arith)))
-    fits k (inr h) =
-        let under : k < c = omega arith in omega (arith, core-split-rest-load under p, on-rest .cores-fit k under)
+    core-split-runs : Admitted o T top → Runs o c R rest → Runs o (suc c) S plan
+    core-split-runs on-top on-rest =
+        record { keeps = core-split-plan split; cores-admit = λ k h. admits k (eq-or-lt-of-le h) }
+      where
+        admits : (k : ℕ) → (suc k ≡ suc c) ⊎ (suc k < suc c) → o .admits (corePattern (o .levels) k plan) ≡ true
+        admits k (inl e) = let d : k ≡ c = omega arith in rw (d, core-split-pattern split) (on-top .admitted)
+        admits k (inr h) =
+            let under : k < c = omega arith in rw (core-split-lower under split) (on-rest .cores-admit k under)
 
--- the plans that keep exactly S on cores 0 to c, and what their kept items are worth
-abbrev On : Options → ℕ → List Bool → List ℕ → Type 0
-On o c = Runs (o .levels) (o .capacity) (suc c) (o .items)
+module _ {o : Options} {table : List Bool → Value} (core : CoreTable o table) where
+  abbrev BestOn : ℕ → List Bool → Type 0
+  BestOn c S = Least (Runs o (suc c) S) (keptWorth o (suc c)) (best (o .levels) table c S)
 
-abbrev worthFor : Options → List ℕ → Value
-worthFor o = keptWorth (o .levels) (o .items)
+  one-core-least : (S : List Bool) → length S ≡ length (o .items) → BestOn 0 S
+  unfolding best
+  one-core-least S of-items =
+      record {
+        below = λ pattern runs.
+            let admitted = one-core-admits o runs in
+            rw (one-core-worth o (admitted .keeps)) (core .least S of-items .below pattern admitted);
+        attained = go (core .least S of-items .attained);
+      }
+    where
+      go : {v : Value} → Attained (Admitted o S) (patternWorth o) v → Attained (Runs o 1 S) (keptWorth o 1) v
+      go (inl e) = inl e
+      go (inr (pattern, admitted, e)) = inr (pattern, one-core o admitted, e ∙ sym (one-core-worth o (admitted .keeps)))
 
-top-least : (o : Options) (T : List Bool) → Least (On o 0 T) (worthFor o) (knapsack (o .levels) (o .items) T (o .capacity))
-top-least o T = knapsack-least (o .levels) (o .items) T (o .capacity)
+  module _ (c : ℕ) (rest-least : (R : List Bool) → length R ≡ length (o .items) → BestOn c R) (S : List Bool)
+      (of-items : length S ≡ length (o .items)) where
+    abbrev sum : List Bool → List Bool → Value
+    sum T R = add (moved (suc c * o .levels) table T) (best (o .levels) table c R)
 
-split-below : (o : Options) (c : ℕ) → ((R : List Bool) → Least (On o c R) (worthFor o) (best o c R)) →
-    (S : List Bool) (plan : List ℕ) → On o (suc c) S plan → AtMost (best o (suc c) S) (worthFor o plan)
-unfolding best movedKnapsack
-split-below o c rest-least S plan runs =
-    let q = some-core-split (runs .keeps) in
-    let top = top-least o (q .part) .below (q .top) (core-split-runs-top (q .split) runs) in
-    let rest = rest-least (q .others) .below (q .rest) (core-split-runs-rest (q .split) runs) in
-    atMost-trans (leastSplit-below (λ T R. add (movedKnapsack o (suc c) T) (best o c R)) (core-split-parts (q .split)))
-    (rw (core-split-worth (q .split)) (add-mono (add-mono (atMost-refl _) top) rest))
+    split-below : (plan : List ℕ) → Runs o (suc (suc c)) S plan → AtMost (leastSplit S sum) (keptWorth o (suc (suc c)) plan)
+    unfolding moved
+    split-below plan runs =
+        let q = some-core-split (runs .keeps) in
+        let parts = core-split-parts (q .split) in
+        let top = core .least (q .part) (part-length parts ∙ of-items) .below (q .top) (core-split-admitted o (q .split) runs) in
+        let rest = rest-least (q .others) (rest-length parts ∙ of-items) .below (q .rest) (core-split-runs-rest o (q .split) runs) in
+        atMost-trans (leastSplit-below sum parts)
+        (rw (core-split-worth o (q .split)) (add-mono (add-mono (atMost-refl _) top) rest))
 
-parts-attained : (o : Options) (c : ℕ) {S T R : List Bool} → Attained (On o c R) (worthFor o) (best o c R) → Parts S T R →
-    Attained (On o (suc c) S) (worthFor o) (add (movedKnapsack o (suc c) T) (best o c R))
-unfolding movedKnapsack add keptWorth
-parts-attained o c {S} {T} {R} rest-attained parts = go (top-least o T .attained) rest-attained
-  where
-    sum : Value → Value → Value
-    sum u v = add (add (pair 0 (suc c * o .levels * weight (o .items) T)) u) v
+    parts-attained : {T R : List Bool} {u v : Value} → Parts S T R → Attained (Admitted o T) (patternWorth o) u →
+        Attained (Runs o (suc c) R) (keptWorth o (suc c)) v →
+        Attained (Runs o (suc (suc c)) S) (keptWorth o (suc (suc c))) (add (add (pair 0 (suc c * o .levels * weight T)) u) v)
+    unfolding add keptWorth patternWorth
+    parts-attained parts (inl d) rest = inl (rw d)
+    parts-attained parts (inr (top, on-top, d)) (inl e) = inl (rw (d, e))
+    parts-attained parts (inr (top, on-top, d)) (inr (rest, on-rest, e)) =
+        let (plan, p) = merged {c = suc c} parts (on-top .keeps) (on-rest .keeps) in
+        inr (plan, core-split-runs o p on-top on-rest, rw (d, e) (sym (core-split-worth o p)))
 
-    go : {u v : Value} → Attained (On o 0 T) (worthFor o) u → Attained (On o c R) (worthFor o) v →
-        Attained (On o (suc c) S) (worthFor o) (sum u v)
-    go {v = v} (inl d) rest = inl (ap (λ (u : Value). sum u v) d)
-    go (inr (top, on-top, d)) (inl e) = inl (ap₂ sum d e)
-    go (inr (top, on-top, d)) (inr (rest, on-rest, e)) =
-        let (plan, p) = merged {c = suc c} parts (one-core-keeps on-top) (on-rest .keeps) in
-        inr (plan, core-split-runs p on-top on-rest, ap₂ sum d e ∙ sym (core-split-worth p))
+    split-attained : {v : Value} → SplitAt S sum v → Attained (Runs o (suc (suc c)) S) (keptWorth o (suc (suc c))) v
+    unfolding moved
+    split-attained s =
+        let top = core .least (s .part) (part-length (s .parts) ∙ of-items) .attained in
+        let rest = rest-least (s .others) (rest-length (s .parts) ∙ of-items) .attained in
+        rw (s .value) (parts-attained (s .parts) top rest)
 
-pub best-least : (o : Options) (c : ℕ) (S : List Bool) →
-    Least (Runs (o .levels) (o .capacity) (suc c) (o .items) S) (keptWorth (o .levels) (o .items)) (best o c S)
-unfolding best
-best-least o zero S = top-least o S
-best-least o (suc c) S =
-    record { below = split-below o c (best-least o c) S; attained = go (leastSplit-attained S _) (best-least o c) }
-  where
-    go : {v : Value} → SplitAt S (λ T R. add (movedKnapsack o (suc c) T) (best o c R)) v →
-        ((R : List Bool) → Least (On o c R) (worthFor o) (best o c R)) → Attained (On o (suc c) S) (worthFor o) v
-    go s rest-least = rw (s .value) (parts-attained o c (rest-least (s .others) .attained) (s .parts))
-
-pub bestOf-least : (o : Options) → 0 < o .cores → (S : List Bool) →
-    Least (RunsSet o S) (keptWorth (o .levels) (o .items)) (bestOf o S)
-unfolding bestOf
-bestOf-least o some-core S =
-    let last : suc (pred (o .cores)) ≡ o .cores = omega arith in rw last at (best-least o (pred (o .cores)) S)
+  pub best-least : (c : ℕ) (S : List Bool) → length S ≡ length (o .items) →
+      Least (Runs o (suc c) S) (keptWorth o (suc c)) (best (o .levels) table c S)
+  unfolding best
+  best-least zero S of-items = one-core-least S of-items
+  best-least (suc c) S of-items =
+      record {
+        below = split-below c (best-least c) S of-items;
+        attained = split-attained c (best-least c) S of-items (leastSplit-attained S _);
+      }

@@ -1,19 +1,20 @@
 -- The choice of the set to keep may be made after its items are split over the cores: what the lower cores do not take is
 -- refused.
-use Prim.Native.Nat.{ℕ, suc, pred, _+_}
+use Prim.Native.Nat.{ℕ, suc, _+_, _*_}
 use mathlib.Core.Path.{_≡_, refl, sym, ap, ap₂, _∙_}
 use mathlib.Core.Bool.{Bool, true, false, cond}
 use mathlib.Core.List.{List, [], _∷_}
 use native.Mathlib.Nat.{zero-add}
 use native.Mathlib.Omega.{arith}
 use lib.ListN.{length}
-use Rattle.assignment.specs.Assignment.{Item, Options}
+use Rattle.assignment.specs.Assignment.{Item}
 use Rattle.assignment.specs.Values.{Value, none, pair, add, lesser}
 use Rattle.assignment.specs.ValueLaws.{lesser-assoc}
-use Rattle.assignment.specs.LeastLaws.{lesser-swap, lesser-none, add-lesser, add-none}
-use Rattle.assignment.specs.Partition.{leastSplit, best, bestOf}
+use Rattle.assignment.specs.LeastLaws.{lesser-swap, lesser-exchange, lesser-none, add-lesser, add-none}
+use Rattle.assignment.specs.Partition.{leastSplit, moved, best}
 use Rattle.assignment.specs.Choice.{leastHolding, refusals, chosen}
-use Rattle.assignment.specs.Halves.{moved, leastSplit-parts, leastSplit-lesser, lesser-exchange, add-leastSplit, add-assoc, best-in-halves}
+use Rattle.assignment.specs.SplitLaws.{leastSplit-parts, leastSplit-lesser, add-leastSplit}
+use Rattle.assignment.specs.Halves.{sum-assoc, best-in-halves}
 use Rattle.assignment.specs.Refusing.{every, refusing}
 
 -- functions of equal values
@@ -117,7 +118,7 @@ holding-is-refusing (item ∷ items) f =
         ≡ leastHolding items (λ S. add (pair (r + refusals items S) 0) (out S))
     refused =
         add-leastHolding (pair r 0) items (λ S. add (pair (refusals items S) 0) (out S))
-        ∙ leastHolding-same items (λ S. add-assoc (pair r 0) (pair (refusals items S) 0) (out S))
+        ∙ leastHolding-same items (λ S. sum-assoc (pair r 0) (pair (refusals items S) 0) (out S))
 
 leastSplit-none : (S : List Bool) → leastSplit S (λ T R. none) ≡ none
 unfolding leastSplit
@@ -163,22 +164,20 @@ refusing-split (item ∷ items) f (true ∷ W) =
 
 -- the chosen value: on one core, and on two halves of the cores
 
-pub chosen-on-one : (o : Options) → o .cores ≡ 1 → chosen o ≡ refusing (o .items) (best o 0) (every (length (o .items)))
-unfolding chosen bestOf
-chosen-on-one o one =
-    let last : pred (o .cores) ≡ 0 = omega arith in
-    rw last (holding-is-refusing (o .items) (best o 0))
+pub chosen-on-one : (levels : ℕ) (items : List Item) (table : List Bool → Value) →
+    chosen levels items table 0 ≡ refusing items table (every (length items))
+unfolding chosen best
+chosen-on-one levels items table = holding-is-refusing items table
 
-pub chosen-in-halves : (o : Options) (below above : ℕ) → o .cores ≡ suc below + suc above →
-    chosen o
-    ≡ leastSplit (every (length (o .items)))
-    (λ U R. add (moved o (suc below) (best o above) U) (refusing (o .items) (best o below) R))
-unfolding chosen bestOf
-chosen-in-halves o below above counted =
-    let upper = moved o (suc below) (best o above) in
-    let last : pred (o .cores) ≡ suc (below + above) = omega arith in
-    rw last
-    (holding-is-refusing (o .items) (best o (suc (below + above)))
-    ∙ refusing-same (o .items) (λ S h. best-in-halves o below above S) (every (length (o .items)))
-    ∙ refusing-split (o .items) (λ U R. add (upper U) (best o below R)) (every (length (o .items)))
-    ∙ leastSplit-parts (every (length (o .items))) (λ U R p. sym (add-refusing (upper U) (o .items) (best o below) R)))
+pub chosen-in-halves : (levels : ℕ) (items : List Item) (table : List Bool → Value) (below above : ℕ) →
+    chosen levels items table (suc (below + above))
+    ≡ leastSplit (every (length items))
+    (λ U R. add (moved (suc below * levels) (best levels table above) U) (refusing items (best levels table below) R))
+unfolding chosen
+chosen-in-halves levels items table below above =
+    let upper = moved (suc below * levels) (best levels table above) in
+    let lower = best levels table below in
+    holding-is-refusing items (best levels table (suc (below + above)))
+    ∙ refusing-same items (λ S h. best-in-halves levels table below above S) (every (length items))
+    ∙ refusing-split items (λ U R. add (upper U) (lower R)) (every (length items))
+    ∙ leastSplit-parts (every (length items)) (λ U R p. sym (add-refusing (upper U) items lower R))

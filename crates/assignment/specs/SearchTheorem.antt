@@ -1,51 +1,53 @@
 -- The search finds the best plan, and the cheapest way to keep exactly a given set.
-use Prim.Native.Nat.{ℕ, _*_, _<_}
-use mathlib.Core.Path.{_≡_, sym}
+use Prim.Native.Nat.{ℕ, pred, _*_, _<_}
+use mathlib.Core.Path.{_≡_, sym, _∙_}
 use mathlib.Core.Logic.{inl, inr}
 use mathlib.Core.Bool.{Bool}
 use mathlib.Core.List.{List}
 use native.Mathlib.Omega.{arith}
 use lib.ListN.{length}
-use Rattle.assignment.specs.Assignment.{Options, totalCost, Allowed, Before, differs, agrees, NoWorse, Best}
+use Rattle.assignment.specs.Assignment.{Options, coresCost, totalCost, Allowed, Before, differs, agrees, NoWorse, Best}
 use Rattle.assignment.specs.Values.{Value, none, pair}
-use Rattle.assignment.specs.Knapsacks.{keyBase}
-use Rattle.assignment.specs.Partition.{bestOf}
-use Rattle.assignment.specs.PartitionLaws.{bestOf-least}
-use Rattle.assignment.specs.Choice.{chosen, digits}
-use Rattle.assignment.specs.ChoiceLaws.{kept-set, chosen-least}
-use Rattle.assignment.specs.Keeping.{RunsSet, keptCost, keptWorth, planWorth}
-use Rattle.assignment.specs.KeyLaws.{InBase, keeps-in-base}
+use Rattle.assignment.specs.Keys.{keyBase, digits}
+use Rattle.assignment.specs.Keeping.{Runs, keptWorth, planWorth}
+use Rattle.assignment.specs.KeyLaws.{keeps-in-base, keeps-length}
+use Rattle.assignment.specs.CoreTables.{CoreTable}
+use Rattle.assignment.specs.Partition.{best}
+use Rattle.assignment.specs.Choice.{chosen}
+use Rattle.assignment.specs.ChoiceLaws.{all-cores-least, chosen-least}
+use Rattle.assignment.specs.AllowedLaws.{allowed-in-base, allowed-length}
 use Rattle.assignment.specs.Cheapest.{Answers, least-answers}
 
 -- what a value says of the options: no plan is allowed, or the key's digits are the best plan, of that cost
 abbrev pub BestAnswers : Options → Value → Type 0
 BestAnswers o none = (plan : List ℕ) → ¬ (Allowed o plan)
-BestAnswers o (pair cost key) =
-    Best o (digits (length (o .items)) key)
-    × (totalCost (o .levels) (o .items) (digits (length (o .items)) key) ≡ cost)
+BestAnswers o (pair cost key) = Best o (digits (length (o .items)) key) × (totalCost o (digits (length (o .items)) key) ≡ cost)
 
--- Where there is a core, and a digit for every choice, the chosen value tells the best plan.
-pub search-finds-best : (o : Options) → 0 < o .cores → o .cores * o .levels < keyBase → BestAnswers o (chosen o)
+-- The first theorem. Its hypotheses: the table holds, for every set, the least value over the patterns that a core admits and
+-- that keep exactly that set; there is a core; and every choice is a digit of a key. Then the value that partition and keeping
+-- find tells the best plan of all, ties included, and is none exactly where no plan is allowed.
+pub search-finds-best : (o : Options) (table : List Bool → Value) → CoreTable o table → 0 < o .cores →
+    o .cores * o .levels < keyBase → BestAnswers o (chosen (o .levels) (o .items) table (pred (o .cores)))
 unfolding planWorth
-search-finds-best o some-core small =
-    go (chosen o)
-    (least-answers (o .items) (Allowed o) (totalCost (o .levels) (o .items)) in-base (chosen o) (chosen-least o some-core))
+search-finds-best o table core some-core small =
+    go (chosen (o .levels) (o .items) table (pred (o .cores)))
+    (least-answers (length (o .items)) (Allowed o) (totalCost o)
+    (λ plan allowed. (allowed-in-base allowed small, allowed-length allowed)) _ (chosen-least core some-core))
   where
-    in-base : (plan : List ℕ) → Allowed o plan → InBase (o .items) plan
-    in-base plan allowed = keeps-in-base small (kept-set (allowed .choices) .keeps)
-
-    go : (v : Value) → Answers (o .items) (Allowed o) (totalCost (o .levels) (o .items)) v → BestAnswers o v
+    go : (v : Value) → Answers (length (o .items)) (Allowed o) (totalCost o) v → BestAnswers o v
     go none answer = answer
     go (pair cost key) (first, costs) = (record { allowed = first .has; no-worse = first .no-worse }, costs)
 
--- The same of the plans that keep exactly the items of a set and fit all cores: their costs are without refusals. `fill_best`
--- fills a table with these values, one for every set, for any number of cores; planning needs it for half of the cores only.
-pub search-finds-set : (o : Options) → 0 < o .cores → o .cores * o .levels < keyBase → (S : List Bool) →
-    Answers (o .items) (RunsSet o S) (keptCost (o .levels) (o .items)) (bestOf o S)
+-- The same, under the same hypotheses, of the plans that keep exactly the items of a set on all cores: their costs are without
+-- refusals.
+pub search-finds-set : (o : Options) (table : List Bool → Value) → CoreTable o table → 0 < o .cores →
+    o .cores * o .levels < keyBase → (S : List Bool) → length S ≡ length (o .items) →
+    Answers (length (o .items)) (Runs o (o .cores) S) (coresCost o (o .cores)) (best (o .levels) table (pred (o .cores)) S)
 unfolding keptWorth
-search-finds-set o some-core small S =
-    least-answers (o .items) (RunsSet o S) (keptCost (o .levels) (o .items))
-    (λ plan runs. keeps-in-base small (runs .keeps)) (bestOf o S) (bestOf-least o some-core S)
+search-finds-set o table core some-core small S of-items =
+    least-answers (length (o .items)) (Runs o (o .cores) S) (coresCost o (o .cores))
+    (λ plan runs. (keeps-in-base small (runs .keeps), keeps-length (runs .keeps) ∙ of-items)) _
+    (all-cores-least core some-core S of-items)
 
 before-asym : {plan other : List ℕ} → Before plan other → ¬ (Before other plan)
 before-asym (differs h) (differs k) = omega arith

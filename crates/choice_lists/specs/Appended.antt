@@ -4,8 +4,8 @@ use mathlib.Core.Path.{_≡_}
 use mathlib.Core.List.{List}
 use lib.ListN.{length}
 use Rattle.choice_lists.specs.Listed.{pointAt, leastListed, PointSmall}
-use Rattle.assignment.specs.Offered.{knapsackItem}
-use Rattle.assignment.specs.Knapsacks.{atLevel}
+use Rattle.knapsack.specs.Offered.{offerAt}
+use Rattle.knapsack.specs.Knapsacks.{atLevel}
 use Rattle.choice_lists.specs.Spread.{leastSums, Sound, SumsSmall, ItemFits}
 use Rattle.choice_lists.specs.Sweep.{Older}
 use Rattle.assignment.specs.Values.{Value, pair, leastBelow}
@@ -45,7 +45,7 @@ pub record ItemAppended (core : Core) (front : Front) (from to used : ℕ) (load
   pub few : end ≤ used + l * (to - from)
   pub least : (rest : ℕ → Value) (w : ℕ) → w ≤ core .capacity →
       leastListed points used (end - used) rest w
-      ≡ leastBelow l (atLevel (knapsackItem load cost (front .item)) (front .places) (leastListed points₀ from (to - from) rest) w)
+      ≡ leastBelow l (atLevel (offerAt load cost (front .item)) (front .places) (leastListed points₀ from (to - from) rest) w)
   pub small : (n places : ℕ) → n + places ≡ front .places →
       ((p : ℕ) → from ≤ p → p < to → PointSmall (core .capacity) n places (pointAt points₀ p)) →
       (p : ℕ) → used ≤ p → p < end → PointSmall (core .capacity) (suc n) places (pointAt points p)

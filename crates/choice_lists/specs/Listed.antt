@@ -6,8 +6,9 @@ use mathlib.Core.Bool.{cond}
 use mathlib.Core.List.{List}
 use lib.Dec.{leb}
 use lib.ListN.{length, getD}
-use Rattle.assignment.specs.Offered.{mostCost, knapsackItem}
-use Rattle.assignment.specs.Knapsacks.{keyBase}
+use Rattle.assignment.specs.Limits.{mostCost}
+use Rattle.knapsack.specs.Offered.{offerAt}
+use Rattle.assignment.specs.Keys.{keyBase}
 use Rattle.knapsack.specs.KnapsackSteps.{knapsackBefore}
 use Rattle.assignment.specs.Values.{Value, none, pair, add, leastBelow, AtMost}
 use Rattle.knapsack.specs.declared.relaxing.Choice.{Choice}
@@ -48,7 +49,7 @@ pub record Listed (capacity n places : ℕ) (f : (ℕ → Value) → ℕ → Val
 pub record SetsListed (core : Core) (load cost : List ℕ) (first n places upto : ℕ) (points starts : List ℕ) : Type 0 where
   pub starts-there : upto < length starts
   pub each : (k : ℕ) → k < upto →
-      Listed (core .capacity) n places (knapsackBefore (core .levels) (λ i. knapsackItem load cost (first + i)) n places k) points
+      Listed (core .capacity) n places (knapsackBefore (core .levels) (λ i. offerAt load cost (first + i)) n places k) points
       (getD starts k 0) (getD starts (suc k) 0)
 
 -- all sets of the first n items, in front of `places` others

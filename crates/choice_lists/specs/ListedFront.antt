@@ -14,9 +14,10 @@ use lib.Seq.{getD-set-same, getD-set-other}
 use Rattle.assignment.specs.LeastLaws.{none-lesser}
 use Rattle.choice_lists.specs.Listed.{before, pointAt, leastListed, Listed, SetsListed, FrontListed}
 use Rattle.choice_lists.specs.ListedSets.{WithItem, SetsFit}
-use Rattle.assignment.specs.Offered.{mostItems, Affordable}
+use Rattle.assignment.specs.Limits.{mostItems}
+use Rattle.knapsack.specs.Offered.{Affordable}
 use Rattle.choice_lists.specs.PointLaws.{leastListed-more, with-point-older, with-point-there}
-use Rattle.assignment.specs.Knapsacks.{keyBase}
+use Rattle.assignment.specs.Keys.{keyBase}
 use Rattle.knapsack.specs.KnapsackSteps.{knapsackBefore}
 use Rattle.choice_lists.specs.Sweep.{withPoint}
 use Rattle.assignment.specs.Values.{Value, none, pair, add, leastBelow}
@@ -153,7 +154,7 @@ module _ {core : Core} {n items : ℕ} {load cost points starts : List ℕ} (fit
                     capacity-limited = fits .affordable .capacity-limited;
                     loads-for-all = omega (arith, fits .affordable .loads-for-all, fits .some-items);
                     costs-for-all = omega (arith, fits .affordable .costs-for-all, fits .some-items);
-                    cheap = λ i l below. fits .affordable .cheap i l (omega (arith, fits .some-items));
+                    cheap = λ i below. fits .affordable .cheap i (omega (arith, fits .some-items));
                   };
               places-limited = omega (arith, fits .items-limited, fits .some-items);
               digit-is = refl;

@@ -12,8 +12,8 @@ use Rattle.choice_lists.specs.Appended.{ItemRoom, ItemAppended}
 use Rattle.knapsack.specs.FrontKnapsacks.{knapsackBefore-first, knapsackBefore-items}
 use Rattle.choice_lists.specs.Listed.{PointSmall, Listed}
 use Rattle.choice_lists.specs.ListedSets.{mostShort, Short, SetFits, SetAdded}
-use Rattle.assignment.specs.Offered.{knapsackItem}
-use Rattle.assignment.specs.Knapsacks.{keyBase}
+use Rattle.knapsack.specs.Offered.{offerAt}
+use Rattle.assignment.specs.Keys.{keyBase}
 use Rattle.knapsack.specs.KnapsackSteps.{withItem, knapsackBefore, withItem-same}
 use Rattle.choice_lists.specs.Spread.{ItemFits, ItemSpread}
 use Rattle.choice_lists.specs.Sweep.{Swept}
@@ -88,24 +88,24 @@ module _ {core : Core} {front : Front} {from to : ℕ} {load cost points : List 
 module _ (levels first n places : ℕ) (load cost : List ℕ) {k : ℕ} (there : k < 2 ^ n) (rest : ℕ → Value) where
   -- the items behind the first, counted from the first and from the one after it
   behind-first :
-      knapsackBefore levels (λ i. knapsackItem load cost (first + suc i)) n places k rest
-      ≡ knapsackBefore levels (λ i. knapsackItem load cost (suc first + i)) n places k rest
+      knapsackBefore levels (λ i. offerAt load cost (first + suc i)) n places k rest
+      ≡ knapsackBefore levels (λ i. offerAt load cost (suc first + i)) n places k rest
   behind-first =
       knapsackBefore-items levels _ _ n places k rest
       (λ i h. let same : first + suc i ≡ suc first + i = omega arith in rw same)
 
   first-absent :
-      knapsackBefore levels (λ i. knapsackItem load cost (first + i)) (suc n) places k rest
-      ≡ knapsackBefore levels (λ i. knapsackItem load cost (suc first + i)) n places k rest
+      knapsackBefore levels (λ i. offerAt load cost (first + i)) (suc n) places k rest
+      ≡ knapsackBefore levels (λ i. offerAt load cost (suc first + i)) n places k rest
   first-absent =
-      (rw zero-add at (knapsackBefore-first levels (λ i. knapsackItem load cost (first + i)) n places k rest false there)) ∙ behind-first
+      (rw zero-add at (knapsackBefore-first levels (λ i. offerAt load cost (first + i)) n places k rest false there)) ∙ behind-first
 
   first-present :
-      knapsackBefore levels (λ i. knapsackItem load cost (first + i)) (suc n) places (2 ^ n + k) rest
-      ≡ withItem levels (knapsackItem load cost first) (n + places) (knapsackBefore levels (λ i. knapsackItem load cost (suc first + i)) n places k rest)
+      knapsackBefore levels (λ i. offerAt load cost (first + i)) (suc n) places (2 ^ n + k) rest
+      ≡ withItem levels (offerAt load cost first) (n + places) (knapsackBefore levels (λ i. offerAt load cost (suc first + i)) n places k rest)
   first-present =
-      (rw add-zero at (knapsackBefore-first levels (λ i. knapsackItem load cost (first + i)) n places k rest true there))
-      ∙ ap (withItem levels (knapsackItem load cost first) (n + places)) behind-first
+      (rw add-zero at (knapsackBefore-first levels (λ i. offerAt load cost (first + i)) n places k rest true there))
+      ∙ ap (withItem levels (offerAt load cost first) (n + places)) behind-first
 
 -- a choice of n items is one of n + 1 that leaves out the first
 small-for-more : {capacity n places : ℕ} {point : Choice} → PointSmall capacity n places point → PointSmall capacity (suc n) places point
@@ -122,7 +122,7 @@ small-for-more {n = n} {places} small =
 module _ (core : Core) (load cost : List ℕ) where
   -- the knapsack of set number k of n items from `first` on
   abbrev setKnapsack : (first n places k : ℕ) → (ℕ → Value) → ℕ → Value
-  setKnapsack first n places k = knapsackBefore (core .levels) (λ i. knapsackItem load cost (first + i)) n places k
+  setKnapsack first n places k = knapsackBefore (core .levels) (λ i. offerAt load cost (first + i)) n places k
 
   pub listed-absent : (first k : ℕ) {n places from to : ℕ} {points : List ℕ} → k < 2 ^ n →
       Listed (core .capacity) n places (setKnapsack (suc first) n places k) points from to →
@@ -148,10 +148,10 @@ module _ (core : Core) (load cost : List ℕ) where
         there = new .there;
         least = λ rest falling w under.
             new .least rest falling w under
-            ∙ withItem-same (core .levels) (knapsackItem load cost (front .item)) (front .places) _ _ w
+            ∙ withItem-same (core .levels) (offerAt load cost (front .item)) (front .places) _ _ w
             (λ u below. list .least rest falling u (omega arith))
             ∙ ap
-            (λ (m : ℕ). withItem (core .levels) (knapsackItem load cost (front .item)) m (setKnapsack (suc (front .item)) n places k rest) w)
+            (λ (m : ℕ). withItem (core .levels) (offerAt load cost (front .item)) m (setKnapsack (suc (front .item)) n places k rest) w)
             (sym sum)
             ∙ sym (ap (λ (f : ℕ → Value). f w) (first-present (core .levels) (front .item) n places load cost there rest));
         small = new .small;

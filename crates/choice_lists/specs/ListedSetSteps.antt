@@ -13,7 +13,7 @@ use lib.Seq.{getD-set-same, getD-set-other}
 use Rattle.choice_lists.specs.Listed.{Listed, SetsListed}
 use Rattle.choice_lists.specs.ListedSets.{Enough, SetFits, SetAdded, SetsRoom, WithItem, SetsFit, SetsGoing, NextSetFits}
 use Rattle.choice_lists.specs.ListedSetLaws.{listed-absent, listed-present}
-use Rattle.assignment.specs.Offered.{knapsackItem}
+use Rattle.knapsack.specs.Offered.{offerAt}
 use Rattle.choice_lists.specs.PointLaws.{listed-older}
 use Rattle.knapsack.specs.KnapsackSteps.{knapsackBefore}
 use Rattle.choice_lists.specs.Spread.{ItemFits}
@@ -58,7 +58,7 @@ module _ {core : Core} {load cost : List ℕ} {first n places upto : ℕ} {point
       }
 
   pub sets-more : suc upto < length starts →
-      Listed (core .capacity) n places (knapsackBefore (core .levels) (λ i. knapsackItem load cost (first + i)) n places upto) points
+      Listed (core .capacity) n places (knapsackBefore (core .levels) (λ i. offerAt load cost (first + i)) n places upto) points
       (getD starts upto 0) (getD starts (suc upto) 0) →
       SetsListed core load cost first n places (suc upto) points starts
   sets-more there list =
@@ -66,7 +66,7 @@ module _ {core : Core} {load cost : List ℕ} {first n places upto : ℕ} {point
         starts-there = there;
         each = below-suc
             (λ k.
-            Listed (core .capacity) n places (knapsackBefore (core .levels) (λ i. knapsackItem load cost (first + i)) n places k) points
+            Listed (core .capacity) n places (knapsackBefore (core .levels) (λ i. offerAt load cost (first + i)) n places k) points
             (getD starts k 0) (getD starts (suc k) 0))
             upto (sets .each) list;
       }

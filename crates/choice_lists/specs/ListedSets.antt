@@ -4,8 +4,9 @@ use mathlib.Core.Path.{_≡_}
 use mathlib.Core.List.{List}
 use lib.ListN.{length}
 use Rattle.choice_lists.specs.Listed.{pointAt, leastListed, PointSmall, Listed, SetsListed}
-use Rattle.assignment.specs.Offered.{mostItems, knapsackItem, Affordable}
-use Rattle.assignment.specs.Knapsacks.{keyBase}
+use Rattle.assignment.specs.Limits.{mostItems}
+use Rattle.knapsack.specs.Offered.{offerAt, Affordable}
+use Rattle.assignment.specs.Keys.{keyBase}
 use Rattle.knapsack.specs.KnapsackSteps.{withItem}
 use Rattle.choice_lists.specs.Spread.{ItemFits}
 use Rattle.choice_lists.specs.Sweep.{Older}
@@ -38,7 +39,7 @@ pub record SetAdded (core : Core) (front : Front) (from to used : ℕ) (load cos
   pub listed : (n places : ℕ) → n + places ≡ front .places →
       ((p : ℕ) → from ≤ p → p < to → PointSmall (core .capacity) n places (pointAt points₀ p)) →
       Listed (core .capacity) (suc n) places
-      (λ rest. withItem (core .levels) (knapsackItem load cost (front .item)) (front .places) (leastListed points₀ from (to - from) rest))
+      (λ rest. withItem (core .levels) (offerAt load cost (front .item)) (front .places) (leastListed points₀ from (to - from) rest))
       points used end
 
 -- an item in front of `count` others and the `places` behind these, and room for where the lists of all sets of these and

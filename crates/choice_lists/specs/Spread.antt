@@ -6,8 +6,10 @@ use mathlib.Core.List.{List}
 use lib.Dec.{leb}
 use lib.ListN.{length, getD}
 use Rattle.choice_lists.specs.Listed.{before, pointAt, leastListed, PointSmall}
-use Rattle.assignment.specs.Offered.{mostItems, mostCapacity, mostCost, knapsackItem, Affordable}
-use Rattle.assignment.specs.Knapsacks.{keyBase, atLevel}
+use Rattle.assignment.specs.Limits.{mostItems, mostCapacity, mostCost}
+use Rattle.knapsack.specs.Offered.{offerAt, Affordable}
+use Rattle.assignment.specs.Keys.{keyBase}
+use Rattle.knapsack.specs.Knapsacks.{atLevel}
 use Rattle.assignment.specs.Values.{Value, none, pair, add, lesser, leastBelow}
 use Rattle.assignment.specs.Words.{noCost}
 use Rattle.knapsack.specs.declared.relaxing.Choice.{Choice}
@@ -83,7 +85,7 @@ pub record ItemSpread (core : Core) (front : Front) (from to : ℕ) (load cost p
     Type 0 where
   pub least : (rest : ℕ → Value) (w : ℕ) → w ≤ core .capacity →
       leastSpread (core .capacity) costs keys rest w
-      ≡ leastBelow l (atLevel (knapsackItem load cost (front .item)) (front .places) (leastListed points from (to - from) rest) w)
+      ≡ leastBelow l (atLevel (offerAt load cost (front .item)) (front .places) (leastListed points from (to - from) rest) w)
   pub sound : (n places : ℕ) → n + places ≡ front .places →
       ((p : ℕ) → from ≤ p → p < to → PointSmall (core .capacity) n places (pointAt points p)) →
       AllSound (core .capacity) (suc n) places costs keys

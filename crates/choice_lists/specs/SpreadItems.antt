@@ -8,9 +8,11 @@ use borrow.Author.Tests.{lt-leb}
 use lib.ListN.{replicate, length-replicate, getD-replicate}
 use Rattle.assignment.specs.LeastLaws.{lesser-none, leastBelow-none}
 use Rattle.choice_lists.specs.Listed.{before, leastListed, PointSmall}
-use Rattle.assignment.specs.Offered.{mostLevels, mostCapacity, mostCost, entryOf, itemAt, knapsackItem}
+use Rattle.assignment.specs.Limits.{mostLevels, mostCapacity, mostCost}
+use Rattle.knapsack.specs.Offered.{entryOf, offerAt}
 use Rattle.knapsack.specs.RelaxedItems.{choiceOf, ChoiceFits, digit-fits, level-fits}
-use Rattle.assignment.specs.Knapsacks.{keyBase, atLevel}
+use Rattle.assignment.specs.Keys.{keyBase}
+use Rattle.knapsack.specs.Knapsacks.{atLevel}
 use Rattle.choice_lists.specs.Spread.{valueBefore, leastSpread, leastSums, Sound, absent, present, Long, SumsSmall, LevelSpread, ItemFits, Cleared, ItemSpread}
 use Rattle.choice_lists.specs.SpreadLaws.{none-before, leastSums-is}
 use Rattle.assignment.specs.Values.{Value, none, pair, lesser, leastBelow}
@@ -68,7 +70,7 @@ module _ {core : Core} {front : Front} {from to : ℕ} {load cost points : List 
       cheap : choice .load ≤ core .capacity → choice .cost ≤ mostCost
       cheap room =
           rw chosen
-          (fits .affordable .cheap (front .item) l (omega arith) under (omega (arith, ap (λ (x : Choice). x .load) chosen)))
+          (fits .affordable .cheap (front .item) (omega arith) l under (omega (arith, ap (λ (x : Choice). x .load) chosen)))
 
       pub sums-small : choice .load ≤ core .capacity → SumsSmall (core .capacity) choice from to points
       sums-small room =
@@ -97,19 +99,19 @@ module _ {core : Core} {front : Front} {from to : ℕ} {load cost points : List 
 
       -- what the level comes to before a knapsack
       pub at-level-over : core .capacity < choice .load → (rest : ℕ → Value) {w : ℕ} → w ≤ core .capacity →
-          atLevel (knapsackItem load cost (front .item)) (front .places) rest w l ≡ none
-      unfolding atLevel itemAt
+          atLevel (offerAt load cost (front .item)) (front .places) rest w l ≡ none
+      unfolding atLevel offerAt
       at-level-over over rest {w} below =
           let above : w < entryOf load (front .item) l = omega (arith, ap (λ (x : Choice). x .load) chosen) in
           rw (lt-leb _ _ above)
 
       pub at-level-sums : (rest : ℕ → Value) (w : ℕ) →
           leastSums choice points from (to - from) rest w
-          ≡ atLevel (knapsackItem load cost (front .item)) (front .places) (leastListed points from (to - from) rest) w l
-      unfolding before atLevel itemAt
+          ≡ atLevel (offerAt load cost (front .item)) (front .places) (leastListed points from (to - from) rest) w l
+      unfolding before atLevel offerAt
       at-level-sums rest w = leastSums-is choice points from (to - from) rest w ∙ level (leastListed points from (to - from) rest)
         where
-          level : (knapsack : ℕ → Value) → before choice knapsack w ≡ atLevel (knapsackItem load cost (front .item)) (front .places) knapsack w l
+          level : (knapsack : ℕ → Value) → before choice knapsack w ≡ atLevel (offerAt load cost (front .item)) (front .places) knapsack w l
           level knapsack = rw (chosen, fits .digit-is)
 
       module _ {costs₀ keys₀ : List ℕ} (sofar : ItemSpread core front from to load cost points l costs₀ keys₀) where

@@ -3,9 +3,9 @@
 use crate::short::append_item;
 use knapsack::Choice;
 use knapsack::Core;
-use knapsack::ENTRIES;
 use knapsack::Front;
 use knapsack::choice_at;
+use values::ENTRIES;
 use values::NO_COST;
 use values::Worth;
 use values::keys_of;
@@ -16,9 +16,10 @@ ghost use mathlib.Core.Bool.{true};
 ghost use Prim.Native.Nat.{suc, _+_, _*_, _-_, _^_, _≤_, _<_};
 ghost use lib.ListN.{length, getD, set};
 ghost use Rattle.choice_lists.specs.Listed.{FrontListed, pointAt};
-ghost use Rattle.choice_lists.specs.ListedFront.{frontAt, ListsFit, nothing};
+ghost use Rattle.choice_lists.specs.ListedFront.{frontAt, ListsFit, mostListed, nothing};
 ghost use Rattle.choice_lists.specs.ListedSets.{Enough, NextSetFits, SetAdded, SetFits, SetsFit, SetsGoing, Short, WithItem};
-ghost use Rattle.assignment.specs.Offered.{Affordable};
+ghost use Rattle.assignment.specs.Limits.{mostCapacity, mostItems};
+ghost use Rattle.knapsack.specs.Offered.{Affordable};
 ghost use Rattle.choice_lists.specs.Spread.{Cleared, ItemFits, ItemSpread, LevelSpread, Long, SumsSmall};
 ghost use Rattle.choice_lists.specs.Sweep.{Swept, withPoint};
 ghost use Rattle.values.specs.Worths.{First};
@@ -222,7 +223,7 @@ fn list_set(
 fn most_points(core: Core, from: usize, to: usize) -> usize
     requires { ⌜ from ≤ to ⌝ }
     requires { ⌜ core .levels * (to - from) < 2 ^ 64 ⌝ }
-    requires { ⌜ core .capacity ≤ 4096 ⌝ }
+    requires { ⌜ core .capacity ≤ mostCapacity ⌝ }
     ensures { λ r. ⌜ Enough core from to r ⌝ }
 {
     if is_short(core, from, to) {
@@ -297,7 +298,7 @@ fn list_none(points: &mut [u64], starts: &mut [usize])
 
 // The item before the last c of the first n of all items.
 fn front_at(n: usize, c: usize, items: usize) -> Front
-    requires { ⌜ (c < n) × (n ≤ items) × (items ≤ 12) ⌝ }
+    requires { ⌜ (c < n) × (n ≤ items) × (items ≤ mostItems) ⌝ }
     ensures { λ r. ⌜ r ≡ frontAt n c items ⌝ }
 {
     let places = items - n + c;
@@ -335,7 +336,7 @@ fn list_items(
 }
 
 fn most_listed(items: usize) -> usize
-    ensures { λ r. ⌜ (r ≤ items) × (r ≤ 6) ⌝ }
+    ensures { λ r. ⌜ (r ≤ items) × (r ≤ mostListed) ⌝ }
 {
     if items < MOST_LISTED {
         return items;
@@ -352,11 +353,11 @@ pub fn list_front(
     points: &mut [u64],
     starts: &mut [usize],
 ) -> usize
-    requires { ⌜ items ≤ 12 ⌝ }
+    requires { ⌜ items ≤ mostItems ⌝ }
     requires { ⌜ Affordable items (core .levels) (core .capacity) (now load) (now cost) ⌝ }
     requires { ⌜ 3 ≤ length (now points) ⌝ }
     requires { ⌜ 65 ≤ length (now starts) ⌝ }
-    ensures { λ r. ⌜ (r ≤ items) × (r ≤ 6) ⌝ }
+    ensures { λ r. ⌜ (r ≤ items) × (r ≤ mostListed) ⌝ }
     ensures { λ r. ⌜ FrontListed core (now (load .entry)) (now (cost .entry)) r (items - r) (now (points .exit)) (now (starts .exit)) ⌝ }
 {
     let mut n = most_listed(items);

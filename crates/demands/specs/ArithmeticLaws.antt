@@ -22,7 +22,7 @@ use Rattle.plan_rules.specs.Plans.{choicesPass}
 use Rattle.plan_rules.specs.Quantities.{isRefused, levelOf, ticks, jobTicks, jobs}
 use Rattle.prices.specs.Prices.{penalty, cost, priceOf}
 use Rattle.tables.specs.Tables.{tableSize}
-use Rattle.planner.specs.CostLaws.{energy-of-kept-tasks}
+use Rattle.planner.specs.EnergyLaws.{energy-of-kept-tasks}
 use Rattle.planner.specs.Outcomes.{planAnswered, planOutcome}
 use Rattle.planner.specs.PlannedLaws.{where-room}
 use Rattle.planner.specs.Planning.{bestPlan}

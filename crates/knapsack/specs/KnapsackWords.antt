@@ -8,12 +8,13 @@ use native.Mathlib.Nat.{pow-suc, one-le-pow, eq-or-lt-of-le, suc-mul, mul-le-mul
 use native.Mathlib.Omega.{arith}
 use borrow.Author.Tests.{le-leb, lt-leb}
 use lib.ListN.{length, getD}
-use Rattle.assignment.specs.Assignment.{Item}
-use Rattle.assignment.specs.Offered.{mostItems, mostLevels, mostCost}
+use Rattle.knapsack.specs.Offers.{Offer}
+use Rattle.assignment.specs.Limits.{mostItems, mostLevels, mostCost}
 use Rattle.assignment.specs.Values.{Value, leastBelow, to-none}
 use Rattle.assignment.specs.ValueLaws.{lesser-is-first}
 use Rattle.assignment.specs.Words.{noCost, valueOf, words-none, words-pair, words-add, words-lesser-first, words-lesser-second}
-use Rattle.assignment.specs.Knapsacks.{keyBase, atLevel}
+use Rattle.assignment.specs.Keys.{keyBase}
+use Rattle.knapsack.specs.Knapsacks.{atLevel}
 use Rattle.values.specs.Worths.{Small}
 
 -- a knapsack of m items, up to the capacity
@@ -34,15 +35,15 @@ pub data Relaxed (load cost key : ℕ) (costs keys : List ℕ) (w c k : ℕ) : �
       Relaxed load cost key costs keys w c k (cost + getD costs (w - load) 0) (key + getD keys (w - load) 0)
 
 -- (c, k) is the least of the item's first l levels, in front of m items with the knapsack `rest`, in load at most w
-pub record LeastAt (item : Item) (m l : ℕ) (rest : ℕ → Value) (w c k : ℕ) : Type 0 where
-  pub value : valueOf c k ≡ leastBelow l (atLevel item m rest w)
+pub record LeastAt (offer : Offer) (m l : ℕ) (rest : ℕ → Value) (w c k : ℕ) : Type 0 where
+  pub value : valueOf c k ≡ leastBelow l (atLevel offer m rest w)
   pub at-most-none : c ≤ noCost
   pub real : c < noCost → c ≤ suc m * mostCost
   pub digits : k < suc l * keyBase ^ m
 
-pub least-of-no-level : (item : Item) (m : ℕ) (rest : ℕ → Value) (w : ℕ) → LeastAt item m 0 rest w noCost 0
+pub least-of-no-level : (offer : Offer) (m : ℕ) (rest : ℕ → Value) (w : ℕ) → LeastAt offer m 0 rest w noCost 0
 unfolding leastBelow keyBase
-least-of-no-level item m rest w =
+least-of-no-level offer m rest w =
     record {
       value = words-none noCost 0 (omega arith);
       at-most-none = omega arith;
@@ -53,26 +54,26 @@ least-of-no-level item m rest w =
 -- The least of one level more, by what becomes of the entry: the level finds no room, or stands before something in the rest
 -- that is worth (d, j), and is then no cheaper or cheaper.
 
-module _ {item : Item} {m l w c k : ℕ} {rest : ℕ → Value} (least : LeastAt item m l rest w c k) where
-  least-without-room : w < item .load l → LeastAt item m (suc l) rest w c k
+module _ {offer : Offer} {m l w c k : ℕ} {rest : ℕ → Value} (least : LeastAt offer m l rest w c k) where
+  least-without-room : w < offer .load l → LeastAt offer m (suc l) rest w c k
   unfolding leastBelow atLevel
   least-without-room h =
       record {
-        value = rw (← least .value, lt-leb (item .load l) w h) (sym (lesser-is-first to-none));
+        value = rw (← least .value, lt-leb (offer .load l) w h) (sym (lesser-is-first to-none));
         at-most-none = least .at-most-none;
         real = least .real;
         digits = omega (arith, suc-mul (suc l) (keyBase ^ m));
       }
 
-  module _ (few : m ≤ mostItems) (fits : item .load l ≤ w) (cheap : item .cost l ≤ mostCost) {d j : ℕ} (small : Small m d j)
-      (worth : valueOf d j ≡ rest (w - item .load l)) where
-    level-value : atLevel item m rest w l ≡ valueOf (item .cost l + d) (suc l * keyBase ^ m + j)
+  module _ (few : m ≤ mostItems) (fits : offer .load l ≤ w) (cheap : offer .cost l ≤ mostCost) {d j : ℕ} (small : Small m d j)
+      (worth : valueOf d j ≡ rest (w - offer .load l)) where
+    level-value : atLevel offer m rest w l ≡ valueOf (offer .cost l + d) (suc l * keyBase ^ m + j)
     unfolding atLevel
     level-value =
-        rw (le-leb (item .load l) w fits, ← worth, ← words-pair (item .cost l) (suc l * keyBase ^ m) (omega arith))
+        rw (le-leb (offer .load l) w fits, ← worth, ← words-pair (offer .cost l) (suc l * keyBase ^ m) (omega arith))
         (words-add _ _ _ _ (λ p q. omega (arith, small .real q)))
 
-    least-no-cheaper : c ≤ item .cost l + d → LeastAt item m (suc l) rest w c k
+    least-no-cheaper : c ≤ offer .cost l + d → LeastAt offer m (suc l) rest w c k
     unfolding leastBelow
     least-no-cheaper dear =
         record {
@@ -82,12 +83,12 @@ module _ {item : Item} {m l w c k : ℕ} {rest : ℕ → Value} (least : LeastAt
           digits = omega (arith, suc-mul (suc l) (keyBase ^ m));
         }
       where
-        go : (c ≡ item .cost l + d) ⊎ (c < item .cost l + d) →
-            (c < item .cost l + d) ⊎ ((c ≡ item .cost l + d) × (k ≤ suc l * keyBase ^ m + j))
+        go : (c ≡ offer .cost l + d) ⊎ (c < offer .cost l + d) →
+            (c < offer .cost l + d) ⊎ ((c ≡ offer .cost l + d) × (k ≤ suc l * keyBase ^ m + j))
         go (inl e) = inr (e, omega (arith, least .digits))
         go (inr h) = inl h
 
-    least-cheaper : item .cost l + d < c → LeastAt item m (suc l) rest w (item .cost l + d) (suc l * keyBase ^ m + j)
+    least-cheaper : offer .cost l + d < c → LeastAt offer m (suc l) rest w (offer .cost l + d) (suc l * keyBase ^ m + j)
     unfolding leastBelow
     least-cheaper less =
         record {
@@ -97,11 +98,11 @@ module _ {item : Item} {m l w c k : ℕ} {rest : ℕ → Value} (least : LeastAt
           digits = omega (arith, suc-mul (suc l) (keyBase ^ m), small .digits);
         }
 
-pub least-of-one-more : {item : Item} {m l w c k d j : ℕ} {costs keys : List ℕ} → m ≤ mostItems →
-    (item .load l ≤ w → item .cost l ≤ mostCost) → ((u : ℕ) → u ≤ w → Small m (getD costs u 0) (getD keys u 0)) →
-    LeastAt item m l (knapsackOf costs keys) w c k →
-    Relaxed (item .load l) (item .cost l) (suc l * keyBase ^ m) costs keys w c k d j →
-    LeastAt item m (suc l) (knapsackOf costs keys) w d j
+pub least-of-one-more : {offer : Offer} {m l w c k d j : ℕ} {costs keys : List ℕ} → m ≤ mostItems →
+    (offer .load l ≤ w → offer .cost l ≤ mostCost) → ((u : ℕ) → u ≤ w → Small m (getD costs u 0) (getD keys u 0)) →
+    LeastAt offer m l (knapsackOf costs keys) w c k →
+    Relaxed (offer .load l) (offer .cost l) (suc l * keyBase ^ m) costs keys w c k d j →
+    LeastAt offer m (suc l) (knapsackOf costs keys) w d j
 unfolding knapsackOf
 least-of-one-more few cheap small least (no-room h) = least-without-room least h
 least-of-one-more few cheap small least (no-cheaper fits dear) =
@@ -109,8 +110,8 @@ least-of-one-more few cheap small least (no-cheaper fits dear) =
 least-of-one-more few cheap small least (cheaper fits less) =
     least-cheaper least few fits (cheap fits) (small _ (omega arith)) refl less
 
-pub least-of-all-levels : {item : Item} {m levels w c k : ℕ} {rest : ℕ → Value} → levels ≤ mostLevels →
-    LeastAt item m levels rest w c k → Small (suc m) c k
+pub least-of-all-levels : {offer : Offer} {m levels w c k : ℕ} {rest : ℕ → Value} → levels ≤ mostLevels →
+    LeastAt offer m levels rest w c k → Small (suc m) c k
 unfolding keyBase
 least-of-all-levels {m = m} {levels} few least =
     record {

@@ -1,3 +1,8 @@
+pub mod Offers
+pub mod Knapsacks
+pub mod KnapsackLaws
+pub mod AlikeOffers
+pub mod Offered
 pub mod KnapsackWords
 pub mod RelaxedKnapsacks
 pub mod RelaxedItems

@@ -5,10 +5,11 @@ use mathlib.Core.List.{List}
 use native.Mathlib.Nat.{pow-suc, mul-le-mul-right}
 use native.Mathlib.Omega.{arith}
 use lib.ListN.{length, getD, replicate, length-replicate, getD-replicate}
-use Rattle.assignment.specs.Bounds.{keys-fit}
-use Rattle.assignment.specs.Offered.{mostItems, mostLevels, mostCapacity, entryOf, itemAt, knapsackItem, Affordable}
+use Rattle.assignment.specs.KeyLaws.{keys-fit}
+use Rattle.assignment.specs.Limits.{mostItems, mostLevels, mostCapacity}
+use Rattle.knapsack.specs.Offered.{entryOf, offerAt, Affordable}
 use Rattle.knapsack.specs.RelaxedKnapsacks.{KnapsackSumsFit}
-use Rattle.assignment.specs.Knapsacks.{keyBase}
+use Rattle.assignment.specs.Keys.{keyBase}
 use Rattle.knapsack.specs.KnapsackWords.{KnapsackHeld, knapsackOf, Relaxed, LeastAt, least-of-no-level, least-of-one-more}
 use Rattle.assignment.specs.Words.{noCost}
 use Rattle.knapsack.specs.declared.relaxing.Choice.{Choice}
@@ -53,7 +54,7 @@ flat-knapsack c k capacity le =
 pub record KnapsackWithItem (core : Core) (front : Front) (load cost knapsackCosts knapsackKeys : List ℕ) (l : ℕ) (costs keys : List ℕ) :
     Type 0 where
   pub least : (w : ℕ) → w ≤ core .capacity →
-      LeastAt (knapsackItem load cost (front .item)) (front .places) l (knapsackOf knapsackCosts knapsackKeys) w (getD costs w 0) (getD keys w 0)
+      LeastAt (offerAt load cost (front .item)) (front .places) l (knapsackOf knapsackCosts knapsackKeys) w (getD costs w 0) (getD keys w 0)
 
 pub knapsack-of-no-level : {core : Core} {front : Front} {load cost knapsackCosts knapsackKeys costs keys : List ℕ} →
     FlatKnapsack noCost 0 (core .capacity) costs keys → KnapsackWithItem core front load cost knapsackCosts knapsackKeys 0 costs keys
@@ -93,7 +94,7 @@ module _ {core : Core} {front : Front} {load cost knapsackCosts knapsackKeys : L
           costs-to-capacity = held .costs-to-capacity;
           keys-to-capacity = held .keys-to-capacity;
           cost-fits = λ u le.
-              let cheap = before .affordable .cheap (front .item) l (omega arith) under (omega arith) in
+              let cheap = before .affordable .cheap (front .item) (omega arith) l under (omega arith) in
               omega (arith, held .small u (omega arith) .at-most-none);
           key-fits = λ u le.
               let most : suc l * front .digit ≤ mostLevels * front .digit = mul-le-mul-right (front .digit) (omega arith) in
@@ -102,13 +103,13 @@ module _ {core : Core} {front : Front} {load cost knapsackCosts knapsackKeys : L
 
     -- (d, j) is what (c, k) becomes by the choice
     pub entry-of-one-more : {w c k d j : ℕ} → w ≤ core .capacity →
-        LeastAt (knapsackItem load cost (front .item)) (front .places) l (knapsackOf knapsackCosts knapsackKeys) w c k →
+        LeastAt (offerAt load cost (front .item)) (front .places) l (knapsackOf knapsackCosts knapsackKeys) w c k →
         Relaxed (choice .load) (choice .cost) (choice .key) knapsackCosts knapsackKeys w c k d j →
-        LeastAt (knapsackItem load cost (front .item)) (front .places) (suc l) (knapsackOf knapsackCosts knapsackKeys) w d j
-    unfolding itemAt
+        LeastAt (offerAt load cost (front .item)) (front .places) (suc l) (knapsackOf knapsackCosts knapsackKeys) w d j
+    unfolding offerAt
     entry-of-one-more le sofar relaxed =
         least-of-one-more (omega (arith, before .places-limited))
-        (λ fits. before .affordable .cheap (front .item) l (omega arith) under (omega arith))
+        (λ fits. before .affordable .cheap (front .item) (omega arith) l under (omega arith))
         (λ u under-w. before .knapsack-held .small u (omega arith))
         sofar
         (rw (chosen, before .digit-is) at relaxed)

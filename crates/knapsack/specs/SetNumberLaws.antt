@@ -6,10 +6,10 @@ use mathlib.Core.List.{List, [], _∷_, append-nil}
 use native.Mathlib.Nat.{zero-add, pow-suc}
 use native.Mathlib.Omega.{arith}
 use lib.ListN.{length}
-use Rattle.assignment.specs.Knapsacks.{atLevel, knapsack}
-use Rattle.assignment.specs.Values.{Value, pair}
-use Rattle.assignment.specs.Offered.{itemAt, knapsackItem, itemsOf}
-use Rattle.knapsack.specs.KnapsackSteps.{withItem, hasLast, knapsackBefore, setBefore, knapsackBefore-knapsack}
+use Rattle.knapsack.specs.Knapsacks.{knapsack}
+use Rattle.assignment.specs.Values.{pair}
+use Rattle.knapsack.specs.Offered.{offerAt, offersOf}
+use Rattle.knapsack.specs.KnapsackSteps.{hasLast, knapsackBefore, setBefore, knapsackBefore-knapsack}
 use Rattle.assignment.specs.Sets.{setNumber}
 use Rattle.assignment.specs.SetLaws.{setNumber-below}
 
@@ -42,19 +42,8 @@ set-of-number (suc n) [] e = absurd (omega arith)
 set-of-number (suc n) (b ∷ S) e =
     setBefore-first b n (setNumber n S) [] (setNumber-below n S) ∙ ap (_∷_ b) (set-of-number n S (omega arith))
 
--- knapsacks ask nothing of refusals
-knapsackBefore-kept : (levels : ℕ) (load cost refusal : List ℕ) (must : List Bool) (ahead places k : ℕ) (rest : ℕ → Value) →
-    knapsackBefore levels (knapsackItem load cost) ahead places k rest ≡ knapsackBefore levels (itemAt load cost refusal must) ahead places k rest
-unfolding knapsackBefore withItem atLevel itemAt
-knapsackBefore-kept levels load cost refusal must zero places k rest = refl
-knapsackBefore-kept levels load cost refusal must (suc ahead) places k rest =
-    knapsackBefore-kept levels load cost refusal must ahead (suc places) (k / 2) _
-
-pub knapsackBefore-set : (levels : ℕ) (load cost refusal : List ℕ) (must : List Bool) (n : ℕ) (S : List Bool) → length S ≡ n →
-    knapsackBefore levels (knapsackItem load cost) n 0 (setNumber n S) (λ w. pair 0 0)
-    ≡ knapsack levels (itemsOf load cost refusal must n) S
-unfolding knapsack itemsOf
-knapsackBefore-set levels load cost refusal must n S e =
-    knapsackBefore-kept levels load cost refusal must n 0 (setNumber n S) (λ w. pair 0 0)
-    ∙ knapsackBefore-knapsack levels (itemAt load cost refusal must) n (setNumber n S) [] []
-    ∙ rw (append-nil, set-of-number n S e)
+pub knapsackBefore-set : (levels : ℕ) (load cost : List ℕ) (n : ℕ) (S : List Bool) → length S ≡ n →
+    knapsackBefore levels (offerAt load cost) n 0 (setNumber n S) (λ w. pair 0 0) ≡ knapsack levels (offersOf load cost n) S
+unfolding knapsack offersOf
+knapsackBefore-set levels load cost n S e =
+    knapsackBefore-knapsack levels (offerAt load cost) n (setNumber n S) [] [] ∙ rw (append-nil, set-of-number n S e)

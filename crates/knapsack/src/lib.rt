@@ -3,7 +3,6 @@ mod relaxing;
 
 pub use relaxing::Choice;
 pub use relaxing::Core;
-pub use relaxing::ENTRIES;
 pub use relaxing::Front;
 pub use relaxing::choice_at;
 pub use relaxing::relax;

@@ -8,9 +8,6 @@ ghost use Rattle.knapsack.specs.RelaxedKnapsacks.{KnapsackSumsFit};
 ghost use Rattle.knapsack.specs.KnapsackWords.{Relaxed};
 ghost use Rattle.assignment.specs.Words.{noCost};
 
-// One entry of a knapsack for each load up to the largest capacity.
-pub const ENTRIES: usize = 4097;
-
 // A core's levels, and the most load that it takes.
 pub struct Core {
     pub levels: usize,

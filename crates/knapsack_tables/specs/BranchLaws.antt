@@ -5,15 +5,16 @@ use mathlib.Core.List.{List}
 use native.Mathlib.Nat.{pow-suc, pow-le-pow-right}
 use native.Mathlib.Omega.{arith}
 use lib.ListN.{length}
-use Rattle.assignment.specs.Assignment.{Item}
-use Rattle.assignment.specs.Bounds.{keys-fit}
+use Rattle.knapsack.specs.Offers.{Offer}
+use Rattle.assignment.specs.KeyLaws.{keys-fit}
 use Rattle.knapsack_tables.specs.Branches.{NextFits, BranchFits, BranchFilled, nextItem, settled, withoutNext, withNext}
 use Rattle.knapsack_tables.specs.FallingLaws.{falling-same, falling-with-item}
 use Rattle.knapsack_tables.specs.FilledTables.{Holds, filled-same, filled-both}
 use Rattle.choice_lists.specs.Listed.{Falling}
-use Rattle.assignment.specs.Offered.{mostCapacity, mostItems, mostLevels, knapsackItem, Affordable}
+use Rattle.assignment.specs.Limits.{mostCapacity, mostItems, mostLevels}
+use Rattle.knapsack.specs.Offered.{offerAt, Affordable}
 use Rattle.knapsack.specs.RelaxedItems.{ItemBefore, KnapsackWithItem}
-use Rattle.assignment.specs.Knapsacks.{keyBase}
+use Rattle.assignment.specs.Keys.{keyBase}
 use Rattle.knapsack.specs.KnapsackSteps.{withItem}
 use Rattle.knapsack.specs.KnapsackWords.{KnapsackHeld, knapsackOf, LeastAt, least-of-all-levels}
 use Rattle.values.specs.Worths.{Small}
@@ -39,11 +40,11 @@ affordable-without-last a =
       capacity-limited = a .capacity-limited;
       loads-for-all = omega (arith, a .loads-for-all);
       costs-for-all = omega (arith, a .costs-for-all);
-      cheap = λ i l under. a .cheap i l (omega arith);
+      cheap = λ i under. a .cheap i (omega arith);
     }
 
-least-holds : {levels m w c k : ℕ} {item : Item} {rest : ℕ → Value} → levels ≤ mostLevels →
-    LeastAt item m levels rest w c k → Holds (suc m) (withItem levels item m rest w) c k
+least-holds : {levels m w c k : ℕ} {offer : Offer} {rest : ℕ → Value} → levels ≤ mostLevels →
+    LeastAt offer m levels rest w c k → Holds (suc m) (withItem levels offer m rest w) c k
 unfolding withItem
 least-holds few least = record { is = least .value; small = least-of-all-levels few least }
 
@@ -118,7 +119,7 @@ module _ {core : Core} {branch : Branch} {load cost points starts knapsackCosts 
     with-knapsack : {moreCosts moreKeys : List ℕ} →
         KnapsackWithItem core (nextItem branch) load cost knapsackCosts knapsackKeys (core .levels) moreCosts moreKeys → (u : ℕ) → u ≤ core .capacity →
         knapsackOf moreCosts moreKeys u
-        ≡ withItem (core .levels) (knapsackItem load cost (branch .ahead - 1)) (branch .places) (knapsackOf knapsackCosts knapsackKeys) u
+        ≡ withItem (core .levels) (offerAt load cost (branch .ahead - 1)) (branch .places) (knapsackOf knapsackCosts knapsackKeys) u
     unfolding knapsackOf
     with-knapsack more u le = least-holds (fits .affordable .levels-limited) (more .least u le) .is
 
@@ -135,7 +136,7 @@ module _ {core : Core} {branch : Branch} {load cost points starts knapsackCosts 
           small = λ w le. least-of-all-levels (fits .affordable .levels-limited) (more .least w le);
         }
         (falling-same (λ u le. sym (with-knapsack more u le))
-        (falling-with-item (knapsackItem load cost (branch .ahead - 1)) (branch .places) (fits .knapsack-falls) (core .levels)))
+        (falling-with-item (offerAt load cost (branch .ahead - 1)) (branch .places) (fits .knapsack-falls) (core .levels)))
         same-costs same-keys
 
     pub both-filled : {costs₁ keys₁ moreCosts moreKeys costs₂ keys₂ : List ℕ} →
@@ -145,5 +146,5 @@ module _ {core : Core} {branch : Branch} {load cost points starts knapsackCosts 
         BranchFilled core branch load cost knapsackCosts knapsackKeys costs keys costs₂ keys₂
     both-filled without more with =
         rw one-ahead
-        (filled-both (core .levels) (core .capacity) (knapsackItem load cost) bit-above-0 without
-        (filled-same (core .levels) (core .capacity) (knapsackItem load cost) (with-knapsack more) with))
+        (filled-both (core .levels) (core .capacity) (offerAt load cost) bit-above-0 without
+        (filled-same (core .levels) (core .capacity) (offerAt load cost) (with-knapsack more) with))

@@ -5,8 +5,9 @@ use mathlib.Core.List.{List}
 use lib.ListN.{length}
 use Rattle.knapsack_tables.specs.FilledTables.{Filled}
 use Rattle.choice_lists.specs.Listed.{Falling, FrontListed}
-use Rattle.assignment.specs.Offered.{mostItems, knapsackItem, Affordable}
-use Rattle.assignment.specs.Knapsacks.{keyBase}
+use Rattle.assignment.specs.Limits.{mostItems}
+use Rattle.knapsack.specs.Offered.{offerAt, Affordable}
+use Rattle.assignment.specs.Keys.{keyBase}
 use Rattle.knapsack.specs.KnapsackWords.{KnapsackHeld, knapsackOf}
 use Rattle.knapsack_tables.specs.declared.filling.Branch.{Branch}
 use Rattle.knapsack.specs.declared.relaxing.Core.{Core}
@@ -60,5 +61,5 @@ pub record BranchFits (core : Core) (branch : Branch) (load cost points starts k
 -- the entries of the branch's sets hold their knapsacks, the others what they held
 abbrev pub BranchFilled : Core → Branch → (load cost knapsackCosts knapsackKeys costs₀ keys₀ costs keys : List ℕ) → Type 0
 BranchFilled core branch load cost knapsackCosts knapsackKeys =
-    Filled (core .levels) (core .capacity) (knapsackItem load cost) (branch .ahead) (branch .places) (branch .bit) (branch .index)
+    Filled (core .levels) (core .capacity) (offerAt load cost) (branch .ahead) (branch .places) (branch .bit) (branch .index)
     (knapsackOf knapsackCosts knapsackKeys)

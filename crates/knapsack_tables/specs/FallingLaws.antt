@@ -6,9 +6,10 @@ use mathlib.Core.Bool.{Bool, true, false, cond}
 use native.Mathlib.Omega.{arith}
 use borrow.Author.Tests.{le-leb, leb-true}
 use lib.Dec.{leb}
-use Rattle.assignment.specs.Assignment.{Item}
+use Rattle.knapsack.specs.Offers.{Offer}
 use Rattle.choice_lists.specs.Listed.{Falling}
-use Rattle.assignment.specs.Knapsacks.{keyBase, atLevel}
+use Rattle.assignment.specs.Keys.{keyBase}
+use Rattle.knapsack.specs.Knapsacks.{atLevel}
 use Rattle.knapsack.specs.KnapsackSteps.{withItem}
 use Rattle.assignment.specs.Values.{Value, none, pair, add, leastBelow, AtMost, to-none, Attained}
 use Rattle.assignment.specs.ValueLaws.{atMost-refl, atMost-trans, add-mono, leastBelow-below, leastBelow-attained}
@@ -32,24 +33,24 @@ leastBelow-mono n f g below = go (leastBelow n g) (leastBelow-attained n g)
     go v (inl e) = rw e to-none
     go v (inr (l, h, e)) = rw e (atMost-trans (leastBelow-below n f h) (below l))
 
-module _ (item : Item) (places : ℕ) {capacity : ℕ} {rest : ℕ → Value} (falling : Falling capacity rest) where
-  atLevel-falls : (u w l : ℕ) → u ≤ w → w ≤ capacity → AtMost (atLevel item places rest w l) (atLevel item places rest u l)
+module _ (offer : Offer) (places : ℕ) {capacity : ℕ} {rest : ℕ → Value} (falling : Falling capacity rest) where
+  atLevel-falls : (u w l : ℕ) → u ≤ w → w ≤ capacity → AtMost (atLevel offer places rest w l) (atLevel offer places rest u l)
   unfolding atLevel
-  atLevel-falls u w l le under = go (leb (item .load l) u) refl
+  atLevel-falls u w l le under = go (leb (offer .load l) u) refl
     where
       first : Value
-      first = pair (item .cost l) (suc l * keyBase ^ places)
+      first = pair (offer .cost l) (suc l * keyBase ^ places)
 
-      go : (b : Bool) → leb (item .load l) u ≡ b →
-          AtMost (cond (leb (item .load l) w) (add first (rest (w - item .load l))) none)
-          (cond b (add first (rest (u - item .load l))) none)
+      go : (b : Bool) → leb (offer .load l) u ≡ b →
+          AtMost (cond (leb (offer .load l) w) (add first (rest (w - offer .load l))) none)
+          (cond b (add first (rest (u - offer .load l))) none)
       go false e = to-none
       go true e =
-          let room = leb-true (item .load l) u e in
-          rw (le-leb (item .load l) w (omega arith))
+          let room = leb-true (offer .load l) u e in
+          rw (le-leb (offer .load l) w (omega arith))
           (add-mono (atMost-refl first) (falling .no-worse _ _ (omega arith) (omega arith)))
 
-  pub falling-with-item : (levels : ℕ) → Falling capacity (withItem levels item places rest)
+  pub falling-with-item : (levels : ℕ) → Falling capacity (withItem levels offer places rest)
   unfolding withItem
   falling-with-item levels =
       record { no-worse = λ u w le under. leastBelow-mono levels _ _ (λ l. atLevel-falls u w l le under) }

@@ -11,7 +11,7 @@ use borrow.Author.Tests.{eqb-true, eqb-false}
 use lib.ListN.{length, getD, set}
 use lib.Seq.{getD-set-same, getD-set-other}
 use Rattle.laws.specs.Below.{lt-or-le}
-use Rattle.assignment.specs.Assignment.{Item}
+use Rattle.knapsack.specs.Offers.{Offer}
 use Rattle.knapsack.specs.KnapsackSteps.{hasLast, withItem, knapsackBefore, knapsackBefore-same}
 use Rattle.values.specs.Worths.{Small}
 use Rattle.assignment.specs.Values.{Value}
@@ -49,11 +49,11 @@ elsewhere-with : (ahead bit index : ℕ) {x : ℕ} → Elsewhere (2 ^ suc ahead)
 elsewhere-with ahead bit index apart q under e =
     apart (q * 2 + 1) (omega (arith, pow-suc 2 ahead)) (e ∙ sym (with-place q bit index))
 
-module _ (levels capacity : ℕ) (item : ℕ → Item) where
+module _ (levels capacity : ℕ) (offer : ℕ → Offer) where
   -- the entries of the first n sets are filled in, and no others
   pub record FilledTo (n ahead places bit index : ℕ) (rest : ℕ → Value) (costs₀ keys₀ costs keys : List ℕ) : Type 0 where
     pub entries : (k : ℕ) → k < n →
-        Holds (ahead + places) (knapsackBefore levels item ahead places k rest capacity) (getD costs (k * bit + index) 0) (getD keys (k * bit + index) 0)
+        Holds (ahead + places) (knapsackBefore levels offer ahead places k rest capacity) (getD costs (k * bit + index) 0) (getD keys (k * bit + index) 0)
     pub other-costs : (x : ℕ) → Elsewhere n bit index x → getD costs x 0 ≡ getD costs₀ x 0
     pub other-keys : (x : ℕ) → Elsewhere n bit index x → getD keys x 0 ≡ getD keys₀ x 0
 
@@ -69,7 +69,7 @@ module _ (levels capacity : ℕ) (item : ℕ → Item) where
   pub one-more-filled : {n ahead places bit index c j : ℕ} {rest : ℕ → Value} {costs₀ keys₀ costs keys : List ℕ} → 0 < bit →
       n * bit + index < length costs → n * bit + index < length keys →
       FilledTo n ahead places bit index rest costs₀ keys₀ costs keys →
-      Holds (ahead + places) (knapsackBefore levels item ahead places n rest capacity) c j →
+      Holds (ahead + places) (knapsackBefore levels offer ahead places n rest capacity) c j →
       FilledTo (suc n) ahead places bit index rest costs₀ keys₀ (set costs (n * bit + index) c) (set keys (n * bit + index) j)
   one-more-filled {n} {ahead} {places} {bit} {index} {c} {j} {rest} {costs = costs} {keys} some in-costs in-keys filled holds =
       record {
@@ -87,7 +87,7 @@ module _ (levels capacity : ℕ) (item : ℕ → Item) where
       before k less e = omega (arith, suc-mul k bit, mul-le-mul-right bit less)
 
       go : (k : ℕ) → k < suc n → (k < n) ⊎ (n ≤ k) →
-          Holds (ahead + places) (knapsackBefore levels item ahead places k rest capacity)
+          Holds (ahead + places) (knapsackBefore levels offer ahead places k rest capacity)
           (getD (set costs place c) (k * bit + index) 0) (getD (set keys place j) (k * bit + index) 0)
       go k under (inl less) =
           rw (getD-set-other costs place (k * bit + index) c 0 (before k less), getD-set-other keys place (k * bit + index) j 0 (before k less))
@@ -105,7 +105,7 @@ module _ (levels capacity : ℕ) (item : ℕ → Item) where
         entries = λ k under.
             let held = filled .entries k under in
             record {
-              is = held .is ∙ knapsackBefore-same levels item ahead places k f g capacity same;
+              is = held .is ∙ knapsackBefore-same levels offer ahead places k f g capacity same;
               small = held .small;
             };
         other-costs = filled .other-costs;
@@ -115,7 +115,7 @@ module _ (levels capacity : ℕ) (item : ℕ → Item) where
   -- the sets without the next item and those with it
   pub filled-both : {ahead places bit index : ℕ} {rest : ℕ → Value} {costs₀ keys₀ costs₁ keys₁ costs keys : List ℕ} →
       0 < bit → Filled ahead (suc places) (bit * 2) index rest costs₀ keys₀ costs₁ keys₁ →
-      Filled ahead (suc places) (bit * 2) (index + bit) (withItem levels (item ahead) places rest) costs₁ keys₁ costs keys →
+      Filled ahead (suc places) (bit * 2) (index + bit) (withItem levels (offer ahead) places rest) costs₁ keys₁ costs keys →
       Filled (suc ahead) places bit index rest costs₀ keys₀ costs keys
   unfolding knapsackBefore hasLast
   filled-both {ahead} {places} {bit} {index} {rest} {costs = costs} {keys} some without with =
@@ -131,7 +131,7 @@ module _ (levels capacity : ℕ) (item : ℕ → Item) where
       stays q k under e = with-is-not-without q k bit index some e
 
       go : (k : ℕ) → k < 2 ^ suc ahead → (b : Bool) → hasLast k ≡ b →
-          Holds (suc ahead + places) (knapsackBefore levels item (suc ahead) places k rest capacity) (getD costs (k * bit + index) 0) (getD keys (k * bit + index) 0)
+          Holds (suc ahead + places) (knapsackBefore levels offer (suc ahead) places k rest capacity) (getD costs (k * bit + index) 0) (getD keys (k * bit + index) 0)
       go k under true e =
           let odd : k ≡ k / 2 * 2 + 1 = omega (arith, eqb-true (k % 2) 1 e) in
           let place = ap (λ (n : ℕ). n * bit + index) odd ∙ with-place (k / 2) bit index in

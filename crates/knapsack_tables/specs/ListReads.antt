@@ -7,12 +7,12 @@ use native.Mathlib.Nat.{le-refl, one-le-pow}
 use native.Mathlib.Omega.{arith}
 use borrow.Author.Tests.{le-leb}
 use lib.ListN.{length, getD}
-use Rattle.assignment.specs.Bounds.{keys-fit}
+use Rattle.assignment.specs.KeyLaws.{keys-fit}
 use Rattle.knapsack_tables.specs.FilledTables.{Holds}
 use Rattle.choice_lists.specs.Listed.{before, Falling, pointAt, leastListed, Listed}
-use Rattle.assignment.specs.Offered.{mostItems}
+use Rattle.assignment.specs.Limits.{mostItems}
 use Rattle.choice_lists.specs.PointLaws.{leastListed-more}
-use Rattle.assignment.specs.Knapsacks.{keyBase}
+use Rattle.assignment.specs.Keys.{keyBase}
 use Rattle.knapsack.specs.KnapsackWords.{KnapsackHeld, knapsackOf}
 use Rattle.values.specs.Worths.{Small}
 use Rattle.assignment.specs.Values.{Value, leastBelow}

@@ -10,7 +10,8 @@ use Rattle.knapsack_tables.specs.Branches.{BranchFits}
 use Rattle.knapsack_tables.specs.FilledTables.{Holds, FilledTo, none-filled, one-more-filled}
 use Rattle.knapsack.specs.FrontKnapsacks.{knapsackBefore-items}
 use Rattle.knapsack_tables.specs.ListReads.{ListRead}
-use Rattle.assignment.specs.Offered.{mostItems, knapsackItem}
+use Rattle.assignment.specs.Limits.{mostItems}
+use Rattle.knapsack.specs.Offered.{offerAt}
 use Rattle.knapsack.specs.KnapsackSteps.{knapsackBefore}
 use Rattle.knapsack.specs.KnapsackWords.{knapsackOf}
 use Rattle.assignment.specs.Values.{Value}
@@ -21,13 +22,13 @@ use Rattle.values.specs.declared.value.Worth.{Worth}
 -- the knapsack of set number k of the items ahead, before another knapsack
 abbrev pub aheadKnapsack : Core → Branch → (load cost : List ℕ) (k : ℕ) → (ℕ → Value) → ℕ → Value
 aheadKnapsack core branch load cost k =
-    knapsackBefore (core .levels) (λ i. knapsackItem load cost (0 + i)) (branch .ahead) (branch .places) k
+    knapsackBefore (core .levels) (λ i. offerAt load cost (0 + i)) (branch .ahead) (branch .places) k
 
 -- the entries of the first n sets hold their knapsacks
 abbrev pub ReadFirst : Core → Branch → (points starts knapsackCosts knapsackKeys costs₀ keys₀ : List ℕ) (n : ℕ) (costs keys : List ℕ) → Type 0
 ReadFirst core branch points starts knapsackCosts knapsackKeys costs₀ keys₀ n costs keys =
     (load cost : List ℕ) → BranchFits core branch load cost points starts knapsackCosts knapsackKeys costs₀ keys₀ →
-    FilledTo (core .levels) (core .capacity) (knapsackItem load cost) n (branch .ahead) (branch .places) (branch .bit) (branch .index)
+    FilledTo (core .levels) (core .capacity) (offerAt load cost) n (branch .ahead) (branch .places) (branch .bit) (branch .index)
     (knapsackOf knapsackCosts knapsackKeys) costs₀ keys₀ costs keys
 
 module _ {core : Core} {branch : Branch} {points starts knapsackCosts knapsackKeys costs₀ keys₀ : List ℕ} where
@@ -75,7 +76,7 @@ module _ {core : Core} {branch : Branch} {points starts knapsackCosts knapsackKe
   one-more-read {k} there all-listed same-costs same-keys sofar least load cost fits =
       let place = place-below fits there in
       let held = least _ _ _ (list-read fits there all-listed) in
-      one-more-filled (core .levels) (core .capacity) (knapsackItem load cost) (omega (arith, fits .index-below))
+      one-more-filled (core .levels) (core .capacity) (offerAt load cost) (omega (arith, fits .index-below))
       (omega (arith, fits .costs-for-all)) (omega (arith, fits .keys-for-all)) (sofar load cost fits)
       record {
         is =

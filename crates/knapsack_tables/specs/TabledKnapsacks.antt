@@ -1,25 +1,32 @@
 -- The branch of all sets: what filling it asks for, and that the filled tables hold the knapsack of every set.
 use Prim.Native.Nat.{ℕ, _-_, _^_, _≤_, _<_}
-use mathlib.Core.Path.{_≡_, refl, ap, _∙_}
+use mathlib.Core.Path.{_≡_, refl, sym, ap, _∙_}
 use mathlib.Core.Bool.{Bool}
 use mathlib.Core.List.{List}
 use native.Mathlib.Nat.{add-zero, mul-one}
 use native.Mathlib.Omega.{arith}
 use lib.ListN.{length, getD, replicate, length-replicate}
+use Rattle.laws.specs.JoinedLaws.{length-listOf}
+use Rattle.assignment.specs.Assignment.{Item}
+use Rattle.assignment.specs.CoreTables.{CoreTable, Keyed}
 use Rattle.knapsack_tables.specs.Branches.{BranchFits}
 use Rattle.knapsack_tables.specs.FallingLaws.{falling-flat}
 use Rattle.choice_lists.specs.Listed.{FrontListed}
-use Rattle.assignment.specs.Offered.{mostItems, Affordable, knapsackItem, itemsOf}
+use Rattle.assignment.specs.Limits.{mostItems, mostCoreCost}
+use Rattle.knapsack.specs.Offered.{Affordable, offerAt, offersOf}
 use Rattle.knapsack_tables.specs.FilledTables.{Elsewhere, Holds, Filled, filled-same}
 use Rattle.knapsack.specs.RelaxedItems.{FlatKnapsack}
-use Rattle.assignment.specs.Knapsacks.{keyBase, knapsack}
+use Rattle.assignment.specs.Keys.{keyBase}
+use Rattle.knapsack.specs.Knapsacks.{knapsack}
+use Rattle.knapsack.specs.KnapsackLaws.{knapsack-keyed, knapsack-table}
+use Rattle.knapsack.specs.Offers.{loadOptions}
 use Rattle.knapsack.specs.KnapsackSteps.{knapsackBefore}
 use Rattle.knapsack.specs.KnapsackWords.{knapsackOf}
 use Rattle.assignment.specs.SetLaws.{setNumber-below}
 use Rattle.knapsack.specs.SetNumberLaws.{knapsackBefore-set}
-use Rattle.assignment.specs.Sets.{setNumber, Tabled}
+use Rattle.assignment.specs.Sets.{setNumber, tableAt, Tabled}
 use Rattle.assignment.specs.Values.{Value, pair}
-use Rattle.assignment.specs.Words.{words-pair}
+use Rattle.assignment.specs.Words.{noCost, words-pair}
 use Rattle.knapsack_tables.specs.declared.filling.Branch.{Branch}
 
 pub record KnapsacksFit (n levels capacity : ℕ) (load cost costs keys : List ℕ) : Type 0 where
@@ -35,10 +42,26 @@ pub record SameFrom (n : ℕ) (before after : List ℕ) : Type 0 where
 
 -- the tables have the knapsack of every set at the whole capacity, and nothing else is written
 pub record KnapsacksFilled (n levels capacity : ℕ) (load cost costs₀ keys₀ costs keys : List ℕ) : Type 0 where
-  pub tabled : (refusal : List ℕ) (must : List Bool) →
-      Tabled n (keyBase ^ n) (λ S. knapsack levels (itemsOf load cost refusal must n) S capacity) costs keys
+  pub tabled : Tabled n (keyBase ^ n) (λ S. knapsack levels (offersOf load cost n) S capacity) costs keys
+  -- no cost but that of none is above a core's
+  pub costs-limited : (x : ℕ) → x < 2 ^ n → getD costs x 0 < noCost → getD costs x 0 ≤ mostCoreCost
+  -- each key is that of a pattern that keeps exactly the set
+  pub keyed : (S : List Bool) → length S ≡ n → Keyed levels S (tableAt n costs keys S)
   pub other-costs : SameFrom (2 ^ n) costs₀ costs
   pub other-keys : SameFrom (2 ^ n) keys₀ keys
+
+offers-counted : (load cost : List ℕ) (n : ℕ) → length (offersOf load cost n) ≡ n
+unfolding offersOf
+offers-counted load cost n = length-listOf (offerAt load cost) n
+
+-- they are the table of a core that takes load up to the capacity
+pub filled-core-table : {n levels capacity : ℕ} {load cost costs₀ keys₀ costs keys : List ℕ} →
+    KnapsacksFilled n levels capacity load cost costs₀ keys₀ costs keys → (cores : ℕ) (items : List Item) → length items ≡ n →
+    CoreTable (loadOptions cores levels capacity (offersOf load cost n) items) (tableAt n costs keys)
+unfolding loadOptions
+filled-core-table {n} {levels} {capacity} {load} {cost} filled cores items all =
+    let table = knapsack-table cores levels capacity (offersOf load cost n) items (offers-counted load cost n ∙ sym all) in
+    record { least = λ T beside. rw (filled .tabled .holds T (beside ∙ all)) (table .least T beside) }
 
 -- there is room for a choice where there is any
 pub some-room : (n : ℕ) → 3 ≤ n → 3 ≤ length {A = ℕ} (replicate n 0)
@@ -82,12 +105,18 @@ module _ {n levels capacity : ℕ} {load cost costs₀ keys₀ emptyCosts emptyK
       }
 
   module _ {costs keys : List ℕ}
-      (filled : Filled levels capacity (knapsackItem load cost) n 0 1 0 (knapsackOf emptyCosts emptyKeys) costs₀ keys₀ costs keys) where
+      (filled : Filled levels capacity (offerAt load cost) n 0 1 0 (knapsackOf emptyCosts emptyKeys) costs₀ keys₀ costs keys) where
     entry-of : (x : ℕ) → x < 2 ^ n →
-        Holds n (knapsackBefore levels (knapsackItem load cost) n 0 x (λ w. pair 0 0) capacity) (getD costs x 0) (getD keys x 0)
+        Holds n (knapsackBefore levels (offerAt load cost) n 0 x (λ w. pair 0 0) capacity) (getD costs x 0) (getD keys x 0)
     entry-of x under =
-        let at-last = filled-same levels capacity (knapsackItem load cost) empty-knapsack filled in
+        let at-last = filled-same levels capacity (offerAt load cost) empty-knapsack filled in
         rw (mul-one x, add-zero x, add-zero n) at (at-last .entries x under)
+
+    set-held : (S : List Bool) → length S ≡ n → tableAt n costs keys S ≡ knapsack levels (offersOf load cost n) S capacity
+    unfolding tableAt
+    set-held S e =
+        entry-of (setNumber n S) (setNumber-below n S) .is
+        ∙ ap (λ (f : ℕ → Value). f capacity) (knapsackBefore-set levels load cost n S e)
 
     -- an entry that is no set's
     no-set : {x : ℕ} → 2 ^ n ≤ x → Elsewhere (2 ^ n) 1 0 x
@@ -97,16 +126,16 @@ module _ {n levels capacity : ℕ} {load cost costs₀ keys₀ emptyCosts emptyK
         KnapsacksFilled n levels capacity load cost costs₀ keys₀ costs keys
     all-sets-filled same-costs same-keys =
         record {
-          tabled = λ refusal must.
+          tabled =
               record {
                 costs-for-all = rw same-costs (fit .costs-for-all);
                 marks-for-all = rw same-keys (fit .keys-for-all);
-                holds = λ S e.
-                    entry-of (setNumber n S) (setNumber-below n S) .is
-                    ∙ ap (λ (f : ℕ → Value). f capacity) (knapsackBefore-set levels load cost refusal must n S e);
+                holds = set-held;
                 cost-bound = λ x under. omega (arith, entry-of x under .small .at-most-none);
                 key-bound = λ x under. entry-of x under .small .digits;
               };
+          costs-limited = λ x under real. omega (arith, entry-of x under .small .real real, fit .items-limited);
+          keyed = λ S e. rw (set-held S e) (knapsack-keyed levels (offersOf load cost n) S capacity (e ∙ sym (offers-counted load cost n)));
           other-costs = record { same-length = same-costs; as-before = λ x over. filled .other-costs x (no-set over) };
           other-keys = record { same-length = same-keys; as-before = λ x over. filled .other-keys x (no-set over) };
         }

@@ -2,9 +2,9 @@
 use crate::front::store_listed;
 use choice_lists::list_front;
 use knapsack::Core;
-use knapsack::ENTRIES;
 use knapsack::Front;
 use knapsack::relax;
+use values::ENTRIES;
 use values::KEY_BASE;
 use values::NO_COST;
 ghost use mathlib.Core.Path.{_≡_};

@@ -1,3 +1,5 @@
+pub mod CheapestChoices
+pub mod CheapestChoiceLaws
 pub mod Picks
 pub mod Light
 pub mod LightLaws

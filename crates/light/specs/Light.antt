@@ -1,14 +1,16 @@
 -- Light sites: what picking item after item asks, and what is known of the choices that were picked.
-use Prim.Native.Nat.{ℕ, _*_, _≤_, _<_}
+use Prim.Native.Nat.{ℕ, _+_, _*_, _≤_, _<_}
 use mathlib.Core.Path.{_≡_}
 use mathlib.Core.Bool.{Bool}
 use mathlib.Core.List.{List}
 use lib.ListN.{length, getD}
-use Rattle.laws.specs.Lists.{listOf}
-use Rattle.assignment.specs.Assignment.{totalCost, coreLoad}
-use Rattle.assignment.specs.CheapestChoices.{CheapestChoices}
-use Rattle.assignment.specs.Keeping.{planKey}
-use Rattle.assignment.specs.Offered.{mostItems, mostCost, itemAt, offered, Affordable}
+use Rattle.assignment.specs.Assignment.{refusedCost}
+use Rattle.assignment.specs.Keys.{planKey}
+use Rattle.assignment.specs.Limits.{mostItems, mostCost}
+use Rattle.knapsack.specs.Offers.{patternLoad, patternCost}
+use Rattle.knapsack.specs.Offered.{offersOf, Affordable}
+use Rattle.values.specs.Items.{itemsOf}
+use Rattle.light.specs.CheapestChoices.{CheapestChoices}
 
 -- loads, costs and refusals of n items within the limits
 pub record OfferFits (n levels capacity : ℕ) (load cost refusal : List ℕ) (must : List Bool) : Type 0 where
@@ -18,13 +20,12 @@ pub record OfferFits (n levels capacity : ℕ) (load cost refusal : List ℕ) (m
   pub musts-for-all : n ≤ length must
   pub refusals-limited : (i : ℕ) → i < n → getD refusal i 0 ≤ mostCost
 
--- the first cheapest choices of the items below i, however many cores there are: their load on core 0, their cost and their key
-pub record LightBelow (n levels capacity : ℕ) (load cost refusal : List ℕ) (must : List Bool) (i used total key : ℕ) : Type 0 where
+-- the first cheapest choices of the first i items: their load on core 0, their cost and their key
+pub record LightBelow (levels capacity : ℕ) (load cost refusal : List ℕ) (must : List Bool) (i used total key : ℕ) : Type 0 where
   pub plan : List ℕ
-  pub cheapest : (cores : ℕ) → 0 < cores →
-      CheapestChoices (offered cores levels capacity load cost refusal must n) (listOf (itemAt load cost refusal must) i) plan
-  pub load-is : coreLoad levels 0 (listOf (itemAt load cost refusal must) i) plan ≡ used
-  pub cost-is : totalCost levels (listOf (itemAt load cost refusal must) i) plan ≡ total
-  pub key-is : planKey (listOf (itemAt load cost refusal must) i) plan ≡ key
+  pub cheapest : CheapestChoices levels capacity (offersOf load cost i) (itemsOf refusal must i) plan
+  pub load-is : patternLoad (offersOf load cost i) plan ≡ used
+  pub cost-is : patternCost (offersOf load cost i) plan + refusedCost (itemsOf refusal must i) plan ≡ total
+  pub key-is : planKey plan ≡ key
   pub used-low : used ≤ capacity
   pub total-low : total ≤ i * mostCost

@@ -8,24 +8,28 @@ use native.Mathlib.Omega.{arith}
 use Rattle.laws.specs.Below.{lt-or-le}
 use Rattle.laws.specs.Truth.{false-not-true}
 use Rattle.assignment.specs.Assignment.{Item}
+use Rattle.knapsack.specs.Offers.{Offer}
+use Rattle.light.specs.CheapestChoices.{LowChoice, refusing, keeping, ComesFirst, CheapestChoice}
 use Rattle.light.specs.declared.picks.Pick.{Pick}
 
--- the choices that load no core but core 0, with their loads and costs
-pub data LowChoice (item : Item) : (choice load cost : ℕ) → Type 0 where
-  refusing : item .must ≡ false → LowChoice item 0 0 (item .refusal)
-  keeping : (l : ℕ) → LowChoice item (suc l) (item .load l) (item .cost l)
-
--- no choice up to l that a core takes is cheaper, and none at that cost is smaller
-abbrev pub ComesFirst : ℕ → Item → ℕ → (choice cost : ℕ) → Type 0
-ComesFirst capacity item l choice cost =
-    (c w v : ℕ) → c ≤ l → LowChoice item c w v → w ≤ capacity → (cost < v) ⊎ ((cost ≡ v) × (choice ≤ c))
-
 -- of refusing and the levels below l that a core takes the first cheapest; where there is none, a load that no core takes
-pub record PickedBelow (capacity : ℕ) (item : Item) (l : ℕ) (pick : Pick) : Type 0 where
+pub record PickedBelow (capacity : ℕ) (offer : Offer) (item : Item) (l : ℕ) (pick : Pick) : Type 0 where
   pub choice-low : pick .choice ≤ l
   pub load-low : pick .load ≤ suc capacity
-  pub is-choice : pick .load ≤ capacity → LowChoice item (pick .choice) (pick .load) (pick .cost)
-  pub comes-first : ComesFirst capacity item l (pick .choice) (pick .cost)
+  pub is-choice : pick .load ≤ capacity → LowChoice offer item (pick .choice) (pick .load) (pick .cost)
+  pub comes-first : ComesFirst capacity offer item l (pick .choice) (pick .cost)
+
+-- what is picked of all levels, where a core takes it
+pub picked-is-cheapest : {levels capacity : ℕ} {offer : Offer} {item : Item} {pick : Pick} →
+    PickedBelow capacity offer item levels pick → pick .load ≤ capacity →
+    CheapestChoice levels capacity offer item (pick .choice) (pick .load) (pick .cost)
+picked-is-cheapest picked fits =
+    record {
+      low = picked .choice-low;
+      is-choice = picked .is-choice fits;
+      fits = fits;
+      comes-first = picked .comes-first;
+    }
 
 -- the second pick where a core takes it and it is cheaper, else the first
 abbrev pub Cheaper : ℕ → (first second : Pick) → Pick → Type 0
@@ -33,8 +37,8 @@ Cheaper capacity first second pick =
     ((second .load ≤ capacity) × (second .cost < first .cost) × (pick ≡ second))
     ⊎ ((second .load ≤ capacity → first .cost ≤ second .cost) × (pick ≡ first))
 
-module _ {capacity : ℕ} (item : Item) (pick : Pick) (nothing : pick .choice ≡ 0) where
-  pub none-yet : item .must ≡ true → pick .load ≡ capacity + 1 → PickedBelow capacity item 0 pick
+module _ {capacity : ℕ} (offer : Offer) (item : Item) (pick : Pick) (nothing : pick .choice ≡ 0) where
+  pub none-yet : item .must ≡ true → pick .load ≡ capacity + 1 → PickedBelow capacity offer item 0 pick
   none-yet kept load =
       record {
         choice-low = omega arith;
@@ -43,11 +47,11 @@ module _ {capacity : ℕ} (item : Item) (pick : Pick) (nothing : pick .choice �
         comes-first = λ c w v low choice fits. absurd (no-other low choice);
       }
     where
-      no-other : {c w v : ℕ} → c ≤ 0 → LowChoice item c w v → ⊥
+      no-other : {c w v : ℕ} → c ≤ 0 → LowChoice offer item c w v → ⊥
       no-other low (refusing free) = false-not-true free kept
       no-other low (keeping l) = omega arith
 
-  pub refusing-first : item .must ≡ false → pick .load ≡ 0 → pick .cost ≡ item .refusal → PickedBelow capacity item 0 pick
+  pub refusing-first : item .must ≡ false → pick .load ≡ 0 → pick .cost ≡ item .refusal → PickedBelow capacity offer item 0 pick
   refusing-first free load cost =
       record {
         choice-low = omega arith;
@@ -56,25 +60,25 @@ module _ {capacity : ℕ} (item : Item) (pick : Pick) (nothing : pick .choice �
         comes-first = λ c w v low choice fits. only low choice;
       }
     where
-      only : {c w v : ℕ} → c ≤ 0 → LowChoice item c w v → (pick .cost < v) ⊎ ((pick .cost ≡ v) × (pick .choice ≤ c))
+      only : {c w v : ℕ} → c ≤ 0 → LowChoice offer item c w v → (pick .cost < v) ⊎ ((pick .cost ≡ v) × (pick .choice ≤ c))
       only low (refusing free) = inr (cost, omega arith)
       only low (keeping l) = absurd (omega arith)
 
-module _ {capacity : ℕ} (item : Item) {l : ℕ} where
+module _ {capacity : ℕ} (offer : Offer) (item : Item) {l : ℕ} where
   -- what comes first up to l, and beside level l, comes first up to l + 1
-  one-more : (choice cost : ℕ) → ComesFirst capacity item l choice cost →
-      (item .load l ≤ capacity → (cost < item .cost l) ⊎ ((cost ≡ item .cost l) × (choice ≤ suc l))) →
-      ComesFirst capacity item (suc l) choice cost
+  one-more : (choice cost : ℕ) → ComesFirst capacity offer item l choice cost →
+      (offer .load l ≤ capacity → (cost < offer .cost l) ⊎ ((cost ≡ offer .cost l) × (choice ≤ suc l))) →
+      ComesFirst capacity offer item (suc l) choice cost
   one-more choice cost before here c w v low (refusing free) fits = before c w v (omega arith) (refusing free) fits
   one-more choice cost before here c w v low (keeping m) fits = go (lt-or-le m l)
     where
-      go : (m < l) ⊎ (l ≤ m) → (cost < item .cost m) ⊎ ((cost ≡ item .cost m) × (choice ≤ suc m))
-      go (inl earlier) = before (suc m) (item .load m) (item .cost m) earlier (keeping m) fits
+      go : (m < l) ⊎ (l ≤ m) → (cost < offer .cost m) ⊎ ((cost ≡ offer .cost m) × (choice ≤ suc m))
+      go (inl earlier) = before (suc m) (offer .load m) (offer .cost m) earlier (keeping m) fits
       go (inr last) = let same : m ≡ l = omega arith in rw same (here (rw same at fits))
 
-  module _ {first : Pick} (before : PickedBelow capacity item l first) where
-    level-taken : (second : Pick) → second .choice ≡ suc l → second .load ≡ item .load l → second .cost ≡ item .cost l →
-        second .load ≤ capacity → second .cost < first .cost → PickedBelow capacity item (suc l) second
+  module _ {first : Pick} (before : PickedBelow capacity offer item l first) where
+    level-taken : (second : Pick) → second .choice ≡ suc l → second .load ≡ offer .load l → second .cost ≡ offer .cost l →
+        second .load ≤ capacity → second .cost < first .cost → PickedBelow capacity offer item (suc l) second
     level-taken second choice load cost fits less =
         record {
           choice-low = omega arith;
@@ -87,7 +91,7 @@ module _ {capacity : ℕ} (item : Item) {l : ℕ} where
               (λ fits. inr (cost, omega arith));
         }
 
-    level-left : (item .load l ≤ capacity → first .cost ≤ item .cost l) → PickedBelow capacity item (suc l) first
+    level-left : (offer .load l ≤ capacity → first .cost ≤ offer .cost l) → PickedBelow capacity offer item (suc l) first
     level-left dearer =
         record {
           choice-low = omega (arith, before .choice-low);
@@ -97,14 +101,14 @@ module _ {capacity : ℕ} (item : Item) {l : ℕ} where
               one-more (first .choice) (first .cost) (before .comes-first)
               (λ fits.
               let dear = dearer fits in
-              ⊎-elim inl (λ le. inr (omega arith, omega (arith, before .choice-low))) (lt-or-le (first .cost) (item .cost l)));
+              ⊎-elim inl (λ le. inr (omega arith, omega (arith, before .choice-low))) (lt-or-le (first .cost) (offer .cost l)));
         }
 
     -- level l beside what was picked before it
-    pub with-level : {second pick : Pick} → second .choice ≡ l + 1 → second .load ≡ item .load l → second .cost ≡ item .cost l →
-        Cheaper capacity first second pick → PickedBelow capacity item (l + 1) pick
+    pub with-level : {second pick : Pick} → second .choice ≡ l + 1 → second .load ≡ offer .load l → second .cost ≡ offer .cost l →
+        Cheaper capacity first second pick → PickedBelow capacity offer item (l + 1) pick
     with-level {second} {pick} choice load cost either = rw add-one (go either)
       where
-        go : Cheaper capacity first second pick → PickedBelow capacity item (suc l) pick
+        go : Cheaper capacity first second pick → PickedBelow capacity offer item (suc l) pick
         go (inl (fits, less, same)) = rw same (level-taken second (rw add-one at choice) load cost fits less)
         go (inr (dearer, same)) = rw same (level-left (λ fits. omega (arith, dearer (omega arith))))

@@ -6,7 +6,9 @@ use values::KEY_BASE;
 use values::NO_COST;
 use values::Worth;
 ghost use Prim.Native.Nat.{ℕ, _<_};
-ghost use Rattle.assignment.specs.Offered.{offered};
+ghost use Rattle.knapsack.specs.Offers.{loadOptions};
+ghost use Rattle.knapsack.specs.Offered.{offersOf};
+ghost use Rattle.values.specs.Items.{itemsOf};
 ghost use Rattle.assignment.specs.Words.{noCost};
 ghost use Rattle.light.specs.Light.{OfferFits};
 ghost use Rattle.values.specs.BestKeys.{BestKey};
@@ -23,7 +25,8 @@ pub fn light_plan(
 ) -> Worth
     requires { ⌜ OfferFits items levels capacity (now load) (now cost) (now refusal) (now must) ⌝ }
     ensures { λ r. ⌜ (r .cost < noCost → (cores : ℕ) → 0 < cores → BestKey
-        (offered cores levels capacity (now (load .entry)) (now (cost .entry)) (now (refusal .entry)) (now (must .entry)) items) items r) ⌝ }
+        (loadOptions cores levels capacity (offersOf (now (load .entry)) (now (cost .entry)) items)
+        (itemsOf (now (refusal .entry)) (now (must .entry)) items)) items r) ⌝ }
 {
     let mut used = 0;
     let mut total = 0;

@@ -2,10 +2,13 @@
 use values::NO_COST;
 use values::STRIDE;
 ghost use mathlib.Core.Path.{_≡_};
-ghost use Prim.Native.Nat.{_+_, _*_, _≤_, _<_};
+ghost use Prim.Native.Nat.{suc, _*_, _≤_, _<_};
 ghost use lib.ListN.{length};
 ghost use Rattle.assignment.specs.Assignment.{Item};
-ghost use Rattle.assignment.specs.Offered.{itemAt};
+ghost use Rattle.assignment.specs.Limits.{mostCapacity, mostLevels};
+ghost use Rattle.knapsack.specs.Offers.{Offer};
+ghost use Rattle.knapsack.specs.Offered.{offerAt};
+ghost use Rattle.values.specs.Items.{itemAt};
 ghost use Rattle.light.specs.Picks.{Cheaper, PickedBelow};
 
 // A choice of an item, with what it puts on core 0 and what it costs. A load above the capacity stands for none.
@@ -17,8 +20,8 @@ pub(crate) struct Pick {
 
 // Refusing an item, where it need not be kept.
 fn refused(refusal: u64, must: bool, capacity: u64) -> Pick
-    requires { ⌜ capacity ≤ 4096 ⌝ }
-    ensures { λ r. ⌜ ((item : Item) → item .refusal ≡ refusal → item .must ≡ must → PickedBelow capacity item 0 r) ⌝ }
+    requires { ⌜ capacity ≤ mostCapacity ⌝ }
+    ensures { λ r. ⌜ ((offer : Offer) (item : Item) → item .refusal ≡ refusal → item .must ≡ must → PickedBelow capacity offer item 0 r) ⌝ }
 {
     if must {
         return Pick {
@@ -57,14 +60,14 @@ pub(crate) fn first_cheapest(
     refusal: &[u64],
     must: &[bool],
 ) -> Pick
-    requires { ⌜ levels ≤ 8 ⌝ }
-    requires { ⌜ capacity ≤ 4096 ⌝ }
-    requires { ⌜ i * 8 + 8 ≤ length (now load) ⌝ }
-    requires { ⌜ i * 8 + 8 ≤ length (now cost) ⌝ }
+    requires { ⌜ levels ≤ mostLevels ⌝ }
+    requires { ⌜ capacity ≤ mostCapacity ⌝ }
+    requires { ⌜ suc i * mostLevels ≤ length (now load) ⌝ }
+    requires { ⌜ suc i * mostLevels ≤ length (now cost) ⌝ }
     requires { ⌜ i < length (now refusal) ⌝ }
     requires { ⌜ i < length (now must) ⌝ }
-    ensures { λ r. ⌜ PickedBelow capacity
-        (itemAt (now (load .entry)) (now (cost .entry)) (now (refusal .entry)) (now (must .entry)) i) levels r ⌝ }
+    ensures { λ r. ⌜ PickedBelow capacity (offerAt (now (load .entry)) (now (cost .entry)) i)
+        (itemAt (now (refusal .entry)) (now (must .entry)) i) levels r ⌝ }
 {
     let mut picked = refused(refusal[i], must[i], capacity);
     let mut l = 0;

@@ -35,7 +35,7 @@ use Rattle.dispatch.specs.Rows.{CoreTasks, slotOf}
 use Rattle.tables.specs.TableLaws.{slotAt-tableOf}
 use Rattle.tables.specs.Tables.{coreTasks, tableOf, slotAt}
 use Rattle.planner.specs.BestPlanLaws.{best-plan-passes}
-use Rattle.planner.specs.OptionsBounds.{passing-cost-below}
+use Rattle.planner.specs.CostBounds.{passing-cost-below}
 use Rattle.planner.specs.Planning.{bestPlan}
 use Rattle.listing_lines.specs.ListingLines.{refusalLine, costLine, keptLine, refusedLine, taskLine, coreLine, planLines}
 use Rattle.listings.specs.Listing.{mostListing, listingOfPlan, listingOfProblem, listingOfWords, listingOf}
@@ -76,7 +76,7 @@ module _ (p : Problem) (v : Valid p) (plan : List ℕ) (passes : planPasses p pl
       (priceOf p plan)
       (omega (arith, passing-energy-at-most p v plan passing))
       (omega (arith, penalty-at-most p v plan))
-      (omega (arith, passing-cost-below v plan passes))
+      (omega (arith, passing-cost-below v plan passing))
 
   task-fits : (i : ℕ) → i < taskCount p → length (taskLine p plan i) ≤ 110
   unfolding taskLine

@@ -1,97 +1,81 @@
 -- One core more is every split of every set, from entries of none.
-use Prim.Native.Nat.{ℕ, suc, _+_, _*_, _^_, _≤_, _<_}
+use Prim.Native.Nat.{ℕ, _+_, _*_, _^_, _≤_, _<_}
 use mathlib.Core.Path.{_≡_, refl, sym, ap, ap₂, _∙_}
 use mathlib.Core.Logic.{_⊎_, inl, inr}
-use mathlib.Core.Bool.{Bool, true, false}
-use mathlib.Core.List.{List, [], _∷_}
+use mathlib.Core.Bool.{Bool}
+use mathlib.Core.List.{List}
 use native.Mathlib.Nat.{zero-add}
 use native.Mathlib.Omega.{arith}
-use lib.ListN.{length, getD}
-use lib.Pow.{pow-mono}
+use lib.ListN.{length, getD, drop}
+use lib.Seq.{drop-at}
 use Rattle.laws.specs.Lists.{listOf, onto}
 use Rattle.laws.specs.JoinedLaws.{length-listOf}
-use Rattle.laws.specs.OntoLaws.{getD-onto-listOf, length-onto}
-use Rattle.assignment.specs.Values.{Value, none, lesser, to-none}
+use Rattle.laws.specs.OntoLaws.{getD-onto-listOf}
+use Rattle.assignment.specs.Limits.{mostItems}
+use Rattle.assignment.specs.Values.{Value, none, add, lesser, to-none}
 use Rattle.assignment.specs.ValueLaws.{lesser-is-second}
-use Rattle.assignment.specs.Words.{noCost, valueOf, words-none}
-use Rattle.assignment.specs.Bounds.{keys-fit}
-use Rattle.assignment.specs.Knapsacks.{keyBase}
-use Rattle.assignment.specs.Sets.{setNumber}
+use Rattle.assignment.specs.Words.{noCost, valueOf, words-none, words-pair, words-add}
+use Rattle.assignment.specs.Keys.{keyBase, weight}
+use Rattle.assignment.specs.KeyLaws.{keys-fit}
+use Rattle.assignment.specs.Sets.{setNumber, tableAt}
 use Rattle.assignment.specs.SetLaws.{setNumber-below, numbered}
-use Rattle.assignment.specs.Partition.{leastSplit}
-use Rattle.partition.specs.Splits.{sumAt, leastFrom, LoweredFrom, SumsReady, SplitsReady}
-use Rattle.partition.specs.Moves.{digitSum, movedKey, MovesFit}
-use Rattle.partition.specs.MoveLaws.{digits-below}
-use Rattle.partition.specs.Cores.{CoreReady, splitSum, CoreAdded}
+use Rattle.assignment.specs.Partition.{leastSplit, moved}
+use Rattle.assignment.specs.SplitLaws.{part-length, leastSplit-parts}
 use Rattle.assignment.specs.Entries.{entryAt}
+use Rattle.partition.specs.Splits.{sumAt, leastFrom, LoweredFrom, SumsReady, SplitsReady}
+use Rattle.partition.specs.Moves.{MovesReady, MovedBelow}
+use Rattle.partition.specs.MoveLaws.{weight-below}
+use Rattle.partition.specs.Tables.{SmallTable, mostSets, room-for-sets}
+use Rattle.partition.specs.Cores.{CoreReady, CoreAdded}
 
-pub leastSplit-same : {f g : List Bool → List Bool → Value} (S : List Bool) →
-    ((T R : List Bool) → length T ≡ length S → length R ≡ length S → f T R ≡ g T R) → leastSplit S f ≡ leastSplit S g
-unfolding leastSplit
-leastSplit-same [] same = same [] [] refl refl
-leastSplit-same (false ∷ S) same = leastSplit-same S (λ T R t r. same (false ∷ T) (false ∷ R) (ap suc t) (ap suc r))
-leastSplit-same (true ∷ S) same =
-    ap₂ lesser (leastSplit-same S (λ T R t r. same (true ∷ T) (false ∷ R) (ap suc t) (ap suc r)))
-    (leastSplit-same S (λ T R t r. same (false ∷ T) (true ∷ R) (ap suc t) (ap suc r)))
+-- entries that are copied to the front leave the others
+pub others-kept : (from : List ℕ) (n : ℕ) (before : List ℕ) {after : List ℕ} → after ≡ onto (listOf (λ x. getD from x 0) n) before →
+    drop n after ≡ drop n before
+unfolding onto
+others-kept from n before copied =
+    let count = length-listOf (λ x. getD from x 0) n in
+    rw (copied, count) (drop-at (listOf (λ x. getD from x 0) n) (drop n before) n count)
 
--- 2^n sets have room in the code's arrays
-pub room-for-sets : {n : ℕ} → n ≤ 12 → 2 ^ n ≤ 4096
-room-for-sets few = pow-mono few
+pub moves-ready : {n shift most : ℕ} {tops topKeys lent : List ℕ} → n ≤ mostItems → shift < keyBase → SmallTable n most tops topKeys →
+    2 ^ n ≤ length lent → MovesReady n shift topKeys lent
+moves-ready few small table long =
+    record {
+      few-items = few;
+      small-shift = small;
+      keys-long = table .keys-for-all;
+      key-bound = table .key-bound;
+      moved-long = long;
+    }
 
-module _ {n shift : ℕ} {weights knapsacks knapsackKeys costs keys : List ℕ}
-    (ready : CoreReady n shift weights knapsacks knapsackKeys costs keys) where
-  -- what is added to the key of set x
-  shift-of : (x : ℕ) → x < 2 ^ n → shift * getD weights x 0 < keyBase ^ n
-  shift-of x h =
-      let s = numbered n x h in
-      let right = ready .weights-right .at (s .set) (s .of-items) (rw (s .number) h) in
-      rw (ap (λ (k : ℕ). getD weights k 0) (sym (s .number)) ∙ right) (digits-below (ready .small-shift) n (s .set))
+module _ {n shift : ℕ} {tops topKeys costs keys : List ℕ} (ready : CoreReady n shift tops topKeys costs keys) where
+  module _ {movedKeys : List ℕ} (long : 2 ^ n ≤ length movedKeys) (is-moved : MovedBelow n shift (2 ^ n) topKeys movedKeys) where
+    moved-bound : (x : ℕ) → x < 2 ^ n → getD movedKeys x 0 < keyBase ^ n + keyBase ^ n
+    moved-bound x h =
+        let s = numbered n x h in
+        let at = rw (s .number) at (is-moved .at (s .set) (s .of-items) (rw (s .number) h)) in
+        omega (arith, ready .top-table .key-bound x h, rw (s .of-items) at (weight-below (ready .small-shift) (s .set)))
 
-  pub moves-fit : MovesFit n shift weights knapsackKeys
-  unfolding movedKey
-  moves-fit =
-      record {
-        weights-long = ready .weights-for-all;
-        keys-long = ready .knapsack-table .keys-for-all;
-        moved-fit = λ x h. omega (arith, shift-of x h, ready .knapsack-table .key-bound x h, keys-fit (ready .few-items));
-      }
-
-  module _ {moved : List ℕ} (buffer : List ℕ) (long : 2 ^ n ≤ length buffer)
-      (is-moved : moved ≡ onto (listOf (movedKey shift weights knapsackKeys) (2 ^ n)) buffer) where
-    moved-at : (x : ℕ) → x < 2 ^ n → getD moved x 0 ≡ getD knapsackKeys x 0 + shift * getD weights x 0
-    unfolding movedKey
-    moved-at x h = rw is-moved (getD-onto-listOf (movedKey shift weights knapsackKeys) buffer (2 ^ n) x 0 h)
-
-    pub sums-ready : SumsReady (2 ^ n) 0 0 knapsacks moved costs keys
+    pub sums-ready : SumsReady (2 ^ n) 0 0 tops movedKeys costs keys
     sums-ready =
         record {
           sets = record { exponent = n; is-power = refl };
           costs-fit = record {
-            tops-long = omega (arith, ready .knapsack-table .costs-for-all);
+            tops-long = omega (arith, ready .top-table .costs-for-all);
             rests-long = omega (arith, ready .rest-table .costs-for-all);
             sums-fit = λ x y h j.
-                rw (zero-add x, zero-add y) (omega (arith, ready .knapsack-table .cost-bound x h, ready .rest-table .cost-bound y j));
+                rw (zero-add x, zero-add y) (omega (arith, ready .top-table .cost-bound x h, ready .rest-table .cost-bound y j));
           };
           keys-fit = record {
-            tops-long = moved-long;
+            tops-long = omega arith;
             rests-long = omega (arith, ready .rest-table .keys-for-all);
-            sums-fit = moved-sums;
+            sums-fit = λ x y h j.
+                rw (zero-add x, zero-add y)
+                (omega (arith, moved-bound x h, ready .rest-table .key-bound y j, keys-fit (ready .few-items)));
           };
         }
-      where
-        moved-long : 0 + 2 ^ n ≤ length moved
-        moved-long =
-            let writes : length (listOf (movedKey shift weights knapsackKeys) (2 ^ n)) ≤ length buffer = rw length-listOf long in
-            let same = ap length is-moved ∙ length-onto _ buffer writes in
-            omega arith
 
-        moved-sums : (x y : ℕ) → x < 2 ^ n → y < 2 ^ n → getD moved (0 + x) 0 + getD keys (0 + y) 0 < 2 ^ 64
-        moved-sums x y h j =
-            rw (zero-add x, zero-add y, moved-at x h)
-            (omega (arith, shift-of x h, ready .knapsack-table .key-bound x h, ready .rest-table .key-bound y j, keys-fit (ready .few-items)))
-
-    pub splits-ready : {next nextKeys : List ℕ} → 4096 ≤ length next → 4096 ≤ length nextKeys →
-        SplitsReady (2 ^ n) 0 0 0 knapsacks moved costs keys next nextKeys
+    pub splits-ready : {next nextKeys : List ℕ} → mostSets ≤ length next → mostSets ≤ length nextKeys →
+        SplitsReady (2 ^ n) 0 0 0 tops movedKeys costs keys next nextKeys
     splits-ready room key-room =
         let few = room-for-sets (ready .few-items) in
         record {
@@ -103,28 +87,37 @@ module _ {n shift : ℕ} {weights knapsacks knapsackKeys costs keys : List ℕ}
         }
 
     -- what the sums of the code are
+    sum-value : (T R : List Bool) → length T ≡ n →
+        sumAt tops movedKeys costs keys (0 + setNumber n T) (0 + setNumber n R)
+        ≡ add (moved shift (tableAt n tops topKeys) T) (tableAt n costs keys R)
+    unfolding sumAt moved tableAt
+    sum-value T R t =
+        let a = getD tops (setNumber n T) 0 in
+        let x = getD topKeys (setNumber n T) 0 in
+        let b = getD costs (setNumber n R) 0 in
+        let y = getD keys (setNumber n R) 0 in
+        let w = shift * weight T in
+        let real : 0 + a < noCost → b < noCost → 0 + a + b < noCost =
+        λ p q.
+        let top = ready .top-table .real-bound (setNumber n T) (setNumber-below n T) (omega arith) in
+        let rest = ready .rest-table .real-bound (setNumber n R) (setNumber-below n R) q in
+        omega (arith, ready .room) in
+        rw (zero-add (setNumber n T), zero-add (setNumber n R), is-moved .at T t (setNumber-below n T))
+        (ap₂ valueOf (omega arith) (omega arith)
+        ∙ sym
+        (ap (λ (u : Value). add (add u (valueOf a x)) (valueOf b y)) (sym (words-pair 0 w (omega arith)))
+        ∙ ap (λ (u : Value). add u (valueOf b y)) (words-add 0 w a x (λ p q. omega arith))
+        ∙ words-add (0 + a) (w + x) b y real))
+
     pub sums-same : (S : List Bool) → length S ≡ n →
-        leastFrom n (sumAt knapsacks moved costs keys) 0 0 S ≡ leastSplit S (splitSum n shift knapsacks knapsackKeys costs keys)
-    unfolding leastFrom sumAt splitSum
-    sums-same S of-items = leastSplit-same S same
-      where
-        same : (T R : List Bool) → length T ≡ length S → length R ≡ length S →
-            valueOf (getD knapsacks (0 + setNumber n T) 0 + getD costs (0 + setNumber n R) 0)
-            (getD moved (0 + setNumber n T) 0 + getD keys (0 + setNumber n R) 0)
-            ≡ valueOf (getD knapsacks (setNumber n T) 0 + getD costs (setNumber n R) 0)
-            (getD knapsackKeys (setNumber n T) 0 + shift * digitSum keyBase n T + getD keys (setNumber n R) 0)
-        same T R t r =
-            let below = setNumber-below n T in
-            rw (
-              zero-add (setNumber n T),
-              zero-add (setNumber n R),
-              moved-at (setNumber n T) below,
-              ready .weights-right .at T (t ∙ of-items) below,
-            )
+        leastFrom n (sumAt tops movedKeys costs keys) 0 0 S
+        ≡ leastSplit S (λ T R. add (moved shift (tableAt n tops topKeys) T) (tableAt n costs keys R))
+    unfolding leastFrom
+    sums-same S of-items = leastSplit-parts S (λ T R p. sum-value T R (part-length p ∙ of-items))
 
     module _ {blank blankKeys next nextKeys costs' keys' : List ℕ}
         (nothing : (x : ℕ) → x < 2 ^ n → getD blank x 0 ≡ noCost) (no-key : (x : ℕ) → x < 2 ^ n → getD blankKeys x 0 ≡ 0)
-        (lowered : LoweredFrom n 0 0 0 (sumAt knapsacks moved costs keys) blank blankKeys next nextKeys)
+        (lowered : LoweredFrom n 0 0 0 (sumAt tops movedKeys costs keys) blank blankKeys next nextKeys)
         (copied : costs' ≡ onto (listOf (λ x. getD next x 0) (2 ^ n)) costs)
         (keys-copied : keys' ≡ onto (listOf (λ x. getD nextKeys x 0) (2 ^ n)) keys) where
       cost-at : (x : ℕ) → x < 2 ^ n → getD costs' x 0 ≡ getD next x 0
@@ -133,25 +126,30 @@ module _ {n shift : ℕ} {weights knapsacks knapsackKeys costs keys : List ℕ}
       key-at : (x : ℕ) → x < 2 ^ n → getD keys' x 0 ≡ getD nextKeys x 0
       key-at x h = rw keys-copied (getD-onto-listOf (λ k. getD nextKeys k 0) keys (2 ^ n) x 0 h)
 
-      entry-at : (x : ℕ) → x < 2 ^ n → entryAt costs' keys' x ≡ entryAt next nextKeys x
-      unfolding entryAt
-      entry-at x h = rw (cost-at x h, key-at x h)
-
       nothing-at : (x : ℕ) → x < 2 ^ n → entryAt blank blankKeys x ≡ none
       unfolding entryAt
       nothing-at x h = rw (nothing x h) (words-none noCost _ (omega arith))
 
-      pub core-added : CoreAdded n shift knapsacks knapsackKeys costs keys costs' keys'
-      core-added = record { holds = holds; bounded = λ x h. bounded x h (lowered .no-dearer .at x) }
+      pub core-added : CoreAdded n shift tops topKeys costs keys costs' keys'
+      unfolding entryAt tableAt
+      core-added =
+          record {
+            holds = holds;
+            other-costs = others-kept next (2 ^ n) costs copied;
+            other-keys = others-kept nextKeys (2 ^ n) keys keys-copied;
+            bounded = λ x h. bounded x h (lowered .no-dearer .at x);
+          }
         where
           holds : (S : List Bool) → length S ≡ n →
-              entryAt costs' keys' (setNumber n S) ≡ leastSplit S (splitSum n shift knapsacks knapsackKeys costs keys)
+              entryAt costs' keys' (setNumber n S)
+              ≡ leastSplit S (λ T R. add (moved shift (tableAt n tops topKeys) T) (tableAt n costs keys R))
           holds S of-items =
               let x = setNumber n S in
               let below = setNumber-below n S in
-              let there : entryAt next nextKeys x ≡ lesser (entryAt blank blankKeys x) (leastFrom n (sumAt knapsacks moved costs keys) 0 0 S) =
+              let there : entryAt next nextKeys x ≡ lesser (entryAt blank blankKeys x) (leastFrom n (sumAt tops movedKeys costs keys) 0 0 S) =
               rw zero-add at (lowered .there S of-items) in
-              entry-at x below ∙ there ∙ rw (nothing-at x below) (lesser-is-second to-none ∙ sums-same S of-items)
+              let same : entryAt costs' keys' x ≡ entryAt next nextKeys x = rw (cost-at x below, key-at x below) in
+              same ∙ there ∙ rw (nothing-at x below) (lesser-is-second to-none ∙ sums-same S of-items)
 
           bounded : (x : ℕ) → x < 2 ^ n →
               (getD next x 0 < getD blank x 0) ⊎ ((getD next x 0 ≡ getD blank x 0) × (getD nextKeys x 0 ≤ getD blankKeys x 0)) →

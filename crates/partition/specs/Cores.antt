@@ -1,41 +1,33 @@
 -- What the code does for one core more.
-use Prim.Native.Nat.{ℕ, _+_, _*_, _^_, _≤_, _<_}
+use Prim.Native.Nat.{ℕ, _+_, _^_, _≤_, _<_}
 use mathlib.Core.Path.{_≡_}
 use mathlib.Core.Logic.{_⊎_}
 use mathlib.Core.Bool.{Bool}
 use mathlib.Core.List.{List}
-use lib.ListN.{length, getD}
-use Rattle.assignment.specs.Values.{Value}
-use Rattle.assignment.specs.Words.{noCost, valueOf}
-use Rattle.assignment.specs.Sets.{setNumber}
-use Rattle.assignment.specs.Knapsacks.{keyBase}
-use Rattle.assignment.specs.Partition.{leastSplit}
-use Rattle.partition.specs.Moves.{digitSum, WeightsBelow}
-use Rattle.assignment.specs.Entries.{entryAt}
+use lib.ListN.{length, getD, drop}
+use Rattle.assignment.specs.Limits.{mostItems}
+use Rattle.assignment.specs.Keys.{keyBase}
+use Rattle.assignment.specs.Values.{add}
+use Rattle.assignment.specs.Words.{noCost}
+use Rattle.assignment.specs.Sets.{tableAt}
+use Rattle.assignment.specs.Partition.{leastSplit, moved}
+use Rattle.partition.specs.Tables.{SmallTable}
 
--- a table of all sets of n items, two of which add up within 64 bits
-pub record SetTable (n : ℕ) (costs keys : List ℕ) : Type 0 where
-  pub costs-for-all : 2 ^ n ≤ length costs
-  pub keys-for-all : 2 ^ n ≤ length keys
-  pub cost-bound : (x : ℕ) → x < 2 ^ n → getD costs x 0 < 2 ^ 63
-  pub key-bound : (x : ℕ) → x < 2 ^ n → getD keys x 0 < keyBase ^ n
-
-pub record CoreReady (n shift : ℕ) (weights knapsacks knapsackKeys costs keys : List ℕ) : Type 0 where
-  pub few-items : n ≤ 12
+-- what adding the values of two tables asks, where each choice of the one is larger by `shift`: no real sum comes near noCost
+pub record CoreReady (n shift : ℕ) (tops topKeys costs keys : List ℕ) : Type 0 where
+  pub few-items : n ≤ mostItems
   pub small-shift : shift < keyBase
-  pub weights-for-all : 2 ^ n ≤ length weights
-  pub weights-right : WeightsBelow n (2 ^ n) weights
-  pub knapsack-table : SetTable n knapsacks knapsackKeys
-  pub rest-table : SetTable n costs keys
+  pub most-top : ℕ
+  pub most-rest : ℕ
+  pub top-table : SmallTable n most-top tops topKeys
+  pub rest-table : SmallTable n most-rest costs keys
+  pub room : most-top + most-rest < noCost
 
--- the part T on the new core, where each choice is larger by `shift`, and R on the cores below
-unfoldable pub splitSum : (n shift : ℕ) (knapsacks knapsackKeys costs keys : List ℕ) → List Bool → List Bool → Value
-splitSum n shift knapsacks knapsackKeys costs keys T R =
-    valueOf (getD knapsacks (setNumber n T) 0 + getD costs (setNumber n R) 0)
-    (getD knapsackKeys (setNumber n T) 0 + shift * digitSum keyBase n T + getD keys (setNumber n R) 0)
-
--- every set's entry is its least split; where there is none, it has key 0
-pub record CoreAdded (n shift : ℕ) (knapsacks knapsackKeys costs keys costs' keys' : List ℕ) : Type 0 where
+-- every set's value is that of its least split: a part on the new core, where each choice is larger by `shift`, and the rest
+-- on the cores below. Where there is none, the key is 0. What stands beyond the sets is as it was.
+pub record CoreAdded (n shift : ℕ) (coreCosts coreKeys costs keys costs' keys' : List ℕ) : Type 0 where
   pub holds : (S : List Bool) → length S ≡ n →
-      entryAt costs' keys' (setNumber n S) ≡ leastSplit S (splitSum n shift knapsacks knapsackKeys costs keys)
+      tableAt n costs' keys' S ≡ leastSplit S (λ T R. add (moved shift (tableAt n coreCosts coreKeys) T) (tableAt n costs keys R))
+  pub other-costs : drop (2 ^ n) costs' ≡ drop (2 ^ n) costs
+  pub other-keys : drop (2 ^ n) keys' ≡ drop (2 ^ n) keys
   pub bounded : (x : ℕ) → x < 2 ^ n → (getD costs' x 0 < noCost) ⊎ ((getD costs' x 0 ≡ noCost) × (getD keys' x 0 ≡ 0))

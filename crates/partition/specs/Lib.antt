@@ -1,13 +1,13 @@
 pub mod Splits
 pub mod SplitLaws
+pub mod PartedLaws
 pub mod Moves
 pub mod MoveLaws
+pub mod Tables
 pub mod Cores
 pub mod CoreLaws
-pub mod BestTables
 pub mod BestFilled
-pub mod OfferedLaws
-pub mod PartedLaws
+pub mod ItemsFrom
 pub mod RefusedTables
 pub mod RefusedLaws
 pub mod RefusingBounds

@@ -3,7 +3,7 @@ use Prim.Native.Nat.{ℕ, suc, _+_, _-_, _*_, _/_, _^_, _≤_, _<_}
 use mathlib.Core.Path.{_≡_, refl, sym, ap, _∙_}
 use mathlib.Core.Logic.{_⊎_, inl, inr, _≢_}
 use mathlib.Core.Bool.{Bool, true, false}
-use mathlib.Core.List.{List, []}
+use mathlib.Core.List.{List}
 use native.Mathlib.Nat.{add-zero}
 use native.Mathlib.Numerals.{add-one}
 use native.Mathlib.Omega.{arith}
@@ -11,10 +11,11 @@ use lib.ListN.{length, getD}
 use lib.Pow.{pow-pos}
 use Rattle.assignment.specs.Values.{Within}
 use Rattle.assignment.specs.Words.{words-within}
-use Rattle.assignment.specs.Offered.{mostCost, itemAt}
-use Rattle.partition.specs.OfferedLaws.{listFrom}
+use Rattle.assignment.specs.Limits.{mostCost}
 use Rattle.assignment.specs.Sets.{setNumber}
 use Rattle.assignment.specs.SetLaws.{setNumber-below, numbered}
+use Rattle.values.specs.Items.{itemAt}
+use Rattle.partition.specs.ItemsFrom.{listFrom}
 use Rattle.partition.specs.SplitLaws.{kept-entry, same-power, half-is-power}
 use Rattle.partition.specs.RefusedTables.{ItemReady, ItemRefused, RefuseReady, RefusedFrom}
 use Rattle.partition.specs.RefusedLaws.{refused-nothing, at-without, refused-with-must, refused-either}
@@ -92,7 +93,7 @@ module _ {size i s : ℕ} {refusal : List ℕ} {must : List Bool} {costs keys : 
         RefuseReady (size / 2) (i + 1) (s + size / 2) refusal must c1 k1
     with-ready same-costs same-keys =
         let next = next-item in
-        let first = without .all [] [] (next .others) (next .half) in
+        let first = without .all (next .others) (next .half) in
         let others : (x : ℕ) → Kept costs keys c1 k1 (s + size / 2 + x) = λ x. first .elsewhere _ (inr (omega (arith, next .half))) in
         half-ready (s + size / 2) (omega arith) (omega arith) (λ x h. others x .cost) (λ x h. kept-entry (others x)) same-costs same-keys
 
@@ -104,9 +105,9 @@ module _ {size i s : ℕ} {refusal : List ℕ} {must : List Bool} {costs keys : 
           let next = next-item in
           let j = next .others in
           let set = numbered j x (rw (← next .half) h) in
-          let value = at-without (size / 2) (next .half) (without .all [] [] j (next .half)) (with-it .all [] [] j (next .half)) (set .set) (set .of-items) in
+          let value = at-without (size / 2) (next .half) (without .all j (next .half)) (with-it .all j (next .half)) (set .set) (set .of-items) in
           rw (sym (ap (λ (y : ℕ). entryAt c2 k2 (s + y)) (set .number)) ∙ value)
-          (refusing-within [] [] refusal must (ready .keyBound) j (i + 1) (ready .most) (λ R. entryAt costs keys (s + (0 + setNumber j R)))
+          (refusing-within refusal must (ready .keyBound) j (i + 1) (ready .most) (λ R. entryAt costs keys (s + (0 + setNumber j R)))
           (next .later-cheap)
           (λ S e. ready .small (0 + setNumber j S) (omega (arith, next .half, setNumber-below j S)))
           (set .set) (set .of-items))
@@ -117,8 +118,8 @@ module _ {size i s : ℕ} {refusal : List ℕ} {must : List Bool} {costs keys : 
           let next = next-item in
           let cheap = next .cheap in
           let counted = next .counted in
-          let first = without .all [] [] (next .others) (next .half) in
-          let second = with-it .all [] [] (next .others) (next .half) in
+          let first = without .all (next .others) (next .half) in
+          let second = with-it .all (next .others) (next .half) in
           record {
             costs-long = omega (arith, ready .costs-long);
             keys-long = omega (arith, ready .keys-long);
@@ -133,7 +134,7 @@ module _ {size i s : ℕ} {refusal : List ℕ} {must : List Bool} {costs keys : 
 pub nothing-refused : {size i s : ℕ} {refusal : List ℕ} {must : List Bool} {costs keys : List ℕ} → size ≡ 1 →
     RefusedFrom size i s refusal must costs keys costs keys
 unfolding listFrom
-nothing-refused one = record { all = λ load cost k is-power. rw (same-power 0 k (sym one ∙ is-power)) refused-nothing }
+nothing-refused one = record { all = λ k is-power. rw (same-power 0 k (sym one ∙ is-power)) refused-nothing }
 
 module _ {size i s : ℕ} {refusal : List ℕ} {must : List Bool} {c0 k0 c1 k1 c2 k2 : List ℕ} (more : size ≢ 1)
     (without : RefusedFrom (size / 2) (i + 1) s refusal must c0 k0 c1 k1)
@@ -142,11 +143,11 @@ module _ {size i s : ℕ} {refusal : List ℕ} {must : List Bool} {c0 k0 c1 k1 c
   unfolding listFrom itemAt
   item-kept kept =
       record {
-        all = λ load cost k is-power.
+        all = λ k is-power.
             let (j, e, half) = half-is-power k is-power more in
-            let first = rw (add-one i) at (without .all load cost j half) in
-            let second = rw (add-one i) at (with-it .all load cost j half) in
-            rw e (refused-with-must (size / 2) half first second (itemAt load cost refusal must i) kept);
+            let first = rw (add-one i) at (without .all j half) in
+            let second = rw (add-one i) at (with-it .all j half) in
+            rw e (refused-with-must (size / 2) half first second (itemAt refusal must i) kept);
       }
 
   pub item-refused : {c3 k3 : List ℕ} → getD must i false ≡ false → ItemRefused (size / 2) s (getD refusal i 0) (size / 2) c2 k2 c3 k3 →
@@ -154,9 +155,9 @@ module _ {size i s : ℕ} {refusal : List ℕ} {must : List Bool} {c0 k0 c1 k1 c
   unfolding listFrom itemAt
   item-refused may refused =
       record {
-        all = λ load cost k is-power.
+        all = λ k is-power.
             let (j, e, half) = half-is-power k is-power more in
-            let first = rw (add-one i) at (without .all load cost j half) in
-            let second = rw (add-one i) at (with-it .all load cost j half) in
-            rw e (refused-either (size / 2) half first second (itemAt load cost refusal must i) may refused);
+            let first = rw (add-one i) at (without .all j half) in
+            let second = rw (add-one i) at (with-it .all j half) in
+            rw e (refused-either (size / 2) half first second (itemAt refusal must i) may refused);
       }

@@ -8,15 +8,11 @@ use lib.ListN.{length, getD}
 use Rattle.assignment.specs.Assignment.{Item}
 use Rattle.assignment.specs.Values.{pair, add, lesser, Within}
 use Rattle.assignment.specs.Words.{noCost}
-use Rattle.assignment.specs.Offered.{mostCost, itemAt}
-use Rattle.partition.specs.OfferedLaws.{listFrom}
+use Rattle.assignment.specs.Limits.{mostCost}
 use Rattle.assignment.specs.Sets.{setNumber}
 use Rattle.assignment.specs.Refusing.{refusing}
 use Rattle.assignment.specs.Entries.{entryAt, NoDearer, Kept}
-
--- the k items from i on
-abbrev pub itemsFrom : (load cost refusal : List ℕ) (must : List Bool) → ℕ → ℕ → List Item
-itemsFrom load cost refusal must = listFrom (itemAt load cost refusal must)
+use Rattle.partition.specs.ItemsFrom.{itemsFrom}
 
 -- what refusing one item asks: with its refusal a cost fits 64 bits, and a real one stays real
 pub record ItemReady (half s refusal : ℕ) (costs keys : List ℕ) : Type 0 where
@@ -56,7 +52,6 @@ pub record Refused (k s : ℕ) (items : List Item) (costs keys costs' keys' : Li
   pub elsewhere : (x : ℕ) → (x < s) ⊎ (s + 2 ^ k ≤ x) → Kept costs keys costs' keys' x
   pub no-dearer : NoDearer costs keys costs' keys'
 
--- the same of all items from i on that 2^k = size sets are about; it asks nothing of loads and costs
+-- the same of all items from i on that 2^k = size sets are about
 pub record RefusedFrom (size i s : ℕ) (refusal : List ℕ) (must : List Bool) (costs keys costs' keys' : List ℕ) : Type 0 where
-  pub all : (load cost : List ℕ) (k : ℕ) → size ≡ 2 ^ k →
-      Refused k s (itemsFrom load cost refusal must i k) costs keys costs' keys'
+  pub all : (k : ℕ) → size ≡ 2 ^ k → Refused k s (itemsFrom refusal must i k) costs keys costs' keys'

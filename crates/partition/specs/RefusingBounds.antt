@@ -9,12 +9,12 @@ use native.Mathlib.Omega.{arith}
 use lib.ListN.{length, getD}
 use Rattle.assignment.specs.Values.{Value, none, pair, add, lesser, Within, absent, present}
 use Rattle.assignment.specs.ValueLaws.{lesser-either}
-use Rattle.assignment.specs.Offered.{mostCost, itemAt}
-use Rattle.partition.specs.OfferedLaws.{listFrom}
+use Rattle.assignment.specs.Limits.{mostCost}
 use Rattle.assignment.specs.Refusing.{refusing}
-use Rattle.partition.specs.RefusedTables.{itemsFrom}
+use Rattle.values.specs.Items.{itemAt}
+use Rattle.partition.specs.ItemsFrom.{listFrom, itemsFrom}
 
-module _ (load cost refusal : List ℕ) (must : List Bool) (keyBound : ℕ) where
+module _ (refusal : List ℕ) (must : List Bool) (keyBound : ℕ) where
   within-either : {m : ℕ} {u v : Value} → Within m keyBound u → Within m keyBound v → Within m keyBound (lesser u v)
   within-either {m} {u} {v} a b = go (lesser-either u v)
     where
@@ -38,7 +38,7 @@ module _ (load cost refusal : List ℕ) (must : List Bool) (keyBound : ℕ) wher
 
   pub refusing-within : (k i most : ℕ) (f : List Bool → Value) → ((j : ℕ) → j < k → getD refusal (i + j) 0 ≤ mostCost) →
       ((S : List Bool) → length S ≡ k → Within most keyBound (f S)) → (S : List Bool) → length S ≡ k →
-      Within (most + k * mostCost) keyBound (refusing (itemsFrom load cost refusal must i k) f S)
+      Within (most + k * mostCost) keyBound (refusing (itemsFrom refusal must i k) f S)
   unfolding refusing listFrom itemAt
   refusing-within zero i most f cheap small [] e = within-more (omega arith) (small [] refl)
   refusing-within zero i most f cheap small (b ∷ S) e = absurd (omega arith)
@@ -52,8 +52,8 @@ module _ (load cost refusal : List ℕ) (must : List Bool) (keyBound : ℕ) wher
       here = rw add-zero at (cheap 0 (omega arith))
 
       go : (b : Bool) →
-          ((d : Bool) → Within (most + k * mostCost) keyBound (refusing (itemsFrom load cost refusal must (suc i) k) (λ R. f (d ∷ R)) S)) →
-          Within (most + suc k * mostCost) keyBound (refusing (itemsFrom load cost refusal must i (suc k)) f (b ∷ S))
+          ((d : Bool) → Within (most + k * mostCost) keyBound (refusing (itemsFrom refusal must (suc i) k) (λ R. f (d ∷ R)) S)) →
+          Within (most + suc k * mostCost) keyBound (refusing (itemsFrom refusal must i (suc k)) f (b ∷ S))
       go false rest = within-more (omega arith) (rest false)
       go true rest =
           within-either (within-more (omega arith) (rest true))

@@ -1,22 +1,21 @@
 // The least values of all sets on several cores, one core after the other.
 use crate::splits::lower_splits;
 use values::KEY_BASE;
+use values::MOST_SETS;
 use values::NO_COST;
 use values::sets_of;
 ghost use mathlib.Core.Path.{_≡_};
-ghost use Prim.Native.Nat.{pred, _^_, _≤_};
-ghost use lib.ListN.{length, getD};
+ghost use Prim.Native.Nat.{_^_, _≤_};
+ghost use lib.ListN.{length, getD, drop};
 ghost use Rattle.laws.specs.Lists.{listOf, onto};
-ghost use Rattle.assignment.specs.Assignment.{Options};
-ghost use Rattle.assignment.specs.Partition.{best};
-ghost use Rattle.partition.specs.BestFilled.{BestReady, KnapsacksTabled};
-ghost use Rattle.partition.specs.BestTables.{TableOf};
+ghost use Rattle.assignment.specs.Limits.{mostItems};
+ghost use Rattle.partition.specs.BestFilled.{BestReady, BestFilled};
 ghost use Rattle.partition.specs.Cores.{CoreReady, CoreAdded};
-ghost use Rattle.partition.specs.Moves.{WeightsBelow, MovesFit, movedKey};
+ghost use Rattle.partition.specs.Moves.{WeightsBelow, MovesReady, MovedBelow};
 
 // The weight of each set: the key with a digit 1 for each of its items.
-pub fn fill_weights(items: usize, weights: &mut [u64])
-    requires { ⌜ items ≤ 12 ⌝ }
+fn fill_weights(items: usize, weights: &mut [u64])
+    requires { ⌜ items ≤ mostItems ⌝ }
     requires { ⌜ 2 ^ items ≤ length (now weights) ⌝ }
     ensures { λ _. ⌜ WeightsBelow items (2 ^ items) (now (weights .exit)) ⌝ }
 {
@@ -29,14 +28,13 @@ pub fn fill_weights(items: usize, weights: &mut [u64])
     }
 }
 
-// The keys of the knapsacks on another core, where each choice is larger by `shift`.
-pub(crate) fn move_keys(items: usize, shift: u64, weights: &[u64], keys: &[u64], moved: &mut [u64])
-    requires { ⌜ items ≤ 12 ⌝ }
-    requires { ⌜ MovesFit items shift (now weights) (now keys) ⌝ }
-    requires { ⌜ 2 ^ items ≤ length (now moved) ⌝ }
-    ensures { λ _. ⌜ now (moved .exit)
-        ≡ onto (listOf (movedKey shift (now (weights .entry)) (now (keys .entry))) (2 ^ items)) (now (moved .entry)) ⌝ }
+// The keys of a table on other cores, where each choice is larger by `shift`.
+pub(crate) fn move_keys(items: usize, shift: u64, keys: &[u64], moved: &mut [u64])
+    requires { ⌜ MovesReady items shift (now keys) (now moved) ⌝ }
+    ensures { λ _. ⌜ MovedBelow items shift (2 ^ items) (now (keys .entry)) (now (moved .exit)) ⌝ }
 {
+    let mut weights = [0u64; MOST_SETS];
+    fill_weights(items, &mut weights);
     let all = sets_of(items);
     let mut x = 0;
     while x < all {
@@ -47,7 +45,7 @@ pub(crate) fn move_keys(items: usize, shift: u64, weights: &[u64], keys: &[u64],
 
 // Copies the entries of all sets.
 fn copy_entries(items: usize, from: &[u64], to: &mut [u64])
-    requires { ⌜ items ≤ 12 ⌝ }
+    requires { ⌜ items ≤ mostItems ⌝ }
     requires { ⌜ 2 ^ items ≤ length (now from) ⌝ }
     requires { ⌜ 2 ^ items ≤ length (now to) ⌝ }
     ensures { λ _. ⌜ now (to .exit) ≡ onto (listOf (λ x. getD (now (from .entry)) x 0) (2 ^ items)) (now (to .entry)) ⌝ }
@@ -60,31 +58,30 @@ fn copy_entries(items: usize, from: &[u64], to: &mut [u64])
     }
 }
 
-// One core more: the value of each set on some cores becomes that on these and one core, whose knapsacks are moved by `shift`.
+// One core more: the value of each set on some cores becomes that on these and one core, whose table is moved by `shift`.
 fn add_core(
     items: usize,
     shift: u64,
-    weights: &[u64],
-    knapsacks: &[u64],
-    knapsackkeys: &[u64],
+    corecosts: &[u64],
+    corekeys: &[u64],
     costs: &mut [u64],
     keys: &mut [u64],
 )
-    requires { ⌜ CoreReady items shift (now weights) (now knapsacks) (now knapsackkeys) (now costs) (now keys) ⌝ }
-    ensures { λ _. ⌜ CoreAdded items shift (now (knapsacks .entry)) (now (knapsackkeys .entry)) (now (costs .entry)) (now (keys .entry))
+    requires { ⌜ CoreReady items shift (now corecosts) (now corekeys) (now costs) (now keys) ⌝ }
+    ensures { λ _. ⌜ CoreAdded items shift (now (corecosts .entry)) (now (corekeys .entry)) (now (costs .entry)) (now (keys .entry))
         (now (costs .exit)) (now (keys .exit)) ⌝ }
 {
-    let mut moved = [0u64; 4096];
-    move_keys(items, shift, weights, knapsackkeys, &mut moved);
-    let mut next = [NO_COST; 4096];
-    let mut nextkeys = [0u64; 4096];
+    let mut moved = [0u64; MOST_SETS];
+    move_keys(items, shift, corekeys, &mut moved);
+    let mut next = [NO_COST; MOST_SETS];
+    let mut nextkeys = [0u64; MOST_SETS];
     let all = sets_of(items);
     lower_splits(
         all,
         0,
         0,
         0,
-        knapsacks,
+        corecosts,
         &moved,
         costs,
         keys,
@@ -95,27 +92,27 @@ fn add_core(
     copy_entries(items, &nextkeys, keys);
 }
 
-// From the knapsacks the value of every set on the first `cores` cores, in the entry of the set's number.
+// From the table of one core the value of every set on the first `cores` cores, in the entry of the set's number.
 pub fn fill_best(
     items: usize,
     levels: usize,
     cores: usize,
-    weights: &[u64],
-    knapsacks: &[u64],
-    knapsackkeys: &[u64],
+    corecosts: &[u64],
+    corekeys: &[u64],
     costs: &mut [u64],
     keys: &mut [u64],
 )
-    requires { ⌜ BestReady items levels cores (now weights) (now knapsacks) (now knapsackkeys) (now costs) (now keys) ⌝ }
-    ensures { λ _. ⌜ ((o : Options) → KnapsacksTabled o items levels cores (now (knapsacks .entry)) (now (knapsackkeys .entry)) →
-        TableOf items (best o (pred cores)) (now (costs .exit)) (now (keys .exit))) ⌝ }
+    requires { ⌜ BestReady items levels cores (now corecosts) (now corekeys) (now costs) (now keys) ⌝ }
+    ensures { λ _. ⌜ BestFilled items levels cores (now (corecosts .entry)) (now (corekeys .entry)) (now (costs .exit)) (now (keys .exit)) ⌝ }
+    ensures { λ _. ⌜ drop (2 ^ items) (now (costs .exit)) ≡ drop (2 ^ items) (now (costs .entry)) ⌝ }
+    ensures { λ _. ⌜ drop (2 ^ items) (now (keys .exit)) ≡ drop (2 ^ items) (now (keys .entry)) ⌝ }
 {
-    copy_entries(items, knapsacks, costs);
-    copy_entries(items, knapsackkeys, keys);
+    copy_entries(items, corecosts, costs);
+    copy_entries(items, corekeys, keys);
     let mut c = 1;
     while c < cores {
         let shift = (c * levels) as u64;
-        add_core(items, shift, weights, knapsacks, knapsackkeys, costs, keys);
+        add_core(items, shift, corecosts, corekeys, costs, keys);
         c += 1;
     }
 }

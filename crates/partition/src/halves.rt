@@ -2,19 +2,18 @@
 use crate::cores::move_keys;
 use crate::keeping::least_parted;
 use crate::keeping::refuse;
+use values::MOST_SETS;
 use values::Worth;
 use values::sets_of;
-ghost use mathlib.Core.List.{List};
 ghost use mathlib.Core.Path.{_≡_};
-ghost use Prim.Native.Nat.{ℕ};
-ghost use Rattle.partition.specs.HalvesTables.{HalvesReady, leastOverHalves, OneReady, leastOnOne};
+ghost use Rattle.assignment.specs.Refusing.{every};
+ghost use Rattle.partition.specs.HalvesTables.{OneReady, HalvesReady, keptBest, leastOverHalves};
 ghost use Rattle.values.specs.Worths.{worthOf};
 
 // The upper cores take some items, with choices larger by `shift`, and of all others the lower cores keep what is best.
 pub fn least_over_halves(
     items: usize,
     shift: u64,
-    weights: &[u64],
     tops: &[u64],
     topkeys: &[u64],
     refusal: &[u64],
@@ -22,13 +21,12 @@ pub fn least_over_halves(
     costs: &mut [u64],
     keys: &mut [u64],
 ) -> Worth
-    requires { ⌜ HalvesReady items shift (now weights) (now tops) (now topkeys) (now refusal) (now must) (now costs) (now keys) ⌝ }
-    ensures { λ r. ⌜ ((load cost : List ℕ) →
-        worthOf r ≡ leastOverHalves items shift (now (tops .entry)) (now (topkeys .entry)) load cost (now (refusal .entry)) (now (must .entry))
-        (now (costs .entry)) (now (keys .entry))) ⌝ }
+    requires { ⌜ HalvesReady items shift (now tops) (now topkeys) (now refusal) (now must) (now costs) (now keys) ⌝ }
+    ensures { λ r. ⌜ worthOf r ≡ leastOverHalves items shift (now (tops .entry)) (now (topkeys .entry))
+        (now (refusal .entry)) (now (must .entry)) (now (costs .entry)) (now (keys .entry)) ⌝ }
 {
-    let mut moved = [0u64; 4096];
-    move_keys(items, shift, weights, topkeys, &mut moved);
+    let mut moved = [0u64; MOST_SETS];
+    move_keys(items, shift, topkeys, &mut moved);
     let all = sets_of(items);
     refuse(all, 0, 0, refusal, must, costs, keys);
     least_parted(all, 0, 0, tops, &moved, costs, keys)
@@ -43,8 +41,8 @@ pub fn least_on_one(
     keys: &mut [u64],
 ) -> Worth
     requires { ⌜ OneReady items (now refusal) (now must) (now costs) (now keys) ⌝ }
-    ensures { λ r. ⌜ ((load cost : List ℕ) →
-        worthOf r ≡ leastOnOne items load cost (now (refusal .entry)) (now (must .entry)) (now (costs .entry)) (now (keys .entry))) ⌝ }
+    ensures { λ r. ⌜ worthOf r
+        ≡ keptBest items (now (refusal .entry)) (now (must .entry)) (now (costs .entry)) (now (keys .entry)) (every items) ⌝ }
 {
     let all = sets_of(items);
     refuse(all, 0, 0, refusal, must, costs, keys);

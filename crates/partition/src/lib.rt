@@ -1,10 +1,10 @@
-// Sets of items over several cores: the least values of all sets on some cores, and on all cores of what is kept.
+// Sets of items over several cores, from the table of one core: the least values of all sets on some cores, and on all cores of
+// what is kept.
 mod cores;
 mod halves;
 mod keeping;
 mod splits;
 
 pub use cores::fill_best;
-pub use cores::fill_weights;
 pub use halves::least_on_one;
 pub use halves::least_over_halves;

@@ -1,37 +1,104 @@
--- What the search finds in what it is offered for a problem is the problem's best plan.
-use Prim.Native.Nat.{ℕ, _≤_}
+-- What is found in what is offered for a problem is the problem's best plan: on light sites, and from the table of one core.
+use Prim.Native.Nat.{ℕ, _<_}
 use mathlib.Core.Bool.{Bool}
 use mathlib.Core.List.{List}
 use mathlib.Core.Path.{_≡_, refl, sym, ap, _∙_}
-use lib.ListN.{length}
+use native.Mathlib.Omega.{arith}
+use Rattle.laws.specs.Lists.{onto}
 use Rattle.instance.specs.Node.{Problem, taskCount, levelCount, span}
 use Rattle.instance.specs.Valid.{Valid}
-use Rattle.assignment.specs.AlikeLaws.{alike-sym, allowed-alike, cost-alike, best-alike}
-use Rattle.search.specs.Found.{Searched, optionsOf as offeredOptions}
-use Rattle.assignment.specs.Offered.{offered}
+use Rattle.assignment.specs.AlikeLaws.{cost-alike, best-alike, core-table-alike}
+use Rattle.assignment.specs.Assignment.{Best, totalCost}
+use Rattle.assignment.specs.CoreTables.{CoreTable}
+use Rattle.assignment.specs.Keys.{digits}
+use Rattle.assignment.specs.Sets.{tableAt}
+use Rattle.knapsack.specs.Offered.{offersOf}
+use Rattle.knapsack.specs.Offers.{loadOptions}
+use Rattle.knapsack_tables.specs.TabledKnapsacks.{KnapsacksFilled, filled-core-table}
+use Rattle.light.specs.Light.{OfferFits}
+use Rattle.partition.specs.Tables.{one-core-table}
+use Rattle.search.specs.Found.{Searched, BestFound}
+use Rattle.search.specs.FoundLaws.{search-is-best}
+use Rattle.search.specs.Limits.{SearchReady}
 use Rattle.search.specs.declared.Found.the-variants as Found
 use Rattle.search.specs.declared.Found.{Found}
+use Rattle.search.specs.declared.Shape.{Shape}
+use Rattle.values.specs.BestKeys.{BestKey}
+use Rattle.values.specs.Items.{itemsOf}
+use Rattle.values.specs.declared.value.Worth.{Worth}
 use Rattle.planner.specs.BestChoices.{foundOf, chosenOnto}
-use Rattle.planner.specs.BestPlanLaws.{best-is-best-plan, none-is-none}
+use Rattle.planner.specs.BestPlanLaws.{choice-count, best-is-best-plan, none-is-none}
 use Rattle.planner.specs.CostLaws.{cost-is-total}
-use Rattle.planner.specs.OfferedLaws.{shapeOf, offered-within-limits, offered-alike}
+use Rattle.planner.specs.OfferedBounds.{offered-affordable, offered-refusal-at-most}
+use Rattle.planner.specs.OfferedLaws.{offered-alike, offered-items}
 use Rattle.planner.specs.OfferedOptions.{OptionsOffered}
-use Rattle.planner.specs.OptionsLaws.{passing-is-allowed}
+use Rattle.planner.specs.OptionsLaws.{item-count}
 use Rattle.planner.specs.OptionsOf.{optionsOf}
 use Rattle.planner.specs.Planning.{bestPlan}
 
-module _ (p : Problem) {load spent refusal : List ℕ} {must : List Bool} (v : Valid p)
-    (o : OptionsOffered p (taskCount p) load spent refusal must) where
-  pub searched-is-chosen : (before after : List ℕ) → taskCount p ≤ length before → (r : Found) →
-      Searched (shapeOf p) load spent refusal must before after r →
-      (r ≡ foundOf p (bestPlan p)) × (after ≡ chosenOnto (bestPlan p) before)
-  unfolding offeredOptions offered optionsOf
-  searched-is-chosen before after room (Found.Cheapest least) (within, found) =
-      let best = best-alike (p .cores) (levelCount p) (span p) (offered-alike v o) (found .is-best) in
-      let total = cost-alike (p .cores) (levelCount p) (span p) (offered-alike v o) (found .is-best .allowed) in
-      let passes = passing-is-allowed p (found .plan) .1 (best .allowed) in
-      rw (best-is-best-plan p best) (ap Found.Cheapest (sym (found .costs) ∙ total ∙ sym (cost-is-total p (found .plan) passes)), found .written)
-  searched-is-chosen before after room Found.NoPlan (within, none-allowed, unchanged) =
-      rw (none-is-none p (λ plan allowed. none-allowed plan (allowed-alike (p .cores) (levelCount p) (span p) (alike-sym (offered-alike v o)) allowed)))
-      (refl, unchanged)
-  searched-is-chosen before after room Found.OutOfLimits (beyond, unchanged) = absurd (beyond (offered-within-limits v o before room))
+abbrev pub shapeOf : Problem → Shape
+shapeOf p = record { items = taskCount p; cores = p .cores; levels = levelCount p }
+
+-- the answer and the plan afterwards are those of the best plan
+pub record Chosen (p : Problem) (before after : List ℕ) (r : Found) : Type 0 where
+  pub found : r ≡ foundOf p (bestPlan p)
+  pub written : after ≡ chosenOnto (bestPlan p) before
+
+module _ (p : Problem) where
+  best-chosen : {plan before after : List ℕ} {cost : ℕ} → Best (optionsOf p) plan → totalCost (optionsOf p) plan ≡ cost →
+      after ≡ onto plan before → Chosen p before after (Found.Cheapest cost)
+  best-chosen {plan} best costs written =
+      record {
+        found = rw (best-is-best-plan p best) (ap Found.Cheapest (sym costs ∙ sym (cost-is-total p plan (choice-count p (best .allowed)))));
+        written = rw (best-is-best-plan p best) written;
+      }
+
+  found-is-chosen : (before after : List ℕ) (r : Found) → BestFound (optionsOf p) before after r → Chosen p before after r
+  found-is-chosen before after (Found.Cheapest cost) best = best-chosen (best .is-best) (best .costs) (best .written)
+  found-is-chosen before after Found.NoPlan (none-allowed, unchanged) =
+      record { found = rw (none-is-none p none-allowed); written = rw (none-is-none p none-allowed) unchanged }
+
+module _ {p : Problem} {load cost refusal : List ℕ} {must : List Bool} (v : Valid p)
+    (o : OptionsOffered p (taskCount p) load cost refusal must) where
+  pub offer-fits : OfferFits (taskCount p) (levelCount p) (span p) load cost refusal must
+  offer-fits =
+      record {
+        items-limited = v .task-count;
+        affordable = offered-affordable v o;
+        refusals-for-all = omega (arith, o .refusal-length, v .task-count);
+        musts-for-all = omega (arith, o .must-length, v .task-count);
+        refusals-limited = offered-refusal-at-most v o;
+      }
+
+  pub light-is-chosen : (worth : Worth) {before after : List ℕ} →
+      ((cores : ℕ) → 0 < cores → BestKey (loadOptions cores (levelCount p) (span p) (offersOf load cost (taskCount p)) (itemsOf refusal must (taskCount p))) (taskCount p) worth) →
+      after ≡ onto (digits (taskCount p) (worth .key)) before → Chosen p before after (Found.Cheapest (worth .cost))
+  light-is-chosen worth light written =
+      let best = rw (offered-items v o) at (light (p .cores) (v .cores .at-least)) in
+      let alike = offered-alike v o in
+      best-chosen p (best-alike alike (best .is-best)) (sym (cost-alike alike (best .is-best .allowed)) ∙ best .costs) written
+
+  module _ {costs₀ keys₀ costs keys : List ℕ} (filled : KnapsacksFilled (taskCount p) (levelCount p) (span p) load cost costs₀ keys₀ costs keys) where
+    pub search-ready : SearchReady (shapeOf p) refusal must costs keys
+    search-ready =
+        record {
+          shape-limited =
+              record {
+                items = v .task-count;
+                some-core = v .cores .at-least;
+                cores = v .cores .at-most;
+                levels = v .level-count .at-most;
+              };
+          refusals-for-all = omega (arith, o .refusal-length, v .task-count);
+          musts-for-all = omega (arith, o .must-length, v .task-count);
+          refusals-limited = offered-refusal-at-most v o;
+          core-table = one-core-table (filled .tabled) (filled .costs-limited) (filled .keyed);
+        }
+
+    core-table : CoreTable (optionsOf p) (tableAt (taskCount p) costs keys)
+    core-table = core-table-alike (offered-alike v o) (filled-core-table filled (p .cores) (optionsOf p .items) (item-count p))
+
+    pub searched-is-chosen : {before after : List ℕ} {r : Found} → Searched (shapeOf p) refusal must costs keys before after r → Chosen p before after r
+    unfolding optionsOf
+    searched-is-chosen {before} {after} {r} searched =
+        found-is-chosen p before after r (search-is-best search-ready searched (optionsOf p) refl refl (sym (offered-items v o)) core-table)

@@ -5,7 +5,8 @@ use mathlib.Core.Logic.{_↔_, ⊎-elim}
 use mathlib.Core.Option.{none, some}
 use mathlib.Core.Path.{_≡_, refl}
 use native.Mathlib.Omega.{arith}
-use Rattle.instance.specs.Node.{Problem}
+use lib.ListN.{length}
+use Rattle.instance.specs.Node.{Problem, taskCount}
 use Rattle.refusals.specs.declared.Verdict.the-variants.{Accepted}
 use Rattle.drawings.specs.Drawings.{Drawing}
 use Rattle.drawings.specs.FitLaws.{passing-table-passes, drawn-plan-passes, passing-plan-is-drawn}
@@ -13,7 +14,7 @@ use Rattle.tables.specs.Periods.{Periodic}
 use Rattle.plan_rules.specs.Plans.{planPasses}
 use Rattle.drawings.specs.RepeatedTableLaws.{drawing-serves-for-ever}
 use Rattle.tables.specs.Tables.{tableOf}
-use Rattle.planner.specs.BestPlanLaws.{best-plan-is-best, best-plan-passes, no-best-plan, none-is-none}
+use Rattle.planner.specs.BestPlanLaws.{choice-count, best-plan-is-best, best-plan-passes, no-best-plan, none-is-none}
 use Rattle.planner.specs.CheapestLaws.{NoWorsePlan}
 use Rattle.planner.specs.CostLaws.{cost-is-total}
 use Rattle.planner.specs.OptionsLaws.{passing-is-allowed}
@@ -34,12 +35,15 @@ module _ (p : Problem) (periodic : Periodic p) where
     passes : planPasses p plan ≡ Accepted
     passes = best-plan-passes p answered
 
+    count : (plan : List ℕ) → planPasses p plan ≡ Accepted → length plan ≡ taskCount p
+    count plan passes = choice-count p (passing-is-allowed p plan .0 passes)
+
     no-worse-than-drawings : {other slots : List ℕ} → Drawing p other slots → NoWorsePlan p plan other
     unfolding optionsOf
     no-worse-than-drawings {other} d =
         let other-passes = drawn-plan-passes p periodic other d in
         let no-worse = best-plan-is-best p answered .no-worse other (passing-is-allowed p other .0 other-passes) in
-        rw (cost-is-total p plan passes, cost-is-total p other other-passes) no-worse
+        rw (cost-is-total p plan (count plan passes), cost-is-total p other (count other other-passes)) no-worse
 
     pub answered-is-best-drawing : BestDrawing p plan (tableOf p plan)
     answered-is-best-drawing =

@@ -15,7 +15,7 @@ use Rattle.assignment.specs.Assignment.{Item, Options, ChoicesAllowed, Allowed,
 use Rattle.assignment.specs.SearchTheorem.{best-unique}
 use Rattle.planner.specs.Planning.{passes, isAllowed, bestPlan, choiceLists}
 use Rattle.planner.specs.OptionsOf.{optionsOf}
-use Rattle.planner.specs.OptionsLaws.{item-count, passing-is-allowed}
+use Rattle.planner.specs.OptionsLaws.{item-count, passing-choices, passing-is-allowed}
 use Rattle.planner.specs.CostLaws.{cost-is-total}
 use Rattle.planner.specs.CheapestLaws.{NoWorsePlan, Found, found, missing, firstCheapest-found}
 use Rattle.planner.specs.ChoiceListLaws.{Choices, listed-iff, choiceLists-ascend}
@@ -58,11 +58,14 @@ module _ (p : Problem) where
   unfolding optionsOf
   allowed-is-tried plan allowed = listed-iff _ _ _ .1 (rw (item-count p) at (choices-in-range (allowed .choices)))
 
+  pub choice-count : {plan : List ℕ} → Allowed (optionsOf p) plan → length plan ≡ taskCount p
+  choice-count {plan} allowed = passing-choices p plan (passing-is-allowed p plan .1 allowed) .one-choice-per-task
+
   no-worse-plan-is-no-worse : {plan other : List ℕ} → Allowed (optionsOf p) plan → Allowed (optionsOf p) other →
       NoWorsePlan p plan other → NoWorse (optionsOf p) plan other
   unfolding optionsOf
   no-worse-plan-is-no-worse {plan} {other} allowed rival ahead =
-      rw (cost-is-total p plan (passing-is-allowed p plan .1 allowed), cost-is-total p other (passing-is-allowed p other .1 rival)) at ahead
+      rw (cost-is-total p plan (choice-count allowed), cost-is-total p other (choice-count rival)) at ahead
 
   answer-of-found : {answer : Option (List ℕ)} → Found p (choiceLists (mostChoice p) (taskCount p)) answer → Answer (optionsOf p) answer
   answer-of-found (found {plan} listed passes ahead) =

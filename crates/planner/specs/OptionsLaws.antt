@@ -1,32 +1,27 @@
 -- A problem's plans are the plans of its options: those that pass are those that are allowed.
-use Prim.Native.Nat.{ℕ, _+_, _*_, _≤_, _<_}
-use mathlib.Core.Bool.{Bool, true, false, cond}
+use Prim.Native.Nat.{ℕ, _+_, _≤_, _<_}
+use mathlib.Core.Bool.{true}
 use mathlib.Core.List.{List, [], _∷_}
 use mathlib.Core.Logic.{_↔_}
-use mathlib.Core.Path.{_≡_, refl, sym, _∙_}
-use native.Mathlib.Nat.{mul-zero}
+use mathlib.Core.Path.{_≡_, sym, _∙_}
 use lib.ListN.{length, getD, length-map, List·getD-map}
-use borrow.Author.Tests.{leb-true, le-leb, eqb-true, eq-eqb, not-false}
-use Rattle.laws.specs.SumLaws.{sum-cong}
+use borrow.Author.Tests.{eqb-true, eq-eqb, not-false}
 use Rattle.laws.specs.SumOrderLaws.{total-is-sum}
 use Rattle.laws.specs.Sums.{sum}
 use Rattle.ranges.specs.Limits.{mayNotBeRefused}
-use Rattle.instance.specs.Node.{Problem, levelCount, taskCount, taskAt, noTask, span}
+use Rattle.instance.specs.Node.{Problem, levelCount, taskCount, taskAt, noTask}
 use Rattle.instance.specs.declared.Task.{Task}
 use Rattle.refusals.specs.declared.Verdict.the-variants.{Accepted}
 use Rattle.plan_rules.specs.AllowedPlanLaws.{choices-pass}
 use Rattle.plan_rules.specs.AllowedPlans.{AllowedPlan}
 use Rattle.plan_rules.specs.Plans.{mostChoice, choicesPass, fits, coresFit, planPasses}
 use Rattle.plan_rules.specs.Quantities
-use Rattle.plan_rules.specs.Quantities.{choiceAt, keeps, jobs, jobTicks, ticksOn, loadOn}
+use Rattle.plan_rules.specs.Quantities.{choiceAt}
 use Rattle.refusals.specs.VerdictLaws.{andThen-accepts, none-refused}
-use Rattle.assignment.specs.Assignment.{Item, choiceLoad, coreLoad, ChoiceAllowed, ChoicesAllowed, Allowed}
+use Rattle.assignment.specs.Assignment.{Item, corePattern, ChoiceAllowed, ChoicesAllowed, Allowed}
+use Rattle.planner.specs.CorePatternLaws.{fits-of-pattern}
 use Rattle.planner.specs.ChoiceLaws.{AllowedAt, allowed-at, at-allowed}
-use Rattle.planner.specs.OptionsOf.{jobsOf, loadAt, itemOf, optionsOf}
-
-scaled-part : (a : ℕ) (b : Bool) (x : ℕ) → a * cond b x 0 ≡ cond b (a * x) 0
-scaled-part a true x = refl
-scaled-part a false x = mul-zero a
+use Rattle.planner.specs.OptionsOf.{itemOf, optionsOf}
 
 module _ (p : Problem) where
   pub item-count : length (optionsOf p .items) ≡ taskCount p
@@ -90,31 +85,12 @@ module _ (p : Problem) where
   total-over-tasks part total none more plan e =
       total-is-sum (itemOf p noTask) part total none more (optionsOf p .items) plan (e ∙ sym item-count) ∙ simp (item-at, item-count)
 
-  load-is-choiceLoad : (plan : List ℕ) (k i : ℕ) →
-      loadOn p plan k i ≡ choiceLoad (levelCount p) k (itemOf p (taskAt p i)) (choiceAt plan i)
-  unfolding loadOn ticksOn keeps jobs jobTicks choiceLoad itemOf loadAt jobsOf
-  load-is-choiceLoad plan k i = scaled-part (jobs p i) (keeps p plan k i) (jobTicks p plan i)
-
-  pub core-load-by-task : (plan : List ℕ) (k : ℕ) → length plan ≡ taskCount p →
-      coreLoad (levelCount p) k (optionsOf p .items) plan
-      ≡ sum (λ i. choiceLoad (levelCount p) k (itemOf p (taskAt p i)) (choiceAt plan i)) (taskCount p)
-  unfolding coreLoad
-  core-load-by-task plan k e =
-      total-over-tasks (choiceLoad (levelCount p) k) (coreLoad (levelCount p) k) (λ plan. refl) (λ item items c plan. refl) plan e
-
-  core-load-is-total : (plan : List ℕ) (k : ℕ) → length plan ≡ taskCount p →
-      Quantities.coreLoad p plan k ≡ coreLoad (levelCount p) k (optionsOf p .items) plan
-  unfolding Quantities.coreLoad
-  core-load-is-total plan k e = sum-cong _ _ _ (λ i h. load-is-choiceLoad plan k i) ∙ sym (core-load-by-task plan k e)
-
-  cores-fit-iff : (plan : List ℕ) → length plan ≡ taskCount p →
-      (coresFit p plan ≡ Accepted) ↔ ((k : ℕ) → k < p .cores → coreLoad (levelCount p) k (optionsOf p .items) plan ≤ span p)
-  unfolding coresFit fits
-  cores-fit-iff plan e = (
-    λ accepted k h.
-        let fit = leb-true (Quantities.coreLoad p plan k) (span p) (not-false _ (none-refused _ _ _ .0 accepted k h)) in
-        rw (core-load-is-total plan k e) at fit,
-    λ fit. none-refused _ _ _ .1 (λ k h. rw (core-load-is-total plan k e, le-leb _ _ (fit k h))),
+  cores-fit-iff : (plan : List ℕ) →
+      (coresFit p plan ≡ Accepted) ↔ ((k : ℕ) → k < p .cores → fits p (corePattern (levelCount p) k plan) 0 ≡ true)
+  unfolding coresFit
+  cores-fit-iff plan = (
+    λ accepted k h. fits-of-pattern p plan k ∙ not-false _ (none-refused _ _ _ .0 accepted k h),
+    λ fit. none-refused _ _ _ .1 (λ k h. rw (sym (fits-of-pattern p plan k) ∙ fit k h)),
   )
 
   pub passing-choices : (plan : List ℕ) → planPasses p plan ≡ Accepted → AllowedPlan p plan
@@ -128,12 +104,12 @@ module _ (p : Problem) where
         let allowed = passing-choices plan passes in
         record {
           choices = choices-allowed-iff plan .0 allowed;
-          cores-fit = cores-fit-iff plan (allowed .one-choice-per-task) .0 (andThen-accepts (choicesPass p plan) _ .0 passes .1);
+          cores-admit = cores-fit-iff plan .0 (andThen-accepts (choicesPass p plan) _ .0 passes .1);
         },
     λ allowed.
         let choices = choices-allowed-iff plan .1 (allowed .choices) in
         andThen-accepts _ _ .1 (
           choices-pass p plan .1 choices,
-          cores-fit-iff plan (choices .one-choice-per-task) .1 (allowed .cores-fit),
+          cores-fit-iff plan .1 (allowed .cores-admit),
         ),
   )

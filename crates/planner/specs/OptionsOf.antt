@@ -1,29 +1,46 @@
--- A problem as the search has it: what each task asks of a core and costs, at each level and where it is refused.
+-- A problem as the search has it. A pattern, what one core runs, is a plan on the first core alone: whether a core admits it and
+-- what it costs is said by that core's fit and energy.
 use Prim.Native.Nat.{ℕ, _*_, _/_}
 use mathlib.Core.List.{map}
 use lib.Dec.{eqb}
 use Rattle.ranges.specs.Limits.{mayNotBeRefused}
 use Rattle.instance.specs.Node.{Problem, levelCount, levelAt, span}
 use Rattle.instance.specs.declared.Task.{Task}
+use Rattle.plan_rules.specs.Plans.{fits}
 use Rattle.plan_rules.specs.Quantities.{ticks}
+use Rattle.prices.specs.Prices.{coreEnergy}
 use Rattle.assignment.specs.Assignment.{Item, Options}
+use Rattle.knapsack.specs.Offers.{Offer}
 
 -- "Jobs in a span: L / p."
 unfoldable pub jobsOf : Problem → Task → ℕ
 jobsOf p t = span p / t .period
 
--- "jobs × ticks": what the task asks of a core over a span, at level l
-unfoldable pub loadAt : Problem → Task → ℕ → ℕ
-loadAt p t l = jobsOf p t * ticks (t .cycles) (levelAt p l .speed)
-
 unfoldable pub itemOf : Problem → Task → Item
 itemOf p t =
     record {
-      load = loadAt p t;
-      cost = λ l. p .weights .energy * (loadAt p t l * levelAt p l .power);
       refusal = p .weights .penalty * (jobsOf p t * t .penalty);
       must = eqb (t .penalty) mayNotBeRefused;
     }
 
+-- "jobs × ticks": what the task asks of a core over a span, at level l
+unfoldable pub loadAt : Problem → Task → ℕ → ℕ
+loadAt p t l = jobsOf p t * ticks (t .cycles) (levelAt p l .speed)
+
+-- what the knapsacks are offered for a task: its load and its weighted energy at each level
+unfoldable pub offerOf : Problem → Task → Offer
+offerOf p t =
+    record {
+      load = loadAt p t;
+      cost = λ l. p .weights .energy * (loadAt p t l * levelAt p l .power);
+    }
+
 unfoldable pub optionsOf : Problem → Options
-optionsOf p = record { cores = p .cores; levels = levelCount p; capacity = span p; items = map (itemOf p) (p .tasks) }
+optionsOf p =
+    record {
+      cores = p .cores;
+      levels = levelCount p;
+      items = map (itemOf p) (p .tasks);
+      admits = λ pattern. fits p pattern 0;
+      coreCost = λ pattern. p .weights .energy * coreEnergy p pattern 0;
+    }

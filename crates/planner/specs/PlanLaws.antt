@@ -34,7 +34,6 @@ planGiven answer plan table = record { answer = answer; plan = plan; table = tab
 -- what is left to do with a plan buffer once its first n choices are chosen: table and price of these
 abbrev pub planFrom : Problem → ℕ → List ℕ → Found → List ℕ → PlanOutcome
 planFrom p n table Found.NoPlan plan = planRefused Refusal.NoPlan plan table
-planFrom p n table Found.OutOfLimits plan = planRefused Refusal.NoPlan plan table
 planFrom p n table (Found.Cheapest c) plan =
     let chosen = take n plan in planGiven (Priced.Cost (priceOf p chosen)) plan (onto (tableOf p chosen) table)
 

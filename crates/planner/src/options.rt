@@ -1,47 +1,55 @@
-// A problem as the search takes it: what each task asks of a core and costs, at each level and where it is refused.
+// What is offered for an instance: what each task asks of a core and costs there, at each level, and what refusing it costs.
 use instance::Instance;
 use instance::Task;
 use plan_rules::jobs_in;
 use plan_rules::ticks_of;
 use ranges::MAY_NOT_BE_REFUSED;
+use ranges::MOST_LEVELS;
+use ranges::MOST_TASKS;
+use values::STRIDE;
 ghost use Prim.Native.Nat.{_+_, _*_, _≤_, _<_};
 ghost use mathlib.Core.Path.{_≡_};
 ghost use Rattle.instance.specs.Held.{Sound, problemIn};
-ghost use Rattle.ranges.specs.Limits.{mostPower};
-ghost use Rattle.instance.specs.Node.{span, taskAt, taskCount};
+ghost use Rattle.instance.specs.Node.{taskAt, taskCount};
+ghost use Rattle.ranges.specs.Limits.{mostLevels, mostPower, mostSpan, mostWeight};
 ghost use Rattle.planner.specs.OfferedOptions.{LevelsOffered, OptionsOffered};
-ghost use Rattle.planner.specs.OptionsOf.{itemOf};
+
+// One for each task and level: task i at level l has place i * STRIDE + l.
+pub(crate) const OFFERS: usize = MOST_TASKS as usize * MOST_LEVELS as usize;
 
 // What a load costs at a level of this power, where a core takes it. A load that no core takes is never chosen, and its
 // cost need not fit 64 bits.
-fn cost_of(inst: Instance, load: u64, power: u32) -> u64
-    requires { ⌜ Sound inst ⌝ }
-    requires { ⌜ power ≤ mostPower ⌝ }
-    ensures { λ r. ⌜ (load ≤ span (problemIn inst) → r ≡ inst .weights .energy * (load * power)) ⌝ }
+fn cost_of(weight: u32, span: u32, load: u64, power: u32) -> u64
+    requires { ⌜ (weight ≤ mostWeight) × (span ≤ mostSpan) × (power ≤ mostPower) ⌝ }
+    ensures { λ r. ⌜ (load ≤ span → r ≡ weight * (load * power)) ⌝ }
 {
-    let span = inst.span as u64;
-    if span < load {
+    if (span as u64) < load {
         return 0;
     }
-    inst.weights.energy as u64 * (load * power as u64)
+    weight as u64 * (load * power as u64)
 }
 
-// What refusing a task costs.
-fn refusal_of(inst: Instance, task: Task) -> u64
-    requires { ⌜ Sound inst ⌝ }
-    ensures { λ r. ⌜ r ≡ itemOf (problemIn inst) task .refusal ⌝ }
+// What refusing a task costs that misses so many jobs.
+fn refusal_of(weight: u32, missed: u32, penalty: u32) -> u64
+    requires { ⌜ (weight ≤ mostWeight) × (missed ≤ mostSpan) ⌝ }
+    ensures { λ r. ⌜ r ≡ weight * (missed * penalty) ⌝ }
 {
-    let missed = jobs_in(inst.span, task.period);
-    inst.weights.penalty as u64 * (missed as u64 * task.penalty as u64)
+    weight as u64 * (missed as u64 * penalty as u64)
 }
 
 // Writes loads and costs of task i after those of the tasks before it.
-fn fill_levels(inst: Instance, task: Task, i: usize, load: &mut [u64; 96], cost: &mut [u64; 96])
+fn fill_levels(
+    inst: Instance,
+    task: Task,
+    i: usize,
+    load: &mut [u64; OFFERS],
+    cost: &mut [u64; OFFERS],
+)
     requires { ⌜ Sound inst ⌝ }
     requires { ⌜ i < taskCount (problemIn inst) ⌝ }
     requires { ⌜ task ≡ taskAt (problemIn inst) i ⌝ }
-    requires { ⌜ LevelsOffered (problemIn inst) (i * 8) (now load) (now cost) ⌝ }
-    ensures { λ _. ⌜ LevelsOffered (problemIn inst) (i * 8 + 8) (now (load .exit)) (now (cost .exit)) ⌝ }
+    requires { ⌜ LevelsOffered (problemIn inst) (i * mostLevels) (now load) (now cost) ⌝ }
+    ensures { λ _. ⌜ LevelsOffered (problemIn inst) (i * mostLevels + mostLevels) (now (load .exit)) (now (cost .exit)) ⌝ }
 {
     let jobs = jobs_in(inst.span, task.period);
     let mut l = 0;
@@ -49,20 +57,20 @@ fn fill_levels(inst: Instance, task: Task, i: usize, load: &mut [u64; 96], cost:
         let level = inst.levels[l];
         let ticks = ticks_of(task.cycles, level.speed);
         let asked = jobs as u64 * ticks as u64;
-        let at = i * 8 + l;
+        let at = i * STRIDE + l;
         load[at] = asked;
-        cost[at] = cost_of(inst, asked, level.power);
+        cost[at] = cost_of(inst.weights.energy, inst.span, asked, level.power);
         l += 1;
     }
 }
 
-// Writes what the search is offered for every task.
+// Writes what is offered for every task.
 pub(crate) fn fill_options(
     inst: Instance,
-    load: &mut [u64; 96],
-    cost: &mut [u64; 96],
-    refusal: &mut [u64; 12],
-    must: &mut [bool; 12],
+    load: &mut [u64; OFFERS],
+    cost: &mut [u64; OFFERS],
+    refusal: &mut [u64; MOST_TASKS as usize],
+    must: &mut [bool; MOST_TASKS as usize],
 )
     requires { ⌜ Sound inst ⌝ }
     requires { ⌜ OptionsOffered (problemIn inst) 0 (now load) (now cost) (now refusal) (now must) ⌝ }
@@ -73,7 +81,8 @@ pub(crate) fn fill_options(
     while i < inst.taskcount {
         let task = inst.tasks[i];
         fill_levels(inst, task, i, load, cost);
-        refusal[i] = refusal_of(inst, task);
+        let missed = jobs_in(inst.span, task.period);
+        refusal[i] = refusal_of(inst.weights.penalty, missed, task.penalty);
         must[i] = task.penalty == MAY_NOT_BE_REFUSED;
         i += 1;
     }

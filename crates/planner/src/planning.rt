@@ -36,8 +36,7 @@ fn plan_read(inst: Instance, plan: &mut [u32], table: &mut [u8]) -> Priced
             fill_table(inst, chosen, table);
             return Priced::Cost(price_of(inst, chosen));
         }
-        // never out of limits: an instance is within those of the search
-        Found::NoPlan | Found::OutOfLimits => return Priced::Refused(Refusal::NoPlan),
+        Found::NoPlan => return Priced::Refused(Refusal::NoPlan),
     }
 }
 

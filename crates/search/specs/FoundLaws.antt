@@ -1,112 +1,99 @@
--- From the code's choice to the best plan.
-use Prim.Native.Nat.{ℕ, _^_, _≤_, _<_}
-use mathlib.Core.Path.{_≡_, sym, _∙_}
-use mathlib.Core.Logic.{inl, inr}
+-- From the value that the table comes to, to the answer and to the best plan.
+use Prim.Native.Nat.{ℕ, suc, pred, _+_, _*_, _^_, _≤_, _<_}
+use mathlib.Core.Path.{_≡_, refl, subst}
 use mathlib.Core.Bool.{Bool}
 use mathlib.Core.List.{List}
+use native.Mathlib.Nat.{zero-add, mul-le-mul}
 use native.Mathlib.Omega.{arith}
 use lib.ListN.{length}
-use Rattle.assignment.specs.Assignment.{Options, totalCost, Allowed, Best}
-use Rattle.assignment.specs.Values.{pair, Attained}
-use Rattle.assignment.specs.Words.{noCost, valueOf, words-none, words-pair}
-use Rattle.assignment.specs.Knapsacks.{keyBase}
-use Rattle.assignment.specs.Choice.{chosen, digits}
-use Rattle.assignment.specs.ChoiceLaws.{kept-set, chosen-least}
-use Rattle.assignment.specs.Keeping.{planKey, planWorth}
-use Rattle.assignment.specs.KeyLaws.{keeps-in-base, key-below}
+use Rattle.laws.specs.Lists.{onto}
+use Rattle.laws.specs.JoinedLaws.{length-listOf}
+use Rattle.assignment.specs.Limits.{mostCost, mostCoreCost}
+use Rattle.assignment.specs.Assignment.{Options}
+use Rattle.assignment.specs.Keys.{keyBase, digits}
+use Rattle.assignment.specs.Values.{Value, none, pair, Within}
+use Rattle.assignment.specs.Words.{noCost, valueOf, words-none, words-pair, words-within}
+use Rattle.assignment.specs.Sets.{tableAt}
+use Rattle.assignment.specs.CoreTables.{CoreTable}
+use Rattle.assignment.specs.Partition.{best}
+use Rattle.assignment.specs.Choice.{chosen}
+use Rattle.assignment.specs.Bounds.{bounded-within, best-bounded}
+use Rattle.assignment.specs.Refusing.{every}
+use Rattle.assignment.specs.RefusingLaws.{holding-is-refusing}
 use Rattle.assignment.specs.SearchTheorem.{BestAnswers, search-finds-best}
-use Rattle.assignment.specs.Offered.{offered, Affordable}
-use Rattle.light.specs.Light.{OfferFits}
-use Rattle.partition.specs.OfferedLaws.{offered-searchable}
-use Rattle.partition.specs.BestTables.{Searchable}
-use Rattle.partition.specs.CoreLaws.{room-for-sets}
-use Rattle.knapsack_tables.specs.TabledKnapsacks.{KnapsacksFit}
-use Rattle.search.specs.Limits.{WithinLimits}
-use Rattle.search.specs.Found.{optionsOf}
-use Rattle.values.specs.BestKeys.{BestKey, EncodesBest}
-use Rattle.values.specs.Worths.{worthOf}
+use Rattle.partition.specs.HalvesLaws.{every-length}
+use Rattle.partition.specs.ItemsFrom.{items-from-first}
+use Rattle.partition.specs.RefusingBounds.{refusing-within}
+use Rattle.partition.specs.Tables.{one-core-bounded}
+use Rattle.values.specs.Items.{itemAt, itemsOf}
+use Rattle.search.specs.Found.{foundValue, Tells, Searched, BestFound}
+use Rattle.search.specs.Limits.{SearchReady}
 use Rattle.search.specs.declared.Shape.{Shape}
-use Rattle.values.specs.declared.value.Worth.{Worth}
+use Rattle.search.specs.declared.Found.{Found}
+use Rattle.search.specs.declared.Found.the-variants.{Cheapest, NoPlan}
 
--- what a chosen pair of cost and key tells
-module _ (o : Options) (n : ℕ) (given : Searchable o n) (worth : Worth) (is : worthOf worth ≡ chosen o) where
-  abbrev cost : ℕ
-  cost = worth .cost
+pub items-counted : (refusal : List ℕ) (must : List Bool) (n : ℕ) → length (itemsOf refusal must n) ≡ n
+unfolding itemsOf
+items-counted refusal must n = length-listOf (itemAt refusal must) n
 
-  abbrev key : ℕ
-  key = worth .key
+module _ {shape : Shape} {refusal : List ℕ} {must : List Bool} {coreCosts coreKeys : List ℕ}
+    (ready : SearchReady shape refusal must coreCosts coreKeys) where
+  -- every choice is a digit of a key
+  pub few-choices : shape .cores * shape .levels < keyBase
+  unfolding keyBase
+  few-choices = omega (arith, mul-le-mul (ready .shape-limited .cores) (ready .shape-limited .levels))
 
-  answers : BestAnswers o (valueOf cost key)
-  answers = rw is (search-finds-best o (given .some-core) (given .few-choices))
+  found-within :
+      Within (shape .cores * mostCoreCost + shape .items * mostCost) (keyBase ^ shape .items) (foundValue shape refusal must coreCosts coreKeys)
+  unfolding foundValue chosen
+  found-within =
+      let n = shape .items in
+      let table = tableAt n coreCosts coreKeys in
+      let all : suc (pred (shape .cores)) ≡ shape .cores = omega (arith, ready .shape-limited .some-core) in
+      let value = holding-is-refusing (itemsOf refusal must n) (best (shape .levels) table (pred (shape .cores))) in
+      let bounded = best-bounded (one-core-bounded (ready .core-table)) (pred (shape .cores)) in
+      rw (value, items-counted refusal must n, ← items-from-first)
+      (refusing-within refusal must (keyBase ^ n) n 0 (shape .cores * mostCoreCost) (best (shape .levels) table (pred (shape .cores)))
+      (λ j h. rw (zero-add j) (ready .refusals-limited j h)) (bounded-within few-choices (rw all at bounded)) (every n) (every-length n))
 
-  key-of-plan : cost < noCost → key < keyBase ^ n
-  unfolding planWorth
-  key-of-plan real = go (chosen-least o (given .some-core) .attained)
-    where
-      real-pair : pair cost key ≡ chosen o
-      real-pair = sym (words-pair cost key real) ∙ is
+  module _ (cost key : ℕ) (is : valueOf cost key ≡ foundValue shape refusal must coreCosts coreKeys) where
+    pub found-key : cost < noCost → key < keyBase ^ shape .items
+    found-key real = let within = rw (← is) at found-within in words-within cost key real within .1
 
-      go : Attained (Allowed o) (planWorth o) (chosen o) → key < keyBase ^ n
-      go (inl e) = let z : _≡_ {A = ℕ} 0 1 = cc real-pair in absurd (omega arith)
-      go (inr (plan, allowed, e)) =
-          let same : key ≡ planKey (o .items) plan = cc real-pair in
-          let below = key-below (keeps-in-base (given .few-choices) (kept-set (allowed .choices) .keeps)) in
-          rw same (rw (given .items-counted) at below)
+    pub cheapest-told : {before after : List ℕ} → cost < noCost → after ≡ onto (digits (shape .items) key) before →
+        Searched shape refusal must coreCosts coreKeys before after (Cheapest cost)
+    cheapest-told real written = record { told = rw (← is, words-pair cost key real) (refl, written) }
 
-  best-found : cost < noCost → Best o (digits n key) × (totalCost (o .levels) (o .items) (digits n key) ≡ cost)
-  best-found real = rw (words-pair cost key real, given .items-counted) at answers
+    pub none-told : {before : List ℕ} → noCost ≤ cost → Searched shape refusal must coreCosts coreKeys before before NoPlan
+    none-told dear = record { told = rw (← is, words-none cost key dear) (refl, refl) }
 
-  pub chosen-encodes-best : EncodesBest o n worth
-  chosen-encodes-best =
-      record {
-        best = λ real.
-            let found = best-found real in record { is-best = found .0; costs = found .1; key-below = key-of-plan real };
-        none-allowed = λ dear. rw (words-none cost key dear) at answers;
-      }
+-- What the search answers is the best plan of any options with these cores, levels and items, where the table holds the least
+-- value of each set over the patterns that one of their cores admits.
+pub search-is-best : {shape : Shape} {refusal : List ℕ} {must : List Bool} {coreCosts coreKeys before after : List ℕ} {found : Found} →
+    SearchReady shape refusal must coreCosts coreKeys → Searched shape refusal must coreCosts coreKeys before after found → (o : Options) →
+    o .cores ≡ shape .cores → o .levels ≡ shape .levels → o .items ≡ itemsOf refusal must (shape .items) →
+    CoreTable o (tableAt (shape .items) coreCosts coreKeys) → BestFound o before after found
+unfolding foundValue
+search-is-best {shape} {refusal} {must} {coreCosts} {coreKeys} {before} {after} {found} ready searched o same-cores same-levels same-items core =
+    go (foundValue shape refusal must coreCosts coreKeys) (searched .told)
+    (subst (BestAnswers o) value
+    (search-finds-best o (tableAt (shape .items) coreCosts coreKeys) core (rw same-cores (ready .shape-limited .some-core))
+    (rw (same-cores, same-levels) (few-choices ready))))
+  where
+    value : chosen (o .levels) (o .items) (tableAt (shape .items) coreCosts coreKeys) (pred (o .cores))
+        ≡ foundValue shape refusal must coreCosts coreKeys
+    value = rw (same-cores, same-levels, same-items)
 
-module _ {shape : Shape} {load cost refusal : List ℕ} {must : List Bool} {plan : List ℕ}
-    (limits : WithinLimits shape load cost refusal must plan) where
-  pub affordable : Affordable (shape .items) (shape .levels) (shape .capacity) load cost
-  affordable =
-      record {
-        levels-limited = limits .shape-limited .levels;
-        capacity-limited = limits .shape-limited .capacity;
-        loads-for-all = limits .long-enough .loads-for-all;
-        costs-for-all = limits .long-enough .costs-for-all;
-        cheap = λ i l h under fits. limits .costs-limited i h l under fits;
-      }
+    counted : length (o .items) ≡ shape .items
+    counted = rw same-items (items-counted refusal must (shape .items))
 
-  pub searchable : Searchable (optionsOf shape load cost refusal must) (shape .items)
-  unfolding optionsOf
-  searchable =
-      offered-searchable load cost refusal must (limits .shape-limited .items) (limits .shape-limited .some-core)
-      (limits .shape-limited .cores) affordable
-
-  pub knapsacks-fit : {costs keys : List ℕ} → 4096 ≤ length costs → 4096 ≤ length keys →
-      KnapsacksFit (shape .items) (shape .levels) (shape .capacity) load cost costs keys
-  knapsacks-fit room key-room =
-      let few = room-for-sets (limits .shape-limited .items) in
-      record {
-        items-limited = limits .shape-limited .items;
-        affordable = affordable;
-        costs-for-all = omega arith;
-        keys-for-all = omega arith;
-      }
-
-  pub offer-fits : OfferFits (shape .items) (shape .levels) (shape .capacity) load cost refusal must
-  offer-fits =
-      record {
-        items-limited = limits .shape-limited .items;
-        affordable = affordable;
-        refusals-for-all = limits .long-enough .refusals-for-all;
-        musts-for-all = limits .long-enough .musts-for-all;
-        refusals-limited = limits .refusals-limited;
-      }
-
-  -- what is best on any number of cores is best on those that there are
-  pub light-encodes-best : {worth : Worth} → worth .cost < noCost →
-      ((cores : ℕ) → 0 < cores → BestKey (offered cores (shape .levels) (shape .capacity) load cost refusal must (shape .items)) (shape .items) worth) →
-      EncodesBest (optionsOf shape load cost refusal must) (shape .items) worth
-  unfolding optionsOf
-  light-encodes-best real light =
-      record { best = λ real. light (shape .cores) (limits .shape-limited .some-core); none-allowed = λ dear. absurd (omega arith) }
+    go : (v : Value) → Tells (shape .items) v before after found → BestAnswers o v → BestFound o before after found
+    go none (is, same) answers = rw is (answers, same)
+    go (pair cost key) (is, written) (first, costs) =
+        rw is
+        (record {
+          plan = digits (shape .items) key;
+          is-best = rw counted at first;
+          costs = rw counted at costs;
+          written = written;
+        })

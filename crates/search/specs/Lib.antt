@@ -2,5 +2,4 @@ pub mod Limits
 pub mod Found
 pub mod FoundLaws
 pub mod ChosenTables
-pub mod HalfCores
 pub mod PlanLaws

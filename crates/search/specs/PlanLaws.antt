@@ -8,8 +8,7 @@ use native.Mathlib.Omega.{arith}
 use lib.ListN.{length, getD, drop, set, length-append}
 use lib.Seq.{drop-cons, set-at}
 use Rattle.laws.specs.Lists.{onto}
-use Rattle.assignment.specs.Knapsacks.{keyBase}
-use Rattle.assignment.specs.Choice.{digits}
+use Rattle.assignment.specs.Keys.{keyBase, digits}
 
 -- one number more at the front of a buffer
 set-onto : (xs buffer : List ℕ) (v n : ℕ) → length xs ≡ n → n < length buffer →

@@ -1,48 +1,45 @@
-// The exact search for the cheapest plan. It knows nothing of text, words or tables: only of loads, costs and a capacity.
+// The exact search for the cheapest plan, from the table of one core: the cost and the key of running each set of items on it.
+// It knows nothing of loads or of a capacity.
 mod best;
-mod limits;
 mod plan;
 
-use best::best_plan;
-use limits::within_limits;
-use plan::write_plan;
+use best::least_of_table;
+pub use plan::write_plan;
 use values::NO_COST;
+ghost use Prim.Native.Nat.{_≤_};
+ghost use lib.ListN.{length};
 ghost use Rattle.search.specs.Found.{Searched};
+ghost use Rattle.search.specs.Limits.{SearchReady};
 
-// How many items there are, how many cores and levels for each, and the most load that a core takes.
+// How many items there are, and how many cores and levels for each.
 pub struct Shape {
     pub items: usize,
     pub cores: usize,
     pub levels: usize,
-    pub capacity: usize,
 }
 
 pub enum Found {
     // The cost of the best plan.
     Cheapest(u64),
-    // No plan keeps every item that must be kept, with no core above the capacity.
+    // No plan keeps every item that must be kept, with nothing on a core that it does not admit.
     NoPlan,
-    // The numbers are not within the limits of the search.
-    OutOfLimits,
 }
 
-// Finds the cheapest plan, of equally cheap ones the first, and writes its choices. Item i has at level l the load and the
-// cost at i * 8 + l of their slices.
+// Finds the cheapest plan, of equally cheap ones the first, and writes its choices.
 pub fn cheapest_plan(
     shape: Shape,
-    load: &[u64],
-    cost: &[u64],
     refusal: &[u64],
     must: &[bool],
+    corecosts: &[u64],
+    corekeys: &[u64],
     plan: &mut [u32],
 ) -> Found
-    ensures { λ r. ⌜ Searched shape (now (load .entry)) (now (cost .entry)) (now (refusal .entry)) (now (must .entry))
+    requires { ⌜ SearchReady shape (now refusal) (now must) (now corecosts) (now corekeys) ⌝ }
+    requires { ⌜ shape .items ≤ length (now plan) ⌝ }
+    ensures { λ r. ⌜ Searched shape (now (refusal .entry)) (now (must .entry)) (now (corecosts .entry)) (now (corekeys .entry))
         (now (plan .entry)) (now (plan .exit)) r ⌝ }
 {
-    if !within_limits(shape, load, cost, refusal, must, plan) {
-        return Found::OutOfLimits;
-    }
-    let best = best_plan(shape, load, cost, refusal, must);
+    let best = least_of_table(shape, refusal, must, corecosts, corekeys);
     if NO_COST <= best.cost {
         return Found::NoPlan;
     }

@@ -5,11 +5,11 @@ ghost use mathlib.Core.Path.{_≡_};
 ghost use Prim.Native.Nat.{_^_, _≤_, _<_};
 ghost use lib.ListN.{length};
 ghost use Rattle.laws.specs.Lists.{onto};
-ghost use Rattle.assignment.specs.Choice.{digits};
-ghost use Rattle.assignment.specs.Knapsacks.{keyBase};
+ghost use Rattle.assignment.specs.Keys.{keyBase, digits};
+ghost use Rattle.assignment.specs.Limits.{mostItems};
 
-pub(crate) fn write_plan(items: usize, key: u64, plan: &mut [u32])
-    requires { ⌜ items ≤ 12 ⌝ }
+pub fn write_plan(items: usize, key: u64, plan: &mut [u32])
+    requires { ⌜ items ≤ mostItems ⌝ }
     requires { ⌜ key < keyBase ^ items ⌝ }
     requires { ⌜ items ≤ length (now plan) ⌝ }
     ensures { λ _. ⌜ now (plan .exit) ≡ onto (digits items key) (now (plan .entry)) ⌝ }

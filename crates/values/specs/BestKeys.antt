@@ -3,15 +3,14 @@ use Prim.Native.Nat.{ℕ, _^_, _≤_, _<_}
 use mathlib.Core.Path.{_≡_}
 use mathlib.Core.List.{List}
 use Rattle.assignment.specs.Assignment.{Options, totalCost, Allowed, Best}
-use Rattle.assignment.specs.Choice.{digits}
-use Rattle.assignment.specs.Knapsacks.{keyBase}
+use Rattle.assignment.specs.Keys.{keyBase, digits}
 use Rattle.assignment.specs.Words.{noCost}
 use Rattle.values.specs.declared.value.Worth.{Worth}
 
 -- the key of the best plan of n items, and its cost
 pub record BestKey (o : Options) (n : ℕ) (worth : Worth) : Type 0 where
   pub is-best : Best o (digits n (worth .key))
-  pub costs : totalCost (o .levels) (o .items) (digits n (worth .key)) ≡ worth .cost
+  pub costs : totalCost o (digits n (worth .key)) ≡ worth .cost
   pub key-below : worth .key < keyBase ^ n
 
 -- the same, or, where they stand for none, that no plan is allowed

@@ -1,3 +1,4 @@
 pub mod Worths
 pub mod WorthLaws
 pub mod BestKeys
+pub mod Items

@@ -4,8 +4,8 @@ use mathlib.Core.Path.{_≡_}
 use mathlib.Core.Logic.{_⊎_}
 use mathlib.Core.Bool.{Bool, cond, _&&_, _||_}
 use lib.Dec.{eqb, ltb}
-use Rattle.assignment.specs.Knapsacks.{keyBase}
-use Rattle.assignment.specs.Offered.{mostCost}
+use Rattle.assignment.specs.Keys.{keyBase}
+use Rattle.assignment.specs.Limits.{mostCost}
 use Rattle.assignment.specs.Values.{Value}
 use Rattle.assignment.specs.Words.{noCost, valueOf}
 use Rattle.values.specs.declared.value.Worth.{Worth}

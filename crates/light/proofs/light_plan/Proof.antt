@@ -4,7 +4,8 @@ use mathlib.Core.Path.{_≡_}
 use native.Mathlib.Omega.{arith}
 use borrow.Author.Needs.{needs}
 use denote.Ref.{now}
-use Rattle.assignment.specs.Bounds.{keys-fit}
+use Rattle.assignment.specs.KeyLaws.{keys-fit}
+use Rattle.assignment.specs.Limits.{mostItems}
 use Rattle.light.specs.Light.{LightBelow}
 use Rattle.light.specs.LightLaws.{no-items, key-low, one-more-item, light-is-best}
 use Rattle.light.proofs.light_plan.Statement.{statement}
@@ -12,13 +13,13 @@ use Rattle.light.proofs.light_plan.Tie as tie
 
 abbrev Inv-loop : tie.InvT-loop
 Inv-loop items levels capacity load cost refusal must used₀ total₀ key₀ i₀ used total key i =
-    (i ≤ items) × LightBelow items levels capacity load cost refusal must i used total key
+    (i ≤ items) × LightBelow levels capacity load cost refusal must i used total key
 
 abbrev μ-loop : tie.MeasureT-loop
 μ-loop items levels capacity load cost refusal must used₀ total₀ key₀ i₀ used total key i = items - i
 
 loop-holds : tie.Need-loop-holds Inv-loop μ-loop
-loop-holds c = (search needs, no-items _ _ _ _ _ _ _)
+loop-holds c = (search needs, no-items _ _ _ _ _ _)
 
 first-cheapest-requires : tie.Need-first-cheapest-requires Inv-loop μ-loop
 first-cheapest-requires c κs =
@@ -39,14 +40,14 @@ added : (c : tie.After-struct-known2 Inv-loop μ-loop) →
     let a = c .before .before .before .before .before .before .before .before .before .before .args in
     let at = c .before .before .before .before .before .loop in
     let pick = c .before .before .before .first-cheapest .result in
-    LightBelow (a .items) (a .levels) (a .capacity) (now (a .load)) (now (a .cost)) (now (a .refusal)) (now (a .must)) (at .i + 1) (at .used + pick .load) (at .total + pick .cost) (at .key * 33 + pick .choice)
+    LightBelow (a .levels) (a .capacity) (now (a .load)) (now (a .cost)) (now (a .refusal)) (now (a .must)) (at .i + 1) (at .used + pick .load) (at .total + pick .cost) (at .key * 33 + pick .choice)
 added c =
     one-more-item (c .before .before .before .before .before .before .before .before .before .before .pre) (c .before .before .before .before .before .loop .inv .1) (c .before .before .before .before .loop-test .taken) (c .before .before .before .first-cheapest .ensures) (c .before .if1 .left)
 
 -- so its key is of few enough digits
 key-fits : (c : tie.After-struct-known2 Inv-loop μ-loop) → c .before .before .before .before .before .loop .key * 33 + c .before .before .before .first-cheapest .result .choice < 2 ^ 64
 key-fits c =
-    let few : c .before .before .before .before .before .loop .i + 1 ≤ 12 = omega (arith, c .before .before .before .before .before .before .before .before .before .before .pre .items-limited) in
+    let few : c .before .before .before .before .before .loop .i + 1 ≤ mostItems = omega (arith, c .before .before .before .before .before .before .before .before .before .before .pre .items-limited) in
     omega (arith, key-low (c .before .before .before .before .before .before .before .before .before .before .pre) (added c), keys-fit few)
 
 add-total : tie.Need-add-total Inv-loop μ-loop

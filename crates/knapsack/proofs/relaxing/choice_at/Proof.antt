@@ -1,6 +1,6 @@
 -- The levels of an item stand together, and eight times its weight fits.
 use Prim.Native.Nat.{_+_, _*_, _≤_}
-use Rattle.assignment.specs.Offered.{mostLevels}
+use Rattle.assignment.specs.Limits.{mostLevels}
 use native.Mathlib.Nat.{mul-le-mul-right}
 use native.Mathlib.Numerals.{add-one}
 use native.Mathlib.Omega.{arith}

@@ -1,7 +1,7 @@
 -- The weights of the next place fit, as required.
 use native.Mathlib.Numerals.{add-one}
 use native.Mathlib.Omega.{arith}
-use Rattle.assignment.specs.Knapsacks.{keyBase}
+use Rattle.assignment.specs.Keys.{keyBase}
 use borrow.Author.Needs.{needs}
 use Rattle.knapsack_tables.proofs.filling.without_next.Statement.{statement}
 use Rattle.knapsack_tables.proofs.filling.without_next.Tie as tie

@@ -3,13 +3,14 @@ use Prim.Native.Nat.{_≤_, _-_}
 use mathlib.Core.Path.{_≡_, refl}
 use native.Mathlib.Omega.{arith}
 use borrow.Author.Needs.{needs}
-use Rattle.assignment.specs.Offered.{itemAt}
+use Rattle.knapsack.specs.Offered.{offerAt}
+use Rattle.values.specs.Items.{itemAt}
 use Rattle.light.specs.Picks.{PickedBelow, with-level}
 use Rattle.light.proofs.picks.first_cheapest.Statement.{statement}
 use Rattle.light.proofs.picks.first_cheapest.Tie as tie
 
 abbrev Inv-loop : tie.InvT-loop
-Inv-loop i levels capacity load cost refusal must picked₀ l₀ picked l = (l ≤ levels) × PickedBelow capacity (itemAt load cost refusal must i) l picked
+Inv-loop i levels capacity load cost refusal must picked₀ l₀ picked l = (l ≤ levels) × PickedBelow capacity (offerAt load cost i) (itemAt refusal must i) l picked
 
 abbrev μ-loop : tie.MeasureT-loop
 μ-loop i levels capacity load cost refusal must picked₀ l₀ picked l = levels - l
@@ -28,7 +29,7 @@ refused-requires c κs = search needs
 
 loop-holds : tie.Need-loop-holds Inv-loop μ-loop
 unfolding itemAt
-loop-holds c = (search needs, c .refused .ensures _ refl refl)
+loop-holds c = (search needs, c .refused .ensures _ _ refl refl)
 
 mul-at : tie.Need-mul-at Inv-loop μ-loop
 mul-at c = search needs
@@ -61,9 +62,9 @@ loop-less : tie.Need-loop-less Inv-loop μ-loop
 loop-less c = search needs
 
 loop-again : tie.Need-loop-again Inv-loop μ-loop
-unfolding itemAt
+unfolding offerAt
 loop-again c =
-    (search needs, with-level _ (c .before .before .before .before .loop .inv .1) refl refl refl (c .cheaper .ensures))
+    (search needs, with-level _ _ (c .before .before .before .before .loop .inv .1) refl refl refl (c .cheaper .ensures))
 
 returns : tie.Need-returns Inv-loop μ-loop
 returns c =

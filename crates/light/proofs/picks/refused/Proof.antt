@@ -9,10 +9,10 @@ add-t5 : tie.Need-add-t5
 add-t5 c = search needs
 
 returns : tie.Need-returns
-returns c = λ item refusal must. none-yet item _ refl (must ∙ c .if1 .taken) refl
+returns c = λ offer item refusal must. none-yet offer item _ refl (must ∙ c .if1 .taken) refl
 
 returns-2 : tie.Need-returns-2
-returns-2 c = λ item refusal must. refusing-first item _ refl (must ∙ c .if1 .left) refl (sym refusal)
+returns-2 c = λ offer item refusal must. refusing-first offer item _ refl (must ∙ c .if1 .left) refl (sym refusal)
 
 pub refused-spec : {M : Type 1} → statement M
 refused-spec = tie.close (tie.spec add-t5 returns returns-2)

@@ -43,7 +43,7 @@ same-length-2 c = search needs
 
 returns : tie.Need-returns
 returns c =
-    λ load cost. least-on-one (c .before .before .before .before .before .before .before .before .before .before .before .before .before .before .pre) (c .before .before .before .before .before .before .before .before .before .sets-of .ensures) (c .before .before .before .before .before .before .refuse .ensures) load cost
+    least-on-one (c .before .before .before .before .before .before .before .before .before .before .before .before .before .before .pre) (c .before .before .before .before .before .before .before .before .before .sets-of .ensures) (c .before .before .before .before .before .before .refuse .ensures)
 
 pub least-on-one-spec : {M : Type 1} → statement M
 least-on-one-spec =

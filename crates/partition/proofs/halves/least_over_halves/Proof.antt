@@ -1,8 +1,9 @@
 -- `least_over_halves` moves the keys of the upper cores, refuses in the table of the lower ones, and takes the least sum.
 use mathlib.Core.Path.{_∙_}
-use lib.ListN.{replicate}
-use Rattle.partition.specs.CoreLaws.{room-for-sets, moves-fit, sums-ready, sums-same}
-use Rattle.partition.specs.HalvesLaws.{all-ready, every-length, small-sets, refused-table, halves-core, least-over-halves}
+use native.Mathlib.Omega.{arith}
+use Rattle.partition.specs.CoreLaws.{moves-ready, sums-ready, sums-same}
+use Rattle.partition.specs.HalvesLaws.{all-ready, every-length, refused-table, halves-core, least-over-halves}
+use Rattle.partition.specs.Tables.{room-for-sets}
 use Rattle.assignment.specs.Refusing.{every}
 use borrow.Author.Needs.{needs}
 use Rattle.partition.proofs.halves.least_over_halves.Statement.{statement}
@@ -12,30 +13,27 @@ slice-aggregate-move-keys : tie.Need-slice-aggregate-move-keys
 slice-aggregate-move-keys c = search needs
 
 move-keys-requires : tie.Need-move-keys-requires
-move-keys-requires c κs =
-    let ready = c .before .before .before .before .before .before .before .before .pre in
-    let few = ready .lower .few-items in
-    (few, (moves-fit (halves-core ready (small-sets (ready .lower .table))), room-for-sets few))
+move-keys-requires c κs = let ready = c .before .before .before .before .before .before .before .pre in moves-ready (ready .lower .few-items) (ready .small-shift) (ready .top-table) (room-for-sets (ready .lower .few-items))
 
 sets-of-requires : tie.Need-sets-of-requires
 sets-of-requires c κs = search needs
 
 refuse-requires : tie.Need-refuse-requires
-refuse-requires c κs =
-    all-ready (c .before .before .before .before .before .before .before .before .before .before .before .before .before .pre .lower) (c .before .before .sets-of .ensures)
+refuse-requires c κs = all-ready (c .before .before .before .before .before .before .before .before .before .before .before .before .pre .lower) (c .before .before .sets-of .ensures)
 
 slice-aggregate-least-parted : tie.Need-slice-aggregate-least-parted
 slice-aggregate-least-parted c = search needs
 
 least-parted-requires : tie.Need-least-parted-requires
 least-parted-requires c κs =
-    let ready = c .before .before .before .before .before .before .before .before .before .before .before .before .before .before .before .before .before .before .before .before .before .pre in
+    let ready = c .before .before .before .before .before .before .before .before .before .before .before .before .before .before .before .before .before .before .before .before .pre in
+    let moved = c .before .before .before .before .before .before .before .before .before .before .before .before .move-keys in
     let refused = c .before .before .before .before .before .before .before .refuse in
     let kept = refused .kept .1 .1 .1 .1 .1 in
     let all = c .before .before .before .before .before .before .before .before .before .before .sets-of .ensures in
+    let room = room-for-sets (ready .lower .few-items) in
     let table = refused-table (ready .lower) all (refused .ensures) (kept .0) (kept .1 .0) in
-    rw all
-    (sums-ready (halves-core ready table) (replicate 4096 0) (room-for-sets (ready .lower .few-items)) (c .before .before .before .before .before .before .before .before .before .before .before .before .move-keys .ensures))
+    rw all (sums-ready (halves-core ready table) (omega (arith, moved .kept .1 .1 .1 .0)) (moved .ensures))
 
 same-length : tie.Need-same-length
 same-length c = search needs
@@ -45,14 +43,17 @@ same-length-2 c = search needs
 
 returns : tie.Need-returns
 returns c =
-    let ready = c .before .before .before .before .before .before .before .before .before .before .before .before .before .before .before .before .before .before .before .before .before .before .pre in
+    let ready = c .before .before .before .before .before .before .before .before .before .before .before .before .before .before .before .before .before .before .before .before .before .pre in
+    let n = c .before .before .before .before .before .before .before .before .before .before .before .before .before .before .before .before .before .before .before .before .before .args .items in
+    let moved = c .before .before .before .before .before .before .before .before .before .before .before .before .before .move-keys in
     let refused = c .before .before .before .before .before .before .before .before .refuse in
     let kept = refused .kept .1 .1 .1 .1 .1 in
     let all = c .before .before .before .before .before .before .before .before .before .before .before .sets-of .ensures in
-    let n = c .before .before .before .before .before .before .before .before .before .before .before .before .before .before .before .before .before .before .before .before .before .before .args .items in
+    let room = room-for-sets (ready .lower .few-items) in
     let table = refused-table (ready .lower) all (refused .ensures) (kept .0) (kept .1 .0) in
-    let sums = sums-same (halves-core ready table) (replicate 4096 0) (room-for-sets (ready .lower .few-items)) (c .before .before .before .before .before .before .before .before .before .before .before .before .before .move-keys .ensures) (every n) (every-length n) in
-    λ load cost. least-over-halves ready all (refused .ensures) load cost _ (c .least-parted .ensures n all ∙ sums)
+    c .least-parted .ensures n all
+    ∙ sums-same (halves-core ready table) (omega (arith, moved .kept .1 .1 .1 .0)) (moved .ensures) (every n) (every-length n)
+    ∙ least-over-halves ready all (refused .ensures)
 
 pub least-over-halves-spec : {M : Type 1} → statement M
 least-over-halves-spec =

@@ -1,7 +1,8 @@
-use borrow.Author.Needs.{needs}
 use mathlib.Core.Path.{refl}
-use Rattle.planner.specs.BestChoiceLaws.{searched-is-chosen}
-use Rattle.planner.specs.OfferedLaws.{held-shape}
+use native.Mathlib.Omega.{arith}
+use borrow.Author.Needs.{needs}
+use Rattle.instance.specs.Held.{held-taskcount}
+use Rattle.planner.specs.HeldChoices.{held-offer-fits, held-light-chosen}
 use Rattle.planner.specs.OfferedOptions.{nothing-offered}
 use Rattle.planner.proofs.best.best_choices.Statement.{statement}
 use Rattle.planner.proofs.best.best_choices.Tie as tie
@@ -9,49 +10,84 @@ use Rattle.planner.proofs.best.best_choices.Tie as tie
 fill-options-requires : tie.Need-fill-options-requires
 fill-options-requires c κs = (c .before .before .before .before .before .pre .0, nothing-offered _ _ _ _ _ refl refl refl refl)
 
-cast-t13 : tie.Need-cast-t13
-cast-t13 c = search needs
+cast-capacity : tie.Need-cast-capacity
+cast-capacity c = search needs
 
-cast-t14 : tie.Need-cast-t14
-cast-t14 c = search needs
+slice-aggregate-light-plan : tie.Need-slice-aggregate-light-plan
+slice-aggregate-light-plan c = search needs
 
-slice-aggregate-cheapest-plan : tie.Need-slice-aggregate-cheapest-plan
-slice-aggregate-cheapest-plan c = search needs
+slice-aggregate-light-plan-2 : tie.Need-slice-aggregate-light-plan-2
+slice-aggregate-light-plan-2 c = search needs
 
-slice-aggregate-cheapest-plan-2 : tie.Need-slice-aggregate-cheapest-plan-2
-slice-aggregate-cheapest-plan-2 c = search needs
+slice-aggregate-light-plan-3 : tie.Need-slice-aggregate-light-plan-3
+slice-aggregate-light-plan-3 c = search needs
 
-slice-aggregate-cheapest-plan-3 : tie.Need-slice-aggregate-cheapest-plan-3
-slice-aggregate-cheapest-plan-3 c = search needs
+slice-aggregate-light-plan-4 : tie.Need-slice-aggregate-light-plan-4
+slice-aggregate-light-plan-4 c = search needs
 
-slice-aggregate-cheapest-plan-4 : tie.Need-slice-aggregate-cheapest-plan-4
-slice-aggregate-cheapest-plan-4 c = search needs
+light-plan-requires : tie.Need-light-plan-requires
+light-plan-requires c κs =
+    let start = c .before .before .before .before .before .before .before .before .before .before .before in held-offer-fits _ (start .pre .0) (c .before .before .before .before .before .fill-options .ensures)
 
-cheapest-plan-requires : tie.Need-cheapest-plan-requires
-cheapest-plan-requires c κs = search needs
+write-plan-requires : tie.Need-write-plan-requires
+write-plan-requires c κs =
+    let start = c .before .before .before .before .before .before .before .before .before .before .before .before .before .before .before in (
+      omega (arith, start .pre .0 .valid .task-count, held-taskcount _ (start .pre .0)),
+      (
+        c .before .before .before .light-plan .ensures (c .before .if1 .taken) 1 (omega arith) .key-below,
+        omega (arith, start .pre .1, held-taskcount _ (start .pre .0)),
+      ),
+    )
 
 same-length : tie.Need-same-length
 same-length c = search needs
 
 returns : tie.Need-returns
 returns c =
-    let found = c .before .before in
-    let filled = found .before .before .before .before .before .before .before .before in
-    let start = filled .before .before .before .before .before .before in
-    searched-is-chosen _ (start .pre .0 .valid) (filled .fill-options .ensures) _ _ (start .pre .1) (found .cheapest-plan .result)
-    (rw (held-shape _ (start .pre .0)) at (found .cheapest-plan .ensures))
+    let start = c .before .before .before .before .before .before .before .before .before .before .before .before .before .before .before .before .before .before in
+    let chosen = held-light-chosen _ (start .pre .0) (c .before .before .before .before .before .before .before .before .before .before .before .before .fill-options .ensures) (c .before .before .before .before .before .before .light-plan .result) (c .before .before .before .before .before .before .light-plan .ensures (c .before .before .before .before .if1 .taken)) (c .before .before .write-plan .ensures) in
+    (chosen .found, chosen .written)
+
+slice-aggregate-search-cores : tie.Need-slice-aggregate-search-cores
+slice-aggregate-search-cores c = search needs
+
+slice-aggregate-search-cores-2 : tie.Need-slice-aggregate-search-cores-2
+slice-aggregate-search-cores-2 c = search needs
+
+slice-aggregate-search-cores-3 : tie.Need-slice-aggregate-search-cores-3
+slice-aggregate-search-cores-3 c = search needs
+
+slice-aggregate-search-cores-4 : tie.Need-slice-aggregate-search-cores-4
+slice-aggregate-search-cores-4 c = search needs
+
+search-cores-requires : tie.Need-search-cores-requires
+search-cores-requires c κs =
+    let start = c .before .before .before .before .before .before .before .before .before .before .before .before .before .before .before .before .before .before .before in (start .pre .0, (c .before .before .before .before .before .before .before .before .before .before .before .before .before .fill-options .ensures, start .pre .1))
+
+same-length-2 : tie.Need-same-length-2
+same-length-2 c = search needs
+
+returns-2 : tie.Need-returns-2
+returns-2 c = c .before .before .search-cores .ensures
 
 pub best-choices-spec : {M : Type 1} → statement M
 best-choices-spec =
     tie.close
     (tie.spec
     fill-options-requires
-    cast-t13
-    cast-t14
-    slice-aggregate-cheapest-plan
-    slice-aggregate-cheapest-plan-2
-    slice-aggregate-cheapest-plan-3
-    slice-aggregate-cheapest-plan-4
-    cheapest-plan-requires
+    cast-capacity
+    slice-aggregate-light-plan
+    slice-aggregate-light-plan-2
+    slice-aggregate-light-plan-3
+    slice-aggregate-light-plan-4
+    light-plan-requires
+    write-plan-requires
     same-length
-    returns)
+    returns
+    slice-aggregate-search-cores
+    slice-aggregate-search-cores-2
+    slice-aggregate-search-cores-3
+    slice-aggregate-search-cores-4
+    search-cores-requires
+    same-length-2
+    returns-2)

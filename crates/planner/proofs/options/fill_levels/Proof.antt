@@ -3,18 +3,18 @@ use mathlib.Core.Path.{_≡_, _∙_}
 use native.Mathlib.Nat.{add-zero}
 use native.Mathlib.Omega.{arith}
 use borrow.Author.Needs.{needs}
-use Rattle.instance.specs.Held.{problemIn, held-levelcount}
+use Rattle.instance.specs.Held.{problemIn, held-levelcount, held-span}
 use Rattle.instance.specs.Node.{levelCount, taskAt}
-use Rattle.planner.specs.HeldOptions.{held-load, held-cost, level-power-at-most}
+use Rattle.ranges.specs.Limits.{mostLevels, mostTasks}
+use Rattle.planner.specs.HeldOptions.{held-span-at-most, energy-weight-at-most, held-load, held-load-at-most, held-cost, level-power-at-most}
 use Rattle.planner.specs.OfferedOptions.{LevelsOffered, level-offered, task-offered}
-use Rattle.planner.specs.OptionsBounds.{load-at-most}
-use Rattle.planner.specs.OptionsOf.{itemOf}
+use Rattle.planner.specs.OptionsOf.{offerOf}
 use Rattle.planner.proofs.options.fill_levels.Statement.{statement}
 use Rattle.planner.proofs.options.fill_levels.Tie as tie
 
 abbrev Inv-loop : tie.InvT-loop
 Inv-loop task i load₀ cost₀ inst jobs l₀ load cost l =
-    (l ≤ inst .levelcount) × LevelsOffered (problemIn inst) (i * 8 + l) load cost
+    (l ≤ inst .levelcount) × LevelsOffered (problemIn inst) (i * mostLevels + l) load cost
 
 abbrev μ-loop : tie.MeasureT-loop
 μ-loop task i load₀ cost₀ inst jobs l₀ load cost l = inst .levelcount - l
@@ -22,7 +22,7 @@ abbrev μ-loop : tie.MeasureT-loop
 level-below : (c : tie.In-loop Inv-loop μ-loop) → c .before .loop .l < levelCount (problemIn (c .before .before .before .args .t1))
 level-below c = omega (arith, held-levelcount _ (c .before .before .before .pre .0))
 
-place-below : (c : tie.In-loop Inv-loop μ-loop) → c .before .before .before .args .i * 8 + c .before .loop .l < 96
+place-below : (c : tie.In-loop Inv-loop μ-loop) → c .before .before .before .args .i * mostLevels + c .before .loop .l < mostTasks * mostLevels
 place-below c =
     let valid = c .before .before .before .pre .0 .valid in
     omega (arith, level-below c, valid .level-count .at-most, valid .task-count)
@@ -30,7 +30,7 @@ place-below c =
 same-load : (c : tie.After-ticks-of Inv-loop μ-loop) →
     let start = c .before .before .before .before .before in
     let p = problemIn (start .args .t1) in
-    c .before .before .before .before .jobs-in .result * c .ticks-of .result ≡ itemOf p (taskAt p (start .args .i)) .load (c .before .before .before .loop .l)
+    c .before .before .before .before .jobs-in .result * c .ticks-of .result ≡ offerOf p (taskAt p (start .args .i)) .load (c .before .before .before .loop .l)
 same-load c =
     let start = c .before .before .before .before .before in
     held-load _ (start .pre .0) (start .args .task) _ (c .before .before .before .before .jobs-in .ensures) _ _ _ (start .pre .1 .1 .0) (level-below (c .before .before))
@@ -60,7 +60,11 @@ cast-asked-2 c = search needs
 mul-asked : tie.Need-mul-asked Inv-loop μ-loop
 mul-asked c =
     let start = c .before .before .before .before .before in
-    omega (arith, same-load c, load-at-most (start .pre .0 .valid) (start .args .i) (c .before .before .before .loop .l) (start .pre .1 .0))
+    omega (
+      arith,
+      held-load-at-most _ (start .pre .0) (start .args .task) _ (c .before .before .before .before .jobs-in .ensures) _ _ _ (start .pre .1 .1 .0)
+          (level-below (c .before .before)) (c .ticks-of .ensures) (start .pre .1 .0),
+    )
 
 mul-at : tie.Need-mul-at Inv-loop μ-loop
 mul-at c = omega (arith, place-below (c .before .before))
@@ -77,7 +81,7 @@ element-write-load c = place-below (c .before .before)
 cost-of-requires : tie.Need-cost-of-requires Inv-loop μ-loop
 cost-of-requires c κs =
     let sound = c .before .before .before .before .before .pre .0 in
-    (sound, level-power-at-most _ sound _ (level-below (c .before .before)))
+    (energy-weight-at-most _ sound, held-span-at-most _ sound, level-power-at-most _ sound _ (level-below (c .before .before)))
 
 mul-cost : tie.Need-mul-cost Inv-loop μ-loop
 mul-cost c = omega (arith, place-below (c .before .before .before))
@@ -99,7 +103,7 @@ loop-again c =
       omega arith,
       level-offered _ (valid .level-count .at-most) _ _ _ _ _ _ (omega (arith, valid .task-count)) (level-below turn)
           (turn .before .loop .inv .1) (same-load (c .before))
-          (λ fits. c .cost-of .ensures fits ∙ held-cost _ (start .pre .0) _ (level-below turn) _ _ (same-load (c .before))),
+          (λ fits. c .cost-of .ensures (rw (held-span _ (start .pre .0)) fits) ∙ held-cost _ (start .pre .0) _ (level-below turn) _ _ (same-load (c .before))),
     )
 
 returns : tie.Need-returns Inv-loop μ-loop

@@ -1,26 +1,18 @@
 use Prim.Native.Nat.{ℕ, _≤_}
-use mathlib.Core.List.{List, [], _∷_}
-use mathlib.Core.Logic.{⊎-elim}
+use mathlib.Core.List.{List}
 use mathlib.Core.Path.{_≡_, sym, ap₂, _∙_}
 use native.Mathlib.Omega.{arith}
 use lib.ListN.{length, take}
 use lib.Seq.{length-take-le}
 use borrow.Author.Needs.{needs}
-use denote.Enum.Declared.{tagOf}
-use types.Run.{OneOf}
 use Rattle.instance.specs.Held.{problemIn, held-taskcount}
-use Rattle.instance.specs.Node.{Problem}
 use Rattle.refusals.specs.Refusals.{accepted}
-use Rattle.refusals.specs.declared.Refusal.the-variants as Refusal
 use Rattle.refusals.specs.declared.Verdict.the-variants.{Accepted}
 use Rattle.plan_rules.specs.Plans.{planPasses}
 use Rattle.tables.specs.Tables.{tableSize}
 use Rattle.prices.specs.declared.amounts.Price.{Price}
 use Rattle.prices.specs.declared.amounts.Priced.the-variants as Priced
-use Rattle.search.specs.declared.Found.the-variants as Found
-use Rattle.search.specs.declared.Found.{Found}
-use Rattle.search.proofs.Found.{the-type}
-use Rattle.planner.specs.Outcomes.{PlanOutcome, planRefused, planOutcomeOf}
+use Rattle.planner.specs.Outcomes.{planOutcomeOf}
 use Rattle.planner.specs.PlanLaws.{planGiven, planFrom, short-plan-outcome, short-table-outcome, chosen-outcome, chosen-passes}
 use Rattle.planner.proofs.planning.plan_read.Statement.{statement}
 use Rattle.planner.proofs.planning.plan_read.Tie as tie
@@ -108,21 +100,14 @@ returns-3 c =
     (c .before .before .before .fill-table .ensures)
     ∙ (rw (c .before .before .before .before .before .before .enum-told .given .1) at (outcome-of-chosen chosen))
 
+enum-told-2 : tie.Need-enum-told-2
+enum-told-2 c = search needs
+
 same-length-3 : tie.Need-same-length-3
 same-length-3 c = search needs
 
--- the search found no plan
-outcome-of-none : (p : Problem) (plan table : List ℕ) (n : ℕ) (outcome : PlanOutcome) (r : Found) → OneOf (1 ∷ 2 ∷ []) (tagOf the-type r) →
-    planFrom p n table r plan ≡ outcome → planRefused Refusal.NoPlan plan table ≡ outcome
-outcome-of-none p plan table n outcome Found.NoPlan none is = is
-outcome-of-none p plan table n outcome Found.OutOfLimits none is = is
-outcome-of-none p plan table n outcome (Found.Cheapest total) none is = ⊎-elim (λ one. absurd (omega arith)) (λ two. absurd (omega arith)) none
-
 returns-4 : tie.Need-returns-4
-returns-4 c =
-    let chosen = c .before .before .before in
-    let args = c .before .before .before .before .before .before .before .before .before .before .args in
-    outcome-of-none (problemIn (args .inst)) _ _ (args .inst .taskcount) _ (chosen .best-choices .result) (c .match .keys2) (outcome-of-chosen chosen)
+returns-4 c = rw (c .enum-told2 .given .1) at (outcome-of-chosen (c .before .before .before .before))
 
 pub plan-read-spec : {M : Type 1} → statement M
 plan-read-spec =
@@ -140,5 +125,6 @@ plan-read-spec =
     same-length
     same-length-2
     returns-3
+    enum-told-2
     same-length-3
     returns-4)

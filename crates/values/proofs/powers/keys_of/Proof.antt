@@ -5,8 +5,9 @@ use mathlib.Core.Path.{_≡_, sym}
 use native.Mathlib.Numerals.{add-one}
 use native.Mathlib.Omega.{arith}
 use borrow.Author.Needs.{needs}
-use Rattle.assignment.specs.Bounds.{keys-fit}
-use Rattle.assignment.specs.Knapsacks.{keyBase}
+use Rattle.assignment.specs.KeyLaws.{keys-fit}
+use Rattle.assignment.specs.Keys.{keyBase}
+use Rattle.assignment.specs.Limits.{mostItems}
 use Rattle.values.proofs.powers.keys_of.Statement.{statement}
 use Rattle.values.proofs.powers.keys_of.Tie as tie
 
@@ -23,7 +24,7 @@ mul-power : tie.Need-mul-power Inv-loop μ-loop
 unfolding keyBase
 mul-power c =
     let at = c .before .loop in
-    let next : at .i < 12 = omega arith in
+    let next : at .i < mostItems = omega arith in
     omega (arith, keys-fit next, pow-suc 33 (at .i), at .inv .1)
 
 add-i : tie.Need-add-i Inv-loop μ-loop
