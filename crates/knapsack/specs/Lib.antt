@@ -1,7 +1,6 @@
 pub mod Offers
 pub mod Knapsacks
 pub mod KnapsackLaws
-pub mod AlikeOffers
 pub mod Offered
 pub mod KnapsackWords
 pub mod RelaxedKnapsacks
