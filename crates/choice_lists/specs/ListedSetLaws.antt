@@ -79,7 +79,7 @@ module _ {core : Core} {front : Front} {from to : ℕ} {load cost points : List 
         record {
           item = fits .item;
           behind = fits .behind;
-          room = omega (arith, short, fits .room .short short, fits .there);
+          room = omega (arith, fits .room .short short, fits .there);
         }
 
     pub room-long : ¬ (Short core from to) → (used + suc (core .capacity)) * 3 ≤ length points

@@ -15,7 +15,7 @@ use Rattle.knapsack.specs.declared.relaxing.Front.{Front}
 
 -- so many entries are written as they come
 abbrev pub mostShort : ℕ
-mostShort = 64
+mostShort = 256
 
 -- an item before the entries from `from` to `to` makes no more
 abbrev pub Short : Core → (from to : ℕ) → Type 0
@@ -23,7 +23,7 @@ Short core from to = core .levels * (to - from) ≤ mostShort
 
 -- its list has at most so many entries
 pub record Enough (core : Core) (from to most : ℕ) : Type 0 where
-  pub short : Short core from to → mostShort ≤ most
+  pub short : Short core from to → core .levels * (to - from) ≤ most
   pub long : ¬ (Short core from to) → core .capacity < most
 
 -- there is room for another list behind the first `used` entries

@@ -32,7 +32,7 @@ const MOST_LISTED: usize = 6;
 pub const WIDTH: usize = 3;
 
 // So many points are written as they come: to spread them over all loads and to sweep these takes longer.
-const SHORT: usize = 64;
+const SHORT: usize = 256;
 
 pub(crate) fn point_at(points: &[u64], p: usize) -> Choice
     requires { ⌜ suc p * 3 ≤ length (now points) ⌝ }
@@ -227,7 +227,7 @@ fn most_points(core: Core, from: usize, to: usize) -> usize
     ensures { λ r. ⌜ Enough core from to r ⌝ }
 {
     if is_short(core, from, to) {
-        return SHORT;
+        return core.levels * (to - from);
     }
     core.capacity + 1
 }
