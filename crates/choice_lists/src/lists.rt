@@ -34,6 +34,12 @@ pub const WIDTH: usize = 3;
 // So many points are written as they come: to spread them over all loads and to sweep these takes longer.
 const SHORT: usize = 256;
 
+// The points of one list.
+pub(crate) struct Part {
+    pub(crate) from: usize,
+    pub(crate) to: usize,
+}
+
 pub(crate) fn point_at(points: &[u64], p: usize) -> Choice
     requires { ⌜ suc p * 3 ≤ length (now points) ⌝ }
     ensures { λ r. ⌜ r ≡ pointAt (now (points .entry)) p ⌝ }
@@ -60,23 +66,22 @@ fn comes_first(a: Worth, b: Worth) -> bool
     false
 }
 
-// The choice with each point from `from` to `to`, as an entry of its load.
+// The choice with each point of the list, as an entry of its load.
 fn spread_level(
     capacity: usize,
     choice: Choice,
-    from: usize,
-    to: usize,
+    part: Part,
     points: &[u64],
     costs: &mut [u64],
     keys: &mut [u64],
 )
-    requires { ⌜ SumsSmall capacity choice from to (now points) ⌝ }
+    requires { ⌜ SumsSmall capacity choice (part .from) (part .to) (now points) ⌝ }
     requires { ⌜ Long capacity (now costs) (now keys) ⌝ }
-    ensures { λ _. ⌜ LevelSpread capacity choice from to (now (points .entry)) (now (costs .entry)) (now (keys .entry))
+    ensures { λ _. ⌜ LevelSpread capacity choice (part .from) (part .to) (now (points .entry)) (now (costs .entry)) (now (keys .entry))
         (now (costs .exit)) (now (keys .exit)) ⌝ }
 {
-    let mut p = from;
-    while p < to {
+    let mut p = part.from;
+    while p < part.to {
         let point = point_at(points, p);
         let load = choice.load + point.load;
         if load <= capacity {
@@ -92,25 +97,24 @@ fn spread_level(
 fn spread_item(
     core: Core,
     front: Front,
-    from: usize,
-    to: usize,
+    part: Part,
     load: &[u64],
     cost: &[u64],
     points: &[u64],
     costs: &mut [u64],
     keys: &mut [u64],
 )
-    requires { ⌜ ItemFits core front from to (now load) (now cost) (now points) ⌝ }
+    requires { ⌜ ItemFits core front (part .from) (part .to) (now load) (now cost) (now points) ⌝ }
     requires { ⌜ Long (core .capacity) (now costs) (now keys) ⌝ }
     requires { ⌜ Cleared (core .capacity) (now costs) ⌝ }
-    ensures { λ _. ⌜ ItemSpread core front from to (now (load .entry)) (now (cost .entry)) (now (points .entry))
+    ensures { λ _. ⌜ ItemSpread core front (part .from) (part .to) (now (load .entry)) (now (cost .entry)) (now (points .entry))
         (core .levels) (now (costs .exit)) (now (keys .exit)) ⌝ }
 {
     let mut l = 0;
     while l < core.levels {
         let choice = choice_at(load, cost, front, l);
         if choice.load <= core.capacity {
-            spread_level(core.capacity, choice, from, to, points, costs, keys);
+            spread_level(core.capacity, choice, part, points, costs, keys);
         }
         l += 1;
     }
@@ -164,70 +168,58 @@ fn sweep(capacity: usize, from: usize, costs: &[u64], keys: &[u64], points: &mut
 fn list_long(
     core: Core,
     front: Front,
-    from: usize,
-    to: usize,
+    part: Part,
     used: usize,
     load: &[u64],
     cost: &[u64],
     points: &mut [u64],
 ) -> usize
-    requires { ⌜ ItemFits core front from to (now load) (now cost) (now points) ⌝ }
+    requires { ⌜ ItemFits core front (part .from) (part .to) (now load) (now cost) (now points) ⌝ }
     requires { ⌜ (used + suc (core .capacity)) * 3 ≤ length (now points) ⌝ }
-    ensures { λ r. ⌜ SetAdded core front from to used (now (load .entry)) (now (cost .entry)) (now (points .entry)) (now (points .exit)) r ⌝ }
+    ensures { λ r. ⌜ SetAdded core front (part .from) (part .to) used (now (load .entry)) (now (cost .entry)) (now (points .entry)) (now (points .exit)) r ⌝ }
 {
     let mut costs = [NO_COST; ENTRIES];
     let mut keys = [0u64; ENTRIES];
-    spread_item(
-        core,
-        front,
-        from,
-        to,
-        load,
-        cost,
-        points,
-        &mut costs,
-        &mut keys,
-    );
+    spread_item(core, front, part, load, cost, points, &mut costs, &mut keys);
     sweep(core.capacity, used, &costs, &keys, points)
 }
 
-fn is_short(core: Core, from: usize, to: usize) -> bool
-    requires { ⌜ from ≤ to ⌝ }
-    requires { ⌜ core .levels * (to - from) < 2 ^ 64 ⌝ }
-    ensures { λ r. ⌜ Decides r (Short core from to) ⌝ }
+fn is_short(core: Core, part: Part) -> bool
+    requires { ⌜ part .from ≤ part .to ⌝ }
+    requires { ⌜ core .levels * (part .to - part .from) < 2 ^ 64 ⌝ }
+    ensures { λ r. ⌜ Decides r (Short core (part .from) (part .to)) ⌝ }
 {
-    core.levels * (to - from) <= SHORT
+    core.levels * (part.to - part.from) <= SHORT
 }
 
 // The same, in the way that takes less time.
 fn list_set(
     core: Core,
     front: Front,
-    from: usize,
-    to: usize,
+    part: Part,
     used: usize,
     load: &[u64],
     cost: &[u64],
     points: &mut [u64],
 ) -> usize
-    requires { ⌜ SetFits core front from to used (now load) (now cost) (now points) ⌝ }
-    ensures { λ r. ⌜ SetAdded core front from to used (now (load .entry)) (now (cost .entry)) (now (points .entry)) (now (points .exit)) r ⌝ }
+    requires { ⌜ SetFits core front (part .from) (part .to) used (now load) (now cost) (now points) ⌝ }
+    ensures { λ r. ⌜ SetAdded core front (part .from) (part .to) used (now (load .entry)) (now (cost .entry)) (now (points .entry)) (now (points .exit)) r ⌝ }
 {
-    if is_short(core, from, to) {
-        return append_item(core, front, from, to, used, load, cost, points);
+    if is_short(core, part) {
+        return append_item(core, front, part, used, load, cost, points);
     }
-    list_long(core, front, from, to, used, load, cost, points)
+    list_long(core, front, part, used, load, cost, points)
 }
 
 // The most points that the list of a set with the item may have.
-fn most_points(core: Core, from: usize, to: usize) -> usize
-    requires { ⌜ from ≤ to ⌝ }
-    requires { ⌜ core .levels * (to - from) < 2 ^ 64 ⌝ }
+fn most_points(core: Core, part: Part) -> usize
+    requires { ⌜ part .from ≤ part .to ⌝ }
+    requires { ⌜ core .levels * (part .to - part .from) < 2 ^ 64 ⌝ }
     requires { ⌜ core .capacity ≤ mostCapacity ⌝ }
-    ensures { λ r. ⌜ Enough core from to r ⌝ }
+    ensures { λ r. ⌜ Enough core (part .from) (part .to) r ⌝ }
 {
-    if is_short(core, from, to) {
-        return core.levels * (to - from);
+    if is_short(core, part) {
+        return core.levels * (part.to - part.from);
     }
     core.capacity + 1
 }
@@ -250,11 +242,12 @@ fn list_next(
     let at = sets_of(count) + k;
     let from = starts[k];
     let to = starts[k + 1];
+    let part = Part { from, to };
     let used = starts[at];
-    if points.len() / WIDTH - used < most_points(core, from, to) {
+    if points.len() / WIDTH - used < most_points(core, part) {
         return false;
     }
-    let end = list_set(core, front, from, to, used, load, cost, points);
+    let end = list_set(core, front, part, used, load, cost, points);
     starts[at + 1] = end;
     true
 }

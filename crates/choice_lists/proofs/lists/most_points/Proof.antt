@@ -16,7 +16,7 @@ mul-result c = search needs
 
 returns : tie.Need-returns
 returns c =
-    let tells = rw (c .before .if1 .taken) at (c .before .before .is-short .ensures) in
+    let tells = rw (c .before .before .if1 .taken) at (c .before .before .before .is-short .ensures) in
     record { short = λ few. le-refl _; long = λ many. absurd (many tells) }
 
 add-result : tie.Need-add-result
