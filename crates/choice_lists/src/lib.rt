@@ -2,5 +2,6 @@
 mod lists;
 mod short;
 
+pub use lists::STARTS;
 pub use lists::WIDTH;
 pub use lists::list_front;

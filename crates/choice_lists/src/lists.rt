@@ -15,8 +15,8 @@ ghost use mathlib.Core.Path.{_≡_};
 ghost use mathlib.Core.Bool.{true};
 ghost use Prim.Native.Nat.{suc, _+_, _*_, _-_, _^_, _≤_, _<_};
 ghost use lib.ListN.{length, getD, set};
-ghost use Rattle.choice_lists.specs.Listed.{FrontListed, pointAt};
-ghost use Rattle.choice_lists.specs.ListedFront.{frontAt, ListsFit, mostListed, nothing};
+ghost use Rattle.choice_lists.specs.Listed.{FrontListed, pointAt, pointWidth};
+ghost use Rattle.choice_lists.specs.ListedFront.{frontAt, ListsFit, mostListed, mostStarts, nothing};
 ghost use Rattle.choice_lists.specs.ListedSets.{Enough, NextSetFits, SetAdded, SetFits, SetsFit, SetsGoing, Short, WithItem};
 ghost use Rattle.assignment.specs.Limits.{mostCapacity, mostItems};
 ghost use Rattle.knapsack.specs.Offered.{Affordable};
@@ -27,6 +27,9 @@ ghost use Rattle.laws.specs.Tests.{Decides};
 
 // At most so many items have lists.
 const MOST_LISTED: usize = 6;
+
+// Where the list of each set of these starts, and where the last one ends.
+pub const STARTS: usize = (1 << MOST_LISTED) + 1;
 
 // Three numbers make a point: a load, a cost and a key.
 pub const WIDTH: usize = 3;
@@ -41,7 +44,7 @@ pub(crate) struct Part {
 }
 
 pub(crate) fn point_at(points: &[u64], p: usize) -> Choice
-    requires { ⌜ suc p * 3 ≤ length (now points) ⌝ }
+    requires { ⌜ suc p * pointWidth ≤ length (now points) ⌝ }
     ensures { λ r. ⌜ r ≡ pointAt (now (points .entry)) p ⌝ }
 {
     Choice {
@@ -121,7 +124,7 @@ fn spread_item(
 }
 
 pub(crate) fn store_point(p: usize, load: usize, worth: Worth, points: &mut [u64])
-    requires { ⌜ suc p * 3 ≤ length (now points) ⌝ }
+    requires { ⌜ suc p * pointWidth ≤ length (now points) ⌝ }
     ensures { λ _. ⌜ now (points .exit) ≡ withPoint (now (points .entry)) p load worth ⌝ }
 {
     points[p * WIDTH] = load as u64;
@@ -142,7 +145,7 @@ fn entry(knapsack_costs: &[u64], knapsack_keys: &[u64], w: usize) -> Worth
 // The entries that come before all of smaller load become points, from the point `from` on. Answers where they end.
 fn sweep(capacity: usize, from: usize, costs: &[u64], keys: &[u64], points: &mut [u64]) -> usize
     requires { ⌜ Long capacity (now costs) (now keys) ⌝ }
-    requires { ⌜ (from + suc capacity) * 3 ≤ length (now points) ⌝ }
+    requires { ⌜ (from + suc capacity) * pointWidth ≤ length (now points) ⌝ }
     ensures { λ r. ⌜ Swept capacity from (now (costs .entry)) (now (keys .entry)) (now (points .entry)) (now (points .exit)) r ⌝ }
 {
     let mut best = Worth {
@@ -175,7 +178,7 @@ fn list_long(
     points: &mut [u64],
 ) -> usize
     requires { ⌜ ItemFits core front (part .from) (part .to) (now load) (now cost) (now points) ⌝ }
-    requires { ⌜ (used + suc (core .capacity)) * 3 ≤ length (now points) ⌝ }
+    requires { ⌜ (used + suc (core .capacity)) * pointWidth ≤ length (now points) ⌝ }
     ensures { λ r. ⌜ SetAdded core front (part .from) (part .to) used (now (load .entry)) (now (cost .entry)) (now (points .entry)) (now (points .exit)) r ⌝ }
 {
     let mut costs = [NO_COST; ENTRIES];
@@ -278,7 +281,7 @@ fn list_sets(
 
 // The one set of no item, with the one choice of nothing.
 fn list_none(points: &mut [u64], starts: &mut [usize])
-    requires { ⌜ 3 ≤ length (now points) ⌝ }
+    requires { ⌜ pointWidth ≤ length (now points) ⌝ }
     requires { ⌜ 1 < length (now starts) ⌝ }
     ensures { λ _. ⌜ now (points .exit) ≡ withPoint (now (points .entry)) 0 0 nothing ⌝ }
     ensures { λ _. ⌜ now (starts .exit) ≡ set (set (now (starts .entry)) 0 0) 1 1 ⌝ }
@@ -348,8 +351,8 @@ pub fn list_front(
 ) -> usize
     requires { ⌜ items ≤ mostItems ⌝ }
     requires { ⌜ Affordable items (core .levels) (core .capacity) (now load) (now cost) ⌝ }
-    requires { ⌜ 3 ≤ length (now points) ⌝ }
-    requires { ⌜ 65 ≤ length (now starts) ⌝ }
+    requires { ⌜ pointWidth ≤ length (now points) ⌝ }
+    requires { ⌜ mostStarts ≤ length (now starts) ⌝ }
     ensures { λ r. ⌜ (r ≤ items) × (r ≤ mostListed) ⌝ }
     ensures { λ r. ⌜ FrontListed core (now (load .entry)) (now (cost .entry)) r (items - r) (now (points .exit)) (now (starts .exit)) ⌝ }
 {
