@@ -1,28 +1,25 @@
 // The choices of levels for each set of the first few items, as lists: only choices are left out that another one beats,
 // whatever stands behind.
+use crate::long::list_long;
+use crate::points::Part;
+use crate::points::WIDTH;
+use crate::points::store_point;
 use crate::short::append_item;
-use knapsack::Choice;
 use knapsack::Core;
 use knapsack::Front;
-use knapsack::choice_at;
-use values::ENTRIES;
-use values::NO_COST;
 use values::Worth;
 use values::keys_of;
-use values::lower;
 use values::sets_of;
 ghost use mathlib.Core.Path.{_≡_};
 ghost use mathlib.Core.Bool.{true};
-ghost use Prim.Native.Nat.{suc, _+_, _*_, _-_, _^_, _≤_, _<_};
-ghost use lib.ListN.{length, getD, set};
-ghost use Rattle.choice_lists.specs.Listed.{FrontListed, pointAt, pointWidth};
+ghost use Prim.Native.Nat.{suc, _*_, _-_, _^_, _≤_, _<_};
+ghost use lib.ListN.{length, set};
+ghost use Rattle.choice_lists.specs.Listed.{FrontListed, pointWidth};
 ghost use Rattle.choice_lists.specs.ListedFront.{frontAt, ListsFit, mostListed, mostStarts, nothing};
 ghost use Rattle.choice_lists.specs.ListedSets.{Enough, NextSetFits, SetAdded, SetFits, SetsFit, SetsGoing, Short, WithItem};
+ghost use Rattle.choice_lists.specs.Sweep.{withPoint};
 ghost use Rattle.assignment.specs.Limits.{mostCapacity, mostItems};
 ghost use Rattle.knapsack.specs.Offered.{Affordable};
-ghost use Rattle.choice_lists.specs.Spread.{Cleared, ItemFits, ItemSpread, LevelSpread, Long, SumsSmall};
-ghost use Rattle.choice_lists.specs.Sweep.{Swept, withPoint};
-ghost use Rattle.values.specs.Worths.{First};
 ghost use Rattle.laws.specs.Tests.{Decides};
 
 // At most so many items have lists.
@@ -31,161 +28,8 @@ const MOST_LISTED: usize = 6;
 // Where the list of each set of these starts, and where the last one ends.
 pub const STARTS: usize = (1 << MOST_LISTED) + 1;
 
-// Three numbers make a point: a load, a cost and a key.
-pub const WIDTH: usize = 3;
-
 // So many points are written as they come: to spread them over all loads and to sweep these takes longer.
 const SHORT: usize = 256;
-
-// The points of one list.
-pub(crate) struct Part {
-    pub(crate) from: usize,
-    pub(crate) to: usize,
-}
-
-pub(crate) fn point_at(points: &[u64], p: usize) -> Choice
-    requires { ⌜ suc p * pointWidth ≤ length (now points) ⌝ }
-    ensures { λ r. ⌜ r ≡ pointAt (now (points .entry)) p ⌝ }
-{
-    Choice {
-        load: points[p * WIDTH] as usize,
-        cost: points[p * WIDTH + 1],
-        key: points[p * WIDTH + 2],
-    }
-}
-
-fn comes_first(a: Worth, b: Worth) -> bool
-    ensures { λ r. ⌜ Decides r (First a b) ⌝ }
-{
-    if a.cost < b.cost {
-        return true;
-    }
-    if b.cost < a.cost {
-        return false;
-    }
-    if a.key < b.key {
-        return true;
-    }
-    false
-}
-
-// The choice with each point of the list, as an entry of its load.
-fn spread_level(
-    capacity: usize,
-    choice: Choice,
-    part: Part,
-    points: &[u64],
-    costs: &mut [u64],
-    keys: &mut [u64],
-)
-    requires { ⌜ SumsSmall capacity choice (part .from) (part .to) (now points) ⌝ }
-    requires { ⌜ Long capacity (now costs) (now keys) ⌝ }
-    ensures { λ _. ⌜ LevelSpread capacity choice (part .from) (part .to) (now (points .entry)) (now (costs .entry)) (now (keys .entry))
-        (now (costs .exit)) (now (keys .exit)) ⌝ }
-{
-    let mut p = part.from;
-    while p < part.to {
-        let point = point_at(points, p);
-        let load = choice.load + point.load;
-        if load <= capacity {
-            let cost = choice.cost + point.cost;
-            let key = choice.key + point.key;
-            lower(load, cost, key, costs, keys);
-        }
-        p += 1;
-    }
-}
-
-// The item at each level.
-fn spread_item(
-    core: Core,
-    front: Front,
-    part: Part,
-    load: &[u64],
-    cost: &[u64],
-    points: &[u64],
-    costs: &mut [u64],
-    keys: &mut [u64],
-)
-    requires { ⌜ ItemFits core front (part .from) (part .to) (now load) (now cost) (now points) ⌝ }
-    requires { ⌜ Long (core .capacity) (now costs) (now keys) ⌝ }
-    requires { ⌜ Cleared (core .capacity) (now costs) ⌝ }
-    ensures { λ _. ⌜ ItemSpread core front (part .from) (part .to) (now (load .entry)) (now (cost .entry)) (now (points .entry))
-        (core .levels) (now (costs .exit)) (now (keys .exit)) ⌝ }
-{
-    let mut l = 0;
-    while l < core.levels {
-        let choice = choice_at(load, cost, front, l);
-        if choice.load <= core.capacity {
-            spread_level(core.capacity, choice, part, points, costs, keys);
-        }
-        l += 1;
-    }
-}
-
-pub(crate) fn store_point(p: usize, load: usize, worth: Worth, points: &mut [u64])
-    requires { ⌜ suc p * pointWidth ≤ length (now points) ⌝ }
-    ensures { λ _. ⌜ now (points .exit) ≡ withPoint (now (points .entry)) p load worth ⌝ }
-{
-    points[p * WIDTH] = load as u64;
-    points[p * WIDTH + 1] = worth.cost;
-    points[p * WIDTH + 2] = worth.key;
-}
-
-fn entry(knapsack_costs: &[u64], knapsack_keys: &[u64], w: usize) -> Worth
-    requires { ⌜ (w < length (now «knapsack_costs»)) × (w < length (now «knapsack_keys»)) ⌝ }
-    ensures { λ r. ⌜ (r .cost ≡ getD (now («knapsack_costs» .entry)) w 0) × (r .key ≡ getD (now («knapsack_keys» .entry)) w 0) ⌝ }
-{
-    Worth {
-        cost: knapsack_costs[w],
-        key: knapsack_keys[w],
-    }
-}
-
-// The entries that come before all of smaller load become points, from the point `from` on. Answers where they end.
-fn sweep(capacity: usize, from: usize, costs: &[u64], keys: &[u64], points: &mut [u64]) -> usize
-    requires { ⌜ Long capacity (now costs) (now keys) ⌝ }
-    requires { ⌜ (from + suc capacity) * pointWidth ≤ length (now points) ⌝ }
-    ensures { λ r. ⌜ Swept capacity from (now (costs .entry)) (now (keys .entry)) (now (points .entry)) (now (points .exit)) r ⌝ }
-{
-    let mut best = Worth {
-        cost: NO_COST,
-        key: 0,
-    };
-    let mut to = from;
-    let mut u = 0;
-    while u <= capacity {
-        let worth = entry(costs, keys, u);
-        if comes_first(worth, best) {
-            store_point(to, u, worth, points);
-            best = worth;
-            to += 1;
-        }
-        u += 1;
-    }
-    to
-}
-
-// The list of a set with the item, behind the first `used` points, from that of the set without it: spread over all loads,
-// and swept. Answers where it ends.
-fn list_long(
-    core: Core,
-    front: Front,
-    part: Part,
-    used: usize,
-    load: &[u64],
-    cost: &[u64],
-    points: &mut [u64],
-) -> usize
-    requires { ⌜ ItemFits core front (part .from) (part .to) (now load) (now cost) (now points) ⌝ }
-    requires { ⌜ (used + suc (core .capacity)) * pointWidth ≤ length (now points) ⌝ }
-    ensures { λ r. ⌜ SetAdded core front (part .from) (part .to) used (now (load .entry)) (now (cost .entry)) (now (points .entry)) (now (points .exit)) r ⌝ }
-{
-    let mut costs = [NO_COST; ENTRIES];
-    let mut keys = [0u64; ENTRIES];
-    spread_item(core, front, part, load, cost, points, &mut costs, &mut keys);
-    sweep(core.capacity, used, &costs, &keys, points)
-}
 
 fn is_short(core: Core, part: Part) -> bool
     requires { ⌜ part .from ≤ part .to ⌝ }

@@ -1,7 +1,7 @@
 // Short lists of choices: those of one set more are written as they come.
-use crate::lists::Part;
-use crate::lists::point_at;
-use crate::lists::store_point;
+use crate::points::Part;
+use crate::points::point_at;
+use crate::points::store_point;
 use knapsack::Choice;
 use knapsack::Core;
 use knapsack::Front;

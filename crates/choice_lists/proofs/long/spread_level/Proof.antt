@@ -10,8 +10,8 @@ use lib.ListN.{length}
 use Rattle.choice_lists.specs.Spread.{LevelSpread}
 use Rattle.knapsack.specs.declared.relaxing.Choice.{Choice}
 use Rattle.choice_lists.specs.SpreadLevels.{spread-nothing, spread-over, spread-lowered}
-use Rattle.choice_lists.proofs.lists.spread_level.Statement.{statement}
-use Rattle.choice_lists.proofs.lists.spread_level.Tie as tie
+use Rattle.choice_lists.proofs.long.spread_level.Statement.{statement}
+use Rattle.choice_lists.proofs.long.spread_level.Tie as tie
 
 abbrev Inv-loop : tie.InvT-loop
 Inv-loop capacity choice part points costs₀ keys₀ p₀ costs keys p =

@@ -8,8 +8,8 @@ use borrow.Author.Needs.{needs}
 use lib.ListN.{length}
 use Rattle.choice_lists.specs.Spread.{ItemSpread}
 use Rattle.choice_lists.specs.SpreadItems.{item-choice-fits, sums-small, spread-no-level, spread-no-room, spread-one-level}
-use Rattle.choice_lists.proofs.lists.spread_item.Statement.{statement}
-use Rattle.choice_lists.proofs.lists.spread_item.Tie as tie
+use Rattle.choice_lists.proofs.long.spread_item.Statement.{statement}
+use Rattle.choice_lists.proofs.long.spread_item.Tie as tie
 
 abbrev Inv-loop : tie.InvT-loop
 Inv-loop core front part load cost points costs₀ keys₀ l₀ costs keys l =
