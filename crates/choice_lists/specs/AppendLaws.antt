@@ -9,7 +9,7 @@ use Rattle.laws.specs.Below.{lt-or-le}
 use lib.ListN.{length}
 use Rattle.choice_lists.specs.Appended.{LevelAppended}
 use Rattle.assignment.specs.LeastLaws.{lesser-none}
-use Rattle.choice_lists.specs.Listed.{before, pointAt, leastListed, PointSmall}
+use Rattle.choice_lists.specs.Listed.{before, pointAt, leastListed, PointSmall, pointWidth}
 use Rattle.choice_lists.specs.PointLaws.{leastListed-alike, leastListed-more, point-older, with-point-older, with-point-there}
 use Rattle.choice_lists.specs.Spread.{sumOf, leastSums, Sound, present}
 use Rattle.choice_lists.specs.SpreadLaws.{before-none}
@@ -51,7 +51,7 @@ module _ {capacity from start : ℕ} {choice : Choice} where
           small = λ n places sums. sofar .small n places (λ q behind below. sums q behind (omega arith));
         }
 
-    pub append-stored : {worth : Worth} → choice .load + pointAt points₀ p .load ≤ capacity → suc end * 3 ≤ length points₀ →
+    pub append-stored : {worth : Worth} → choice .load + pointAt points₀ p .load ≤ capacity → suc end * pointWidth ≤ length points₀ →
         worth .cost ≡ choice .cost + pointAt points₀ p .cost → worth .key ≡ choice .key + pointAt points₀ p .key →
         LevelAppended capacity choice from (suc p) start points₀
         (withPoint points end (choice .load + pointAt points₀ p .load) worth) (suc end)

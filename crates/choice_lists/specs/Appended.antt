@@ -3,7 +3,7 @@ use Prim.Native.Nat.{ℕ, suc, _+_, _*_, _-_, _≤_, _<_}
 use mathlib.Core.Path.{_≡_}
 use mathlib.Core.List.{List}
 use lib.ListN.{length}
-use Rattle.choice_lists.specs.Listed.{pointAt, leastListed, PointSmall}
+use Rattle.choice_lists.specs.Listed.{pointAt, leastListed, PointSmall, pointWidth}
 use Rattle.knapsack.specs.Offered.{offerAt}
 use Rattle.knapsack.specs.Knapsacks.{atLevel}
 use Rattle.choice_lists.specs.Spread.{leastSums, Sound, SumsSmall, ItemFits}
@@ -17,7 +17,7 @@ use Rattle.knapsack.specs.declared.relaxing.Front.{Front}
 pub record LevelRoom (capacity : ℕ) (choice : Choice) (from to start : ℕ) (points : List ℕ) : Type 0 where
   pub sums : SumsSmall capacity choice from to points
   pub behind : to ≤ start
-  pub room : (start + (to - from)) * 3 ≤ length points
+  pub room : (start + (to - from)) * pointWidth ≤ length points
 
 -- the sums of a choice with the entries from `from` to `to` are those from `start` to `end`, but for sums above the capacity
 pub record LevelAppended (capacity : ℕ) (choice : Choice) (from to start : ℕ) (points₀ points : List ℕ) (end : ℕ) : Type 0 where
@@ -35,7 +35,7 @@ pub record LevelAppended (capacity : ℕ) (choice : Choice) (from to start : ℕ
 pub record ItemRoom (core : Core) (front : Front) (from to used : ℕ) (load cost points : List ℕ) : Type 0 where
   pub item : ItemFits core front from to load cost points
   pub behind : to ≤ used
-  pub room : (used + core .levels * (to - from)) * 3 ≤ length points
+  pub room : (used + core .levels * (to - from)) * pointWidth ≤ length points
 
 -- the item's first l levels before the entries from `from` to `to` are the entries from `used` to `end`
 pub record ItemAppended (core : Core) (front : Front) (from to used : ℕ) (load cost points₀ : List ℕ) (l : ℕ) (points : List ℕ)

@@ -22,9 +22,13 @@ before choice rest w = cond (leb (choice .load) w) (add (pair (choice .cost) (ch
 pub record Falling (capacity : ℕ) (rest : ℕ → Value) : Type 0 where
   pub no-worse : (u w : ℕ) → u ≤ w → w ≤ capacity → AtMost (rest w) (rest u)
 
--- entry p of a list is three numbers
+-- an entry of a list is three numbers: a load, a cost and a key
+abbrev pub pointWidth : ℕ
+pointWidth = 3
+
+-- entry p
 abbrev pub pointAt : List ℕ → ℕ → Choice
-pointAt points p = record { load = getD points (p * 3) 0; cost = getD points (p * 3 + 1) 0; key = getD points (p * 3 + 2) 0 }
+pointAt points p = record { load = getD points (p * pointWidth) 0; cost = getD points (p * pointWidth + 1) 0; key = getD points (p * pointWidth + 2) 0 }
 
 -- the least of `count` entries, from the entry `from` on, before a knapsack
 unfoldable pub leastListed : List ℕ → ℕ → ℕ → (ℕ → Value) → ℕ → Value
@@ -40,7 +44,7 @@ pub record PointSmall (capacity n places : ℕ) (point : Choice) : Type 0 where
 -- before any knapsack in which more room is no worse, the entries from `from` to `to` have the least value f
 pub record Listed (capacity n places : ℕ) (f : (ℕ → Value) → ℕ → Value) (points : List ℕ) (from to : ℕ) : Type 0 where
   pub ordered : from ≤ to
-  pub there : to * 3 ≤ length points
+  pub there : to * pointWidth ≤ length points
   pub least : (rest : ℕ → Value) → Falling capacity rest → (w : ℕ) → w ≤ capacity → leastListed points from (to - from) rest w ≡ f rest w
   pub small : (p : ℕ) → from ≤ p → p < to → PointSmall capacity n places (pointAt points p)
 

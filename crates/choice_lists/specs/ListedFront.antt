@@ -12,7 +12,7 @@ use Rattle.laws.specs.Truth.{false-not-true}
 use lib.ListN.{length, getD, set, length-set}
 use lib.Seq.{getD-set-same, getD-set-other}
 use Rattle.assignment.specs.LeastLaws.{none-lesser}
-use Rattle.choice_lists.specs.Listed.{before, pointAt, leastListed, Listed, SetsListed, FrontListed}
+use Rattle.choice_lists.specs.Listed.{before, pointAt, leastListed, Listed, SetsListed, FrontListed, pointWidth}
 use Rattle.choice_lists.specs.ListedSets.{WithItem, SetsFit}
 use Rattle.assignment.specs.Limits.{mostItems}
 use Rattle.knapsack.specs.Offered.{Affordable}
@@ -30,6 +30,10 @@ use Rattle.values.specs.declared.value.Worth.{Worth}
 abbrev pub mostListed : ℕ
 mostListed = 6
 
+-- where the list of each set of so many items starts, and where the last one ends
+abbrev pub mostStarts : ℕ
+mostStarts = 65
+
 -- the item before the last c of the first n of `items` items
 abbrev pub frontAt : (n c items : ℕ) → Front
 frontAt n c items = record { item = n - 1 - c; places = items - n + c; digit = keyBase ^ (items - n + c) }
@@ -40,8 +44,8 @@ pub record ListsFit (core : Core) (n items : ℕ) (load cost points starts : Lis
   pub some-items : n ≤ items
   pub few : n ≤ mostListed
   pub affordable : Affordable items (core .levels) (core .capacity) load cost
-  pub some-points : 3 ≤ length points
-  pub starts-long : 65 ≤ length starts
+  pub some-points : pointWidth ≤ length points
+  pub starts-long : mostStarts ≤ length starts
 
 -- the lengths alone matter
 pub lists-stay : {core : Core} {n items : ℕ} {load cost points starts points' starts' : List ℕ} → length points' ≡ length points →
@@ -98,7 +102,7 @@ nothing-before rest w =
     rw (le-leb 0 w (omega arith), all) (add-nothing (rest w))
 
 -- no item has one set, with one choice
-pub none-listed : {core : Core} (n items : ℕ) {load cost : List ℕ} (points starts : List ℕ) → 3 ≤ length points → 1 < length starts →
+pub none-listed : {core : Core} (n items : ℕ) {load cost : List ℕ} (points starts : List ℕ) → pointWidth ≤ length points → 1 < length starts →
     LastListed core n items load cost 0 (withPoint points 0 0 nothing) (set (set starts 0 0) 1 1)
 unfolding knapsackBefore leastListed leastBelow
 none-listed {core} n items points starts room long =
@@ -143,8 +147,8 @@ module _ {core : Core} {n items : ℕ} {load cost points starts : List ℕ} (fit
   sets-fit listed =
       let next : suc (n - 1 - c) ≡ n - c = omega arith in
       let some-digit : 0 < 2 = omega arith in
-      let less : suc c ≤ 6 = omega (arith, fits .few) in
-      let sets : 2 ^ suc c ≤ 2 ^ 6 = pow-le-pow-right some-digit less in
+      let less : suc c ≤ mostListed = omega (arith, fits .few) in
+      let sets : 2 ^ suc c ≤ 2 ^ mostListed = pow-le-pow-right some-digit less in
       record {
         room =
             record {

@@ -10,7 +10,7 @@ use lib.Dec.{leb}
 use lib.ListN.{length}
 use Rattle.choice_lists.specs.Appended.{ItemRoom, ItemAppended}
 use Rattle.knapsack.specs.FrontKnapsacks.{knapsackBefore-first, knapsackBefore-items}
-use Rattle.choice_lists.specs.Listed.{PointSmall, Listed}
+use Rattle.choice_lists.specs.Listed.{PointSmall, Listed, pointWidth}
 use Rattle.choice_lists.specs.ListedSets.{mostShort, Short, SetFits, SetAdded}
 use Rattle.knapsack.specs.Offered.{offerAt}
 use Rattle.assignment.specs.Keys.{keyBase}
@@ -79,10 +79,10 @@ module _ {core : Core} {front : Front} {from to : ℕ} {load cost points : List 
         record {
           item = fits .item;
           behind = fits .behind;
-          room = omega (arith, short, fits .room .short short, fits .there);
+          room = omega (arith, fits .room .short short, fits .there);
         }
 
-    pub room-long : ¬ (Short core from to) → (used + suc (core .capacity)) * 3 ≤ length points
+    pub room-long : ¬ (Short core from to) → (used + suc (core .capacity)) * pointWidth ≤ length points
     room-long long = omega (arith, fits .room .long long, fits .there)
 
 module _ (levels first n places : ℕ) (load cost : List ℕ) {k : ℕ} (there : k < 2 ^ n) (rest : ℕ → Value) where

@@ -10,7 +10,7 @@ use Rattle.laws.specs.Below.{below-suc}
 use lib.ListN.{length, getD, set, length-set}
 use lib.Pow.{pow-pos}
 use lib.Seq.{getD-set-same, getD-set-other}
-use Rattle.choice_lists.specs.Listed.{Listed, SetsListed}
+use Rattle.choice_lists.specs.Listed.{Listed, SetsListed, pointWidth}
 use Rattle.choice_lists.specs.ListedSets.{Enough, SetFits, SetAdded, SetsRoom, WithItem, SetsFit, SetsGoing, NextSetFits}
 use Rattle.choice_lists.specs.ListedSetLaws.{listed-absent, listed-present}
 use Rattle.knapsack.specs.Offered.{offerAt}
@@ -41,7 +41,7 @@ module _ {core : Core} {load cost : List ℕ} {first n places upto : ℕ} {point
   pub ends-before : (j : ℕ) → j ≤ upto → getD starts j 0 ≤ getD starts upto 0
   ends-before j le = rises (λ i. getD starts i 0) upto j (λ k below. sets .each k below .ordered) le
 
-  pub last-there : 0 < upto → getD starts upto 0 * 3 ≤ length points
+  pub last-there : 0 < upto → getD starts upto 0 * pointWidth ≤ length points
   last-there some =
       let is : suc (upto - 1) ≡ upto = omega arith in
       rw is at (sets .each (upto - 1) (omega arith) .there)
@@ -103,7 +103,7 @@ module _ {core : Core} {front : Front} {count : ℕ} {load cost : List ℕ} wher
     place-there : suc (2 ^ count + k) < length starts
     place-there = omega (arith, fits .there, fits .room .starts-long, pow-suc 2 count)
 
-    pub used-there : getD starts (2 ^ count + k) 0 * 3 ≤ length points
+    pub used-there : getD starts (2 ^ count + k) 0 * pointWidth ≤ length points
     used-there = last-there (fits .going .sofar) (omega (arith, pow-pos count))
 
     pub list-fits : ItemFits core front (getD starts k 0) (getD starts (suc k) 0) load cost points
@@ -119,7 +119,7 @@ module _ {core : Core} {front : Front} {count : ℕ} {load cost : List ℕ} wher
         }
 
     pub set-fits : {most : ℕ} → Enough core (getD starts k 0) (getD starts (suc k) 0) most →
-        most ≤ length points / 3 - getD starts (2 ^ count + k) 0 →
+        most ≤ length points / pointWidth - getD starts (2 ^ count + k) 0 →
         SetFits core front (getD starts k 0) (getD starts (suc k) 0) (getD starts (2 ^ count + k) 0) load cost points
     set-fits enough free =
         record {

@@ -3,7 +3,7 @@ use Prim.Native.Nat.{ℕ, suc, _+_, _*_, _-_, _/_, _^_, _≤_, _<_}
 use mathlib.Core.Path.{_≡_}
 use mathlib.Core.List.{List}
 use lib.ListN.{length}
-use Rattle.choice_lists.specs.Listed.{pointAt, leastListed, PointSmall, Listed, SetsListed}
+use Rattle.choice_lists.specs.Listed.{pointAt, leastListed, PointSmall, Listed, SetsListed, pointWidth}
 use Rattle.assignment.specs.Limits.{mostItems}
 use Rattle.knapsack.specs.Offered.{offerAt, Affordable}
 use Rattle.assignment.specs.Keys.{keyBase}
@@ -15,7 +15,7 @@ use Rattle.knapsack.specs.declared.relaxing.Front.{Front}
 
 -- so many entries are written as they come
 abbrev pub mostShort : ℕ
-mostShort = 64
+mostShort = 256
 
 -- an item before the entries from `from` to `to` makes no more
 abbrev pub Short : Core → (from to : ℕ) → Type 0
@@ -23,15 +23,15 @@ Short core from to = core .levels * (to - from) ≤ mostShort
 
 -- its list has at most so many entries
 pub record Enough (core : Core) (from to most : ℕ) : Type 0 where
-  pub short : Short core from to → mostShort ≤ most
+  pub short : Short core from to → core .levels * (to - from) ≤ most
   pub long : ¬ (Short core from to) → core .capacity < most
 
 -- there is room for another list behind the first `used` entries
 pub record SetFits (core : Core) (front : Front) (from to used : ℕ) (load cost points : List ℕ) : Type 0 where
   pub item : ItemFits core front from to load cost points
   pub behind : to ≤ used
-  pub there : used * 3 ≤ length points
-  pub room : Enough core from to (length points / 3 - used)
+  pub there : used * pointWidth ≤ length points
+  pub room : Enough core from to (length points / pointWidth - used)
 
 -- the item before the list from `from` to `to` is listed from `used` to `end`
 pub record SetAdded (core : Core) (front : Front) (from to used : ℕ) (load cost points₀ points : List ℕ) (end : ℕ) : Type 0 where

@@ -5,7 +5,7 @@ use mathlib.Core.Bool.{cond}
 use mathlib.Core.List.{List}
 use lib.Dec.{leb}
 use lib.ListN.{length, getD}
-use Rattle.choice_lists.specs.Listed.{before, pointAt, leastListed, PointSmall}
+use Rattle.choice_lists.specs.Listed.{before, pointAt, leastListed, PointSmall, pointWidth}
 use Rattle.assignment.specs.Limits.{mostItems, mostCapacity, mostCost}
 use Rattle.knapsack.specs.Offered.{offerAt, Affordable}
 use Rattle.assignment.specs.Keys.{keyBase}
@@ -52,7 +52,7 @@ AllSound capacity n places costs keys = (u : ℕ) → u ≤ capacity → Sound n
 pub record SumsSmall (capacity : ℕ) (choice : Choice) (from to : ℕ) (points : List ℕ) : Type 0 where
   pub capacity-limited : capacity ≤ mostCapacity
   pub ordered : from ≤ to
-  pub there : to * 3 ≤ length points
+  pub there : to * pointWidth ≤ length points
   pub choice-fits : choice .load ≤ capacity
   pub point-fits : (p : ℕ) → from ≤ p → p < to → pointAt points p .load ≤ capacity
   pub real : (p : ℕ) → from ≤ p → p < to → choice .cost + pointAt points p .cost < noCost
@@ -73,7 +73,7 @@ pub record ItemFits (core : Core) (front : Front) (from to : ℕ) (load cost poi
   pub places-limited : front .places < mostItems
   pub digit-is : front .digit ≡ keyBase ^ front .places
   pub ordered : from ≤ to
-  pub there : to * 3 ≤ length points
+  pub there : to * pointWidth ≤ length points
   pub small : (p : ℕ) → from ≤ p → p < to → PointSmall (core .capacity) (front .places) 0 (pointAt points p)
 
 -- no entry up to the capacity

@@ -3,7 +3,7 @@ use Prim.Native.Nat.{ℕ, _+_, _*_, _-_, _≤_, _<_}
 use mathlib.Core.Path.{_≡_}
 use mathlib.Core.List.{List}
 use lib.ListN.{length, getD, set}
-use Rattle.choice_lists.specs.Listed.{Falling, pointAt, leastListed, PointSmall, Listed}
+use Rattle.choice_lists.specs.Listed.{Falling, pointAt, leastListed, PointSmall, Listed, pointWidth}
 use Rattle.choice_lists.specs.Spread.{valueBefore, leastSpread, AllSound}
 use Rattle.assignment.specs.Values.{Value, leastBelow, AtMost}
 use Rattle.assignment.specs.Words.{noCost}
@@ -13,12 +13,12 @@ use Rattle.assignment.specs.Entries.{entryAt}
 
 -- the list with entry p
 unfoldable pub withPoint : List ℕ → (p load : ℕ) → Worth → List ℕ
-withPoint points p load worth = set (set (set points (p * 3) load) (p * 3 + 1) (worth .cost)) (p * 3 + 2) (worth .key)
+withPoint points p load worth = set (set (set points (p * pointWidth) load) (p * pointWidth + 1) (worth .cost)) (p * pointWidth + 2) (worth .key)
 
 -- entries below `used` are as they were
 pub record Older (used : ℕ) (points₀ points : List ℕ) : Type 0 where
   pub same-length : length points ≡ length points₀
-  pub as-before : (i : ℕ) → i < used * 3 → getD points i 0 ≡ getD points₀ i 0
+  pub as-before : (i : ℕ) → i < used * pointWidth → getD points i 0 ≡ getD points₀ i 0
 
 -- the loads below u are gathered in the entries from `from` to `to`, and `best` is the last of these
 pub record Gathered (capacity from u : ℕ) (costs keys points₀ points : List ℕ) (best : Worth) (to : ℕ) : Type 0 where

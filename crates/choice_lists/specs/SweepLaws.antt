@@ -8,7 +8,7 @@ use native.Mathlib.Omega.{arith}
 use borrow.Author.Tests.{le-leb, lt-leb}
 use Rattle.laws.specs.Below.{lt-or-le}
 use lib.ListN.{length, getD}
-use Rattle.choice_lists.specs.Listed.{before, Falling, pointAt, leastListed, PointSmall}
+use Rattle.choice_lists.specs.Listed.{before, Falling, pointAt, leastListed, PointSmall, pointWidth}
 use Rattle.choice_lists.specs.PointLaws.{leastListed-alike, leastListed-more, point-alike, with-point-older, with-point-there}
 use Rattle.choice_lists.specs.Spread.{valueBefore, leastSpread, Sound, present, AllSound}
 use Rattle.choice_lists.specs.SpreadLaws.{none-before}
@@ -84,7 +84,7 @@ module _ {capacity from : ℕ} {costs keys : List ℕ} where
         no-better : AtMost (worthOf best) (entryAt costs keys u)
         no-better = rw (← is-cost, ← is-key) (words-atMost _ _ _ _ (not-first later))
 
-    pub gathered-more : {worth : Worth} → u ≤ capacity → suc to * 3 ≤ length points₀ → worth .cost ≡ getD costs u 0 →
+    pub gathered-more : {worth : Worth} → u ≤ capacity → suc to * pointWidth ≤ length points₀ → worth .cost ≡ getD costs u 0 →
         worth .key ≡ getD keys u 0 → First worth best →
         Gathered capacity from (suc u) costs keys points₀ (withPoint points to u worth) worth (suc to)
     unfolding leastBelow entryAt before valueBefore
@@ -148,7 +148,7 @@ module _ {capacity from : ℕ} {costs keys : List ℕ} where
             let there = with-point-there points to u worth (omega (arith, sofar .older .same-length)) in
             rw (is, there) (new-small (rw entry-is at (sound u within)))
 
-  pub gathered-all : {points₀ points : List ℕ} {best : Worth} {to : ℕ} → (from + suc capacity) * 3 ≤ length points₀ →
+  pub gathered-all : {points₀ points : List ℕ} {best : Worth} {to : ℕ} → (from + suc capacity) * pointWidth ≤ length points₀ →
       Gathered capacity from (suc capacity) costs keys points₀ points best to → Swept capacity from costs keys points₀ points to
   unfolding leastSpread
   gathered-all room all =

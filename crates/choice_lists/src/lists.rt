@@ -1,233 +1,72 @@
 // The choices of levels for each set of the first few items, as lists: only choices are left out that another one beats,
 // whatever stands behind.
+use crate::long::list_long;
+use crate::points::Part;
+use crate::points::WIDTH;
+use crate::points::store_point;
 use crate::short::append_item;
-use knapsack::Choice;
 use knapsack::Core;
 use knapsack::Front;
-use knapsack::choice_at;
-use values::ENTRIES;
-use values::NO_COST;
 use values::Worth;
 use values::keys_of;
-use values::lower;
 use values::sets_of;
 ghost use mathlib.Core.Path.{_≡_};
 ghost use mathlib.Core.Bool.{true};
-ghost use Prim.Native.Nat.{suc, _+_, _*_, _-_, _^_, _≤_, _<_};
-ghost use lib.ListN.{length, getD, set};
-ghost use Rattle.choice_lists.specs.Listed.{FrontListed, pointAt};
-ghost use Rattle.choice_lists.specs.ListedFront.{frontAt, ListsFit, mostListed, nothing};
+ghost use Prim.Native.Nat.{suc, _*_, _-_, _^_, _≤_, _<_};
+ghost use lib.ListN.{length, set};
+ghost use Rattle.choice_lists.specs.Listed.{FrontListed, pointWidth};
+ghost use Rattle.choice_lists.specs.ListedFront.{frontAt, ListsFit, mostListed, mostStarts, nothing};
 ghost use Rattle.choice_lists.specs.ListedSets.{Enough, NextSetFits, SetAdded, SetFits, SetsFit, SetsGoing, Short, WithItem};
+ghost use Rattle.choice_lists.specs.Sweep.{withPoint};
 ghost use Rattle.assignment.specs.Limits.{mostCapacity, mostItems};
 ghost use Rattle.knapsack.specs.Offered.{Affordable};
-ghost use Rattle.choice_lists.specs.Spread.{Cleared, ItemFits, ItemSpread, LevelSpread, Long, SumsSmall};
-ghost use Rattle.choice_lists.specs.Sweep.{Swept, withPoint};
-ghost use Rattle.values.specs.Worths.{First};
 ghost use Rattle.laws.specs.Tests.{Decides};
 
 // At most so many items have lists.
 const MOST_LISTED: usize = 6;
 
-// Three numbers make a point: a load, a cost and a key.
-pub const WIDTH: usize = 3;
+// Where the list of each set of these starts, and where the last one ends.
+pub const STARTS: usize = (1 << MOST_LISTED) + 1;
 
 // So many points are written as they come: to spread them over all loads and to sweep these takes longer.
-const SHORT: usize = 64;
+const SHORT: usize = 256;
 
-pub(crate) fn point_at(points: &[u64], p: usize) -> Choice
-    requires { ⌜ suc p * 3 ≤ length (now points) ⌝ }
-    ensures { λ r. ⌜ r ≡ pointAt (now (points .entry)) p ⌝ }
+fn is_short(core: Core, part: Part) -> bool
+    requires { ⌜ part .from ≤ part .to ⌝ }
+    requires { ⌜ core .levels * (part .to - part .from) < 2 ^ 64 ⌝ }
+    ensures { λ r. ⌜ Decides r (Short core (part .from) (part .to)) ⌝ }
 {
-    Choice {
-        load: points[p * WIDTH] as usize,
-        cost: points[p * WIDTH + 1],
-        key: points[p * WIDTH + 2],
-    }
-}
-
-fn comes_first(a: Worth, b: Worth) -> bool
-    ensures { λ r. ⌜ Decides r (First a b) ⌝ }
-{
-    if a.cost < b.cost {
-        return true;
-    }
-    if b.cost < a.cost {
-        return false;
-    }
-    if a.key < b.key {
-        return true;
-    }
-    false
-}
-
-// The choice with each point from `from` to `to`, as an entry of its load.
-fn spread_level(
-    capacity: usize,
-    choice: Choice,
-    from: usize,
-    to: usize,
-    points: &[u64],
-    costs: &mut [u64],
-    keys: &mut [u64],
-)
-    requires { ⌜ SumsSmall capacity choice from to (now points) ⌝ }
-    requires { ⌜ Long capacity (now costs) (now keys) ⌝ }
-    ensures { λ _. ⌜ LevelSpread capacity choice from to (now (points .entry)) (now (costs .entry)) (now (keys .entry))
-        (now (costs .exit)) (now (keys .exit)) ⌝ }
-{
-    let mut p = from;
-    while p < to {
-        let point = point_at(points, p);
-        let load = choice.load + point.load;
-        if load <= capacity {
-            let cost = choice.cost + point.cost;
-            let key = choice.key + point.key;
-            lower(load, cost, key, costs, keys);
-        }
-        p += 1;
-    }
-}
-
-// The item at each level.
-fn spread_item(
-    core: Core,
-    front: Front,
-    from: usize,
-    to: usize,
-    load: &[u64],
-    cost: &[u64],
-    points: &[u64],
-    costs: &mut [u64],
-    keys: &mut [u64],
-)
-    requires { ⌜ ItemFits core front from to (now load) (now cost) (now points) ⌝ }
-    requires { ⌜ Long (core .capacity) (now costs) (now keys) ⌝ }
-    requires { ⌜ Cleared (core .capacity) (now costs) ⌝ }
-    ensures { λ _. ⌜ ItemSpread core front from to (now (load .entry)) (now (cost .entry)) (now (points .entry))
-        (core .levels) (now (costs .exit)) (now (keys .exit)) ⌝ }
-{
-    let mut l = 0;
-    while l < core.levels {
-        let choice = choice_at(load, cost, front, l);
-        if choice.load <= core.capacity {
-            spread_level(core.capacity, choice, from, to, points, costs, keys);
-        }
-        l += 1;
-    }
-}
-
-pub(crate) fn store_point(p: usize, load: usize, worth: Worth, points: &mut [u64])
-    requires { ⌜ suc p * 3 ≤ length (now points) ⌝ }
-    ensures { λ _. ⌜ now (points .exit) ≡ withPoint (now (points .entry)) p load worth ⌝ }
-{
-    points[p * WIDTH] = load as u64;
-    points[p * WIDTH + 1] = worth.cost;
-    points[p * WIDTH + 2] = worth.key;
-}
-
-fn entry(knapsack_costs: &[u64], knapsack_keys: &[u64], w: usize) -> Worth
-    requires { ⌜ (w < length (now «knapsack_costs»)) × (w < length (now «knapsack_keys»)) ⌝ }
-    ensures { λ r. ⌜ (r .cost ≡ getD (now («knapsack_costs» .entry)) w 0) × (r .key ≡ getD (now («knapsack_keys» .entry)) w 0) ⌝ }
-{
-    Worth {
-        cost: knapsack_costs[w],
-        key: knapsack_keys[w],
-    }
-}
-
-// The entries that come before all of smaller load become points, from the point `from` on. Answers where they end.
-fn sweep(capacity: usize, from: usize, costs: &[u64], keys: &[u64], points: &mut [u64]) -> usize
-    requires { ⌜ Long capacity (now costs) (now keys) ⌝ }
-    requires { ⌜ (from + suc capacity) * 3 ≤ length (now points) ⌝ }
-    ensures { λ r. ⌜ Swept capacity from (now (costs .entry)) (now (keys .entry)) (now (points .entry)) (now (points .exit)) r ⌝ }
-{
-    let mut best = Worth {
-        cost: NO_COST,
-        key: 0,
-    };
-    let mut to = from;
-    let mut u = 0;
-    while u <= capacity {
-        let worth = entry(costs, keys, u);
-        if comes_first(worth, best) {
-            store_point(to, u, worth, points);
-            best = worth;
-            to += 1;
-        }
-        u += 1;
-    }
-    to
-}
-
-// The list of a set with the item, behind the first `used` points, from that of the set without it: spread over all loads,
-// and swept. Answers where it ends.
-fn list_long(
-    core: Core,
-    front: Front,
-    from: usize,
-    to: usize,
-    used: usize,
-    load: &[u64],
-    cost: &[u64],
-    points: &mut [u64],
-) -> usize
-    requires { ⌜ ItemFits core front from to (now load) (now cost) (now points) ⌝ }
-    requires { ⌜ (used + suc (core .capacity)) * 3 ≤ length (now points) ⌝ }
-    ensures { λ r. ⌜ SetAdded core front from to used (now (load .entry)) (now (cost .entry)) (now (points .entry)) (now (points .exit)) r ⌝ }
-{
-    let mut costs = [NO_COST; ENTRIES];
-    let mut keys = [0u64; ENTRIES];
-    spread_item(
-        core,
-        front,
-        from,
-        to,
-        load,
-        cost,
-        points,
-        &mut costs,
-        &mut keys,
-    );
-    sweep(core.capacity, used, &costs, &keys, points)
-}
-
-fn is_short(core: Core, from: usize, to: usize) -> bool
-    requires { ⌜ from ≤ to ⌝ }
-    requires { ⌜ core .levels * (to - from) < 2 ^ 64 ⌝ }
-    ensures { λ r. ⌜ Decides r (Short core from to) ⌝ }
-{
-    core.levels * (to - from) <= SHORT
+    core.levels * (part.to - part.from) <= SHORT
 }
 
 // The same, in the way that takes less time.
 fn list_set(
     core: Core,
     front: Front,
-    from: usize,
-    to: usize,
+    part: Part,
     used: usize,
     load: &[u64],
     cost: &[u64],
     points: &mut [u64],
 ) -> usize
-    requires { ⌜ SetFits core front from to used (now load) (now cost) (now points) ⌝ }
-    ensures { λ r. ⌜ SetAdded core front from to used (now (load .entry)) (now (cost .entry)) (now (points .entry)) (now (points .exit)) r ⌝ }
+    requires { ⌜ SetFits core front (part .from) (part .to) used (now load) (now cost) (now points) ⌝ }
+    ensures { λ r. ⌜ SetAdded core front (part .from) (part .to) used (now (load .entry)) (now (cost .entry)) (now (points .entry)) (now (points .exit)) r ⌝ }
 {
-    if is_short(core, from, to) {
-        return append_item(core, front, from, to, used, load, cost, points);
+    if is_short(core, part) {
+        return append_item(core, front, part, used, load, cost, points);
     }
-    list_long(core, front, from, to, used, load, cost, points)
+    list_long(core, front, part, used, load, cost, points)
 }
 
 // The most points that the list of a set with the item may have.
-fn most_points(core: Core, from: usize, to: usize) -> usize
-    requires { ⌜ from ≤ to ⌝ }
-    requires { ⌜ core .levels * (to - from) < 2 ^ 64 ⌝ }
+fn most_points(core: Core, part: Part) -> usize
+    requires { ⌜ part .from ≤ part .to ⌝ }
+    requires { ⌜ core .levels * (part .to - part .from) < 2 ^ 64 ⌝ }
     requires { ⌜ core .capacity ≤ mostCapacity ⌝ }
-    ensures { λ r. ⌜ Enough core from to r ⌝ }
+    ensures { λ r. ⌜ Enough core (part .from) (part .to) r ⌝ }
 {
-    if is_short(core, from, to) {
-        return SHORT;
+    if is_short(core, part) {
+        return core.levels * (part.to - part.from);
     }
     core.capacity + 1
 }
@@ -250,11 +89,12 @@ fn list_next(
     let at = sets_of(count) + k;
     let from = starts[k];
     let to = starts[k + 1];
+    let part = Part { from, to };
     let used = starts[at];
-    if points.len() / WIDTH - used < most_points(core, from, to) {
+    if points.len() / WIDTH - used < most_points(core, part) {
         return false;
     }
-    let end = list_set(core, front, from, to, used, load, cost, points);
+    let end = list_set(core, front, part, used, load, cost, points);
     starts[at + 1] = end;
     true
 }
@@ -285,7 +125,7 @@ fn list_sets(
 
 // The one set of no item, with the one choice of nothing.
 fn list_none(points: &mut [u64], starts: &mut [usize])
-    requires { ⌜ 3 ≤ length (now points) ⌝ }
+    requires { ⌜ pointWidth ≤ length (now points) ⌝ }
     requires { ⌜ 1 < length (now starts) ⌝ }
     ensures { λ _. ⌜ now (points .exit) ≡ withPoint (now (points .entry)) 0 0 nothing ⌝ }
     ensures { λ _. ⌜ now (starts .exit) ≡ set (set (now (starts .entry)) 0 0) 1 1 ⌝ }
@@ -355,8 +195,8 @@ pub fn list_front(
 ) -> usize
     requires { ⌜ items ≤ mostItems ⌝ }
     requires { ⌜ Affordable items (core .levels) (core .capacity) (now load) (now cost) ⌝ }
-    requires { ⌜ 3 ≤ length (now points) ⌝ }
-    requires { ⌜ 65 ≤ length (now starts) ⌝ }
+    requires { ⌜ pointWidth ≤ length (now points) ⌝ }
+    requires { ⌜ mostStarts ≤ length (now starts) ⌝ }
     ensures { λ r. ⌜ (r ≤ items) × (r ≤ mostListed) ⌝ }
     ensures { λ r. ⌜ FrontListed core (now (load .entry)) (now (cost .entry)) r (items - r) (now (points .exit)) (now (starts .exit)) ⌝ }
 {

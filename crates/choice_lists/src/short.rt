@@ -1,6 +1,7 @@
 // Short lists of choices: those of one set more are written as they come.
-use crate::lists::point_at;
-use crate::lists::store_point;
+use crate::points::Part;
+use crate::points::point_at;
+use crate::points::store_point;
 use knapsack::Choice;
 use knapsack::Core;
 use knapsack::Front;
@@ -8,22 +9,21 @@ use knapsack::choice_at;
 use values::Worth;
 ghost use Rattle.choice_lists.specs.Appended.{ItemAppended, ItemRoom, LevelAppended, LevelRoom};
 
-// The choice with each point from `from` to `to` becomes a point, from the point `start` on, where the capacity takes both.
+// The choice with each point of the list becomes a point, from the point `start` on, where the capacity takes both.
 // Answers where they end.
 fn append_level(
     capacity: usize,
     choice: Choice,
-    from: usize,
-    to: usize,
+    part: Part,
     start: usize,
     points: &mut [u64],
 ) -> usize
-    requires { ⌜ LevelRoom capacity choice from to start (now points) ⌝ }
-    ensures { λ r. ⌜ LevelAppended capacity choice from to start (now (points .entry)) (now (points .exit)) r ⌝ }
+    requires { ⌜ LevelRoom capacity choice (part .from) (part .to) start (now points) ⌝ }
+    ensures { λ r. ⌜ LevelAppended capacity choice (part .from) (part .to) start (now (points .entry)) (now (points .exit)) r ⌝ }
 {
     let mut end = start;
-    let mut p = from;
-    while p < to {
+    let mut p = part.from;
+    while p < part.to {
         let point = point_at(points, p);
         let load = choice.load + point.load;
         if load <= capacity {
@@ -43,15 +43,14 @@ fn append_level(
 pub(crate) fn append_item(
     core: Core,
     front: Front,
-    from: usize,
-    to: usize,
+    part: Part,
     used: usize,
     load: &[u64],
     cost: &[u64],
     points: &mut [u64],
 ) -> usize
-    requires { ⌜ ItemRoom core front from to used (now load) (now cost) (now points) ⌝ }
-    ensures { λ r. ⌜ ItemAppended core front from to used (now (load .entry)) (now (cost .entry)) (now (points .entry))
+    requires { ⌜ ItemRoom core front (part .from) (part .to) used (now load) (now cost) (now points) ⌝ }
+    ensures { λ r. ⌜ ItemAppended core front (part .from) (part .to) used (now (load .entry)) (now (cost .entry)) (now (points .entry))
         (core .levels) (now (points .exit)) r ⌝ }
 {
     let mut end = used;
@@ -59,7 +58,7 @@ pub(crate) fn append_item(
     while l < core.levels {
         let choice = choice_at(load, cost, front, l);
         if choice.load <= core.capacity {
-            end = append_level(core.capacity, choice, from, to, end, points);
+            end = append_level(core.capacity, choice, part, end, points);
         }
         l += 1;
     }

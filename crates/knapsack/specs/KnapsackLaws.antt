@@ -17,8 +17,8 @@ use Rattle.assignment.specs.KeyLaws.{keeps-length}
 use Rattle.assignment.specs.Keys.{keyBase, planKey}
 use Rattle.assignment.specs.Values.{Value, none, pair, add, leastBelow, AtMost, Attained, Least}
 use Rattle.assignment.specs.ValueLaws.{atMost-refl, atMost-trans, add-mono, leastBelow-below, leastBelow-attained}
-use Rattle.knapsack.specs.Knapsacks.{atLevel, knapsack}
-use Rattle.knapsack.specs.Offers.{Offer, entryLoad, entryCost, patternLoad, patternCost, Fitting, offeredWorth, loadOptions}
+use Rattle.knapsack.specs.Knapsacks.{atLevel, knapsack, Fitting, offeredWorth}
+use Rattle.knapsack.specs.Offers.{Offer, entryLoad, entryCost, patternLoad, patternCost, loadOptions}
 
 -- what one entry more in front adds
 

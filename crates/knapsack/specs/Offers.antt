@@ -1,13 +1,9 @@
 -- Loads: what each item asks of a core and costs there, at each level; and the search over cores that take load up to a
 -- capacity.
-use Prim.Native.Nat.{ℕ, zero, suc, _+_, _≤_}
-use mathlib.Core.Bool.{Bool}
+use Prim.Native.Nat.{ℕ, zero, suc, _+_}
 use mathlib.Core.List.{List, [], _∷_}
 use lib.Dec.{leb}
 use Rattle.assignment.specs.Assignment.{Item, Options}
-use Rattle.assignment.specs.Keys.{planKey}
-use Rattle.assignment.specs.Keeping.{Keeps}
-use Rattle.assignment.specs.Values.{Value, pair}
 
 -- the load and the cost of an item at a level
 pub record Offer : Type 0 where
@@ -33,14 +29,6 @@ unfoldable pub patternCost : List Offer → List ℕ → ℕ
 patternCost [] pattern = 0
 patternCost (offer ∷ offers) [] = 0
 patternCost (offer ∷ offers) (c ∷ pattern) = entryCost offer c + patternCost offers pattern
-
--- the pattern keeps exactly the items of the set, in load at most w
-pub record Fitting (levels : ℕ) (offers : List Offer) (T : List Bool) (w : ℕ) (pattern : List ℕ) : Type 0 where
-  pub keeps : Keeps levels T pattern
-  pub fits : patternLoad offers pattern ≤ w
-
-unfoldable pub offeredWorth : List Offer → List ℕ → Value
-offeredWorth offers pattern = pair (patternCost offers pattern) (planKey pattern)
 
 -- each core takes the patterns whose load is within the capacity
 unfoldable pub loadOptions : (cores levels capacity : ℕ) → List Offer → List Item → Options

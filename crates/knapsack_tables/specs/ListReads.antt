@@ -9,7 +9,7 @@ use borrow.Author.Tests.{le-leb}
 use lib.ListN.{length, getD}
 use Rattle.assignment.specs.KeyLaws.{keys-fit}
 use Rattle.knapsack_tables.specs.FilledTables.{Holds}
-use Rattle.choice_lists.specs.Listed.{before, Falling, pointAt, leastListed, Listed}
+use Rattle.choice_lists.specs.Listed.{before, Falling, pointAt, leastListed, Listed, pointWidth}
 use Rattle.assignment.specs.Limits.{mostItems}
 use Rattle.choice_lists.specs.PointLaws.{leastListed-more}
 use Rattle.assignment.specs.Keys.{keyBase}
@@ -31,7 +31,7 @@ pub record ListRead (capacity from to : ℕ) (points knapsackCosts knapsackKeys 
 
 -- the numbers that the entry p asks for are there, and their sums fit 64 bits
 pub record PointRead (capacity p : ℕ) (points knapsackCosts knapsackKeys : List ℕ) : Type 0 where
-  pub in-points : p * 3 + 2 < length points
+  pub in-points : p * pointWidth + 2 < length points
   pub room : pointAt points p .load ≤ capacity
   pub in-costs : capacity - pointAt points p .load < length knapsackCosts
   pub in-keys : capacity - pointAt points p .load < length knapsackKeys

@@ -43,7 +43,7 @@ module _ {core : Core} {branch : Branch} {points starts knapsackCosts knapsackKe
         let all = pow-add 2 (branch .ahead) (branch .places) ∙ ap (λ (b : ℕ). 2 ^ branch .ahead * b) (sym (fits .bit-is)) in
         omega (arith, all, fits .index-below, suc-mul k (branch .bit), mul-le-mul-right (branch .bit) there)
 
-    pub place-fits : k * branch .bit + branch .index < 4096
+    pub place-fits : k * branch .bit + branch .index < 2 ^ mostItems
     place-fits =
         let some-digit : 0 < 2 = omega arith in
         let few : 2 ^ (branch .ahead + branch .places) ≤ 2 ^ mostItems = pow-le-pow-right some-digit (fits .items-limited) in

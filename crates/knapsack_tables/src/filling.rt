@@ -1,5 +1,7 @@
 // The knapsacks of all sets of items, branch by branch.
 use crate::front::store_listed;
+use choice_lists::STARTS;
+use choice_lists::WIDTH;
 use choice_lists::list_front;
 use knapsack::Core;
 use knapsack::Front;
@@ -12,14 +14,13 @@ ghost use Prim.Native.Nat.{_≤_};
 ghost use lib.ListN.{length};
 ghost use Rattle.knapsack_tables.specs.Branches.{BranchFilled, BranchFits, NextFits, nextItem, withoutNext, withNext};
 ghost use Rattle.knapsack_tables.specs.TabledKnapsacks.{KnapsacksFilled, KnapsacksFit};
+ghost use Rattle.choice_lists.specs.Listed.{pointWidth};
 
-// Room for the lists of the first items' choices: three numbers for each choice, and where each of at most 64 lists starts.
-// Two items have at most 81 choices: making room for more would take longer than the search.
-const POINTS: usize = 36864;
+// Room for the lists of the first items' choices. Two items have at most 81 choices: making room for more would take longer than
+// the search.
+const POINTS: usize = 12288 * WIDTH;
 
-const FEW_POINTS: usize = 243;
-
-const STARTS: usize = 65;
+const FEW_POINTS: usize = 81 * WIDTH;
 
 // Sets that agree on their last `places` items, the part of their number that these make up being `index`. The other
 // items are `ahead`, the first of them, `listed` in number, with lists of their choices; `bit` and `digit` are the weights
@@ -150,7 +151,7 @@ fn fill_with(
     keys: &mut [u64],
 )
     requires { ⌜ KnapsacksFit n (core .levels) (core .capacity) (now load) (now cost) (now costs) (now keys) ⌝ }
-    requires { ⌜ 3 ≤ length (now points) ⌝ }
+    requires { ⌜ pointWidth ≤ length (now points) ⌝ }
     ensures { λ _. ⌜ KnapsacksFilled n (core .levels) (core .capacity) (now (load .entry)) (now (cost .entry))
         (now (costs .entry)) (now (keys .entry)) (now (costs .exit)) (now (keys .exit)) ⌝ }
 {

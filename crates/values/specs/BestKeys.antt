@@ -1,10 +1,8 @@
 -- What a cost and a key tell of the best plan.
-use Prim.Native.Nat.{ℕ, _^_, _≤_, _<_}
+use Prim.Native.Nat.{ℕ, _^_, _<_}
 use mathlib.Core.Path.{_≡_}
-use mathlib.Core.List.{List}
-use Rattle.assignment.specs.Assignment.{Options, totalCost, Allowed, Best}
+use Rattle.assignment.specs.Assignment.{Options, totalCost, Best}
 use Rattle.assignment.specs.Keys.{keyBase, digits}
-use Rattle.assignment.specs.Words.{noCost}
 use Rattle.values.specs.declared.value.Worth.{Worth}
 
 -- the key of the best plan of n items, and its cost
@@ -12,8 +10,3 @@ pub record BestKey (o : Options) (n : ℕ) (worth : Worth) : Type 0 where
   pub is-best : Best o (digits n (worth .key))
   pub costs : totalCost o (digits n (worth .key)) ≡ worth .cost
   pub key-below : worth .key < keyBase ^ n
-
--- the same, or, where they stand for none, that no plan is allowed
-pub record EncodesBest (o : Options) (n : ℕ) (worth : Worth) : Type 0 where
-  pub best : worth .cost < noCost → BestKey o n worth
-  pub none-allowed : noCost ≤ worth .cost → (plan : List ℕ) → ¬ (Allowed o plan)

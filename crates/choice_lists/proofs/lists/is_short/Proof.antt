@@ -12,8 +12,8 @@ mul-result c = search needs
 
 returns : tie.Need-returns
 returns c =
-    let a = c .before .args in
-    decides-short (a .core) (a .from) (a .to)
+    let a = c .before .before .args in
+    decides-short (a .core) (a .part .from) (a .part .to)
 
 pub is-short-spec : {M : Type 1} → statement M
 is-short-spec = tie.close (tie.spec sub-result mul-result returns)

@@ -12,11 +12,11 @@ use Rattle.choice_lists.proofs.short.append_item.Statement.{statement}
 use Rattle.choice_lists.proofs.short.append_item.Tie as tie
 
 abbrev Inv-loop : tie.InvT-loop
-Inv-loop core front from to used load cost points₀ end₀ l₀ points end l =
-    (l ≤ core .levels) × ItemAppended core front from to used load cost points₀ l points end
+Inv-loop core front part used load cost points₀ end₀ l₀ points end l =
+    (l ≤ core .levels) × ItemAppended core front (part .from) (part .to) used load cost points₀ l points end
 
 abbrev μ-loop : tie.MeasureT-loop
-μ-loop core front from to used load cost points₀ end₀ l₀ points end l = core .levels - l
+μ-loop core front part used load cost points₀ end₀ l₀ points end l = core .levels - l
 
 loop-holds : tie.Need-loop-holds Inv-loop μ-loop
 loop-holds c =

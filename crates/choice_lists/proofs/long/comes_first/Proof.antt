@@ -1,8 +1,8 @@
 -- `comes_first` compares costs, then keys.
 use mathlib.Core.Logic.{inl, inr, ⊎-elim}
 use native.Mathlib.Omega.{arith}
-use Rattle.choice_lists.proofs.lists.comes_first.Statement.{statement}
-use Rattle.choice_lists.proofs.lists.comes_first.Tie as tie
+use Rattle.choice_lists.proofs.long.comes_first.Statement.{statement}
+use Rattle.choice_lists.proofs.long.comes_first.Tie as tie
 
 returns : tie.Need-returns
 returns c = inl (omega arith)

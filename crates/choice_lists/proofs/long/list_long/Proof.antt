@@ -3,8 +3,8 @@ use Rattle.choice_lists.specs.ListedSetLaws.{set-added}
 use Rattle.choice_lists.specs.SpreadItems.{knapsacks-cleared, knapsacks-long}
 use Rattle.assignment.specs.Words.{noCost}
 use borrow.Author.Needs.{needs}
-use Rattle.choice_lists.proofs.lists.list_long.Statement.{statement}
-use Rattle.choice_lists.proofs.lists.list_long.Tie as tie
+use Rattle.choice_lists.proofs.long.list_long.Statement.{statement}
+use Rattle.choice_lists.proofs.long.list_long.Tie as tie
 
 slice-aggregate-spread-item : tie.Need-slice-aggregate-spread-item
 slice-aggregate-spread-item c = search needs

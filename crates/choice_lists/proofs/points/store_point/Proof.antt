@@ -4,8 +4,8 @@ use native.Mathlib.Omega.{arith}
 use lib.ListN.{length-set}
 use Rattle.choice_lists.specs.Sweep.{withPoint}
 use borrow.Author.Needs.{needs}
-use Rattle.choice_lists.proofs.lists.store_point.Statement.{statement}
-use Rattle.choice_lists.proofs.lists.store_point.Tie as tie
+use Rattle.choice_lists.proofs.points.store_point.Statement.{statement}
+use Rattle.choice_lists.proofs.points.store_point.Tie as tie
 
 mul-points : tie.Need-mul-points
 mul-points c = search needs

@@ -7,8 +7,8 @@ use native.Mathlib.Omega.{arith}
 use borrow.Author.Needs.{needs}
 use Rattle.choice_lists.specs.Sweep.{Gathered}
 use Rattle.choice_lists.specs.SweepLaws.{gathered-none, gathered-skip, gathered-more, gathered-all}
-use Rattle.choice_lists.proofs.lists.sweep.Statement.{statement}
-use Rattle.choice_lists.proofs.lists.sweep.Tie as tie
+use Rattle.choice_lists.proofs.long.sweep.Statement.{statement}
+use Rattle.choice_lists.proofs.long.sweep.Tie as tie
 
 abbrev Inv-loop : tie.InvT-loop
 Inv-loop capacity from costs keys points₀ best₀ to₀ u₀ points best to u =

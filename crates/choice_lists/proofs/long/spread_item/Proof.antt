@@ -8,16 +8,16 @@ use borrow.Author.Needs.{needs}
 use lib.ListN.{length}
 use Rattle.choice_lists.specs.Spread.{ItemSpread}
 use Rattle.choice_lists.specs.SpreadItems.{item-choice-fits, sums-small, spread-no-level, spread-no-room, spread-one-level}
-use Rattle.choice_lists.proofs.lists.spread_item.Statement.{statement}
-use Rattle.choice_lists.proofs.lists.spread_item.Tie as tie
+use Rattle.choice_lists.proofs.long.spread_item.Statement.{statement}
+use Rattle.choice_lists.proofs.long.spread_item.Tie as tie
 
 abbrev Inv-loop : tie.InvT-loop
-Inv-loop core front from to load cost points costs₀ keys₀ l₀ costs keys l =
+Inv-loop core front part load cost points costs₀ keys₀ l₀ costs keys l =
     (l ≤ core .levels) × (length costs ≡ length costs₀) × (length keys ≡ length keys₀)
-    × ItemSpread core front from to load cost points l costs keys
+    × ItemSpread core front (part .from) (part .to) load cost points l costs keys
 
 abbrev μ-loop : tie.MeasureT-loop
-μ-loop core front from to load cost points costs₀ keys₀ l₀ costs keys l = core .levels - l
+μ-loop core front part load cost points costs₀ keys₀ l₀ costs keys l = core .levels - l
 
 loop-holds : tie.Need-loop-holds Inv-loop μ-loop
 loop-holds c =
@@ -53,8 +53,8 @@ loop-again c =
     (λ spread.
     rw (spread .8, spread .9) (
       omega arith,
-      spread .3 .kept .1 .1 .1 .1 .1 .0 ∙ at .inv .1,
-      spread .3 .kept .1 .1 .1 .1 .1 .1 .0 ∙ at .inv .2,
+      spread .3 .kept .1 .1 .1 .1 .0 ∙ at .inv .1,
+      spread .3 .kept .1 .1 .1 .1 .1 .0 ∙ at .inv .2,
       spread-one-level fits under chosen (at .inv .3) (spread .0 .taken) (spread .3 .ensures),
     ))
     (λ over.
