@@ -4,7 +4,7 @@ use crate::draw::below;
 use crate::draw::times;
 use crate::draw::up_to;
 use ranges::MAY_NOT_BE_REFUSED;
-use ranges::SETTINGS_COUNT;
+use ranges::SETTINGS_WITHOUT_IDLE;
 
 const PERIODS: [u32; 8] = [1, 2, 3, 4, 6, 8, 12, 24];
 
@@ -29,7 +29,7 @@ fn put(words: &mut [u32; 32], at: usize, word: u32) {
 
 // The number of settings, the two weights, and the cores.
 fn put_settings(words: &mut [u32; 32], state: &mut u32) {
-    words[0] = SETTINGS_COUNT;
+    words[0] = SETTINGS_WITHOUT_IDLE;
     words[1] = up_to(state, 3);
     words[2] = up_to(state, 3);
     words[3] = up_to(state, 3);
