@@ -14,7 +14,7 @@ use Rattle.laws.specs.Below.{lt-or-le}
 use Rattle.assignment.specs.Limits.{mostItems}
 use Rattle.assignment.specs.Words.{noCost}
 use Rattle.cores.specs.AwakeCores.{surplus}
-use Rattle.cores.specs.SetSizes.{itemsIn, itemsIn-half, itemsIn-empty}
+use Rattle.cores.specs.SetSizes.{itemsIn, itemsIn-half, itemsIn-empty, itemsIn-some}
 
 -- the cost of a set of so many items, less what is counted too often; no cost stays no cost
 unfoldable pub charged : (whole count cost : ℕ) → ℕ
@@ -102,14 +102,22 @@ pub free-charged : (n x : ℕ) (costs : List ℕ) → ChargedBelow n 0 x costs c
 unfolding surplus
 free-charged n x costs = record { below = λ y h. sym (nothing-off 0 (itemsIn n y) (getD costs y 0) (mul-zero _)); from = λ y h. refl }
 
-pub one-more-charged : {n whole x : ℕ} {before after : List ℕ} → ChargedBelow n whole x before after → x < length after →
-    ChargedBelow n whole (x + 1) before (set after x (charged whole (itemsIn n x) (getD before x 0)))
-one-more-charged {n} {whole} {x} {before} {after} done room =
-    record { below = λ y h. go y (eq-or-lt-of-le h); from = λ y h. getD-set-other after x y next 0 (omega arith) ∙ done .from y (omega arith) }
-  where
-    next : ℕ
-    next = charged whole (itemsIn n x) (getD before x 0)
+module _ {n whole x : ℕ} {sizes before after : List ℕ} (sized : SizesBelow n (2 ^ n) sizes) (done : ChargedBelow n whole x before after)
+    (under : x < 2 ^ n) where
+  pub next-counted : ChargeReady n whole before → 1 ≤ x →
+      (1 ≤ getD sizes x 0) × (getD after x 0 < noCost → surplus whole (getD sizes x 0) ≤ getD after x 0)
+  next-counted ready some =
+      let same = done .from x (omega arith) in
+      rw (sized .at x under, same) (itemsIn-some n x some under, ready .surplus-counted x under)
 
-    go : (y : ℕ) → (suc y ≡ x + 1) ⊎ (suc y < x + 1) → getD (set after x next) y 0 ≡ charged whole (itemsIn n y) (getD before y 0)
-    go y (inl e) = let last : y ≡ x = omega arith in rw last (getD-set-same after x next 0 room)
-    go y (inr earlier) = getD-set-other after x y next 0 (omega arith) ∙ done .below y (omega arith)
+  pub one-more-charged : {cost : ℕ} → cost ≡ charged whole (getD sizes x 0) (getD after x 0) → x < length after →
+      ChargedBelow n whole (x + 1) before (set after x cost)
+  one-more-charged {cost} is-charged room =
+      record { below = λ y h. go y (eq-or-lt-of-le h); from = λ y h. getD-set-other after x y cost 0 (omega arith) ∙ done .from y (omega arith) }
+    where
+      go : (y : ℕ) → (suc y ≡ x + 1) ⊎ (suc y < x + 1) → getD (set after x cost) y 0 ≡ charged whole (itemsIn n y) (getD before y 0)
+      go y (inl e) =
+          let last : y ≡ x = omega arith in
+          let right = rw (sized .at x under, done .from x (omega arith)) at is-charged in
+          rw last (getD-set-same after x cost 0 room ∙ right)
+      go y (inr earlier) = getD-set-other after x y cost 0 (omega arith) ∙ done .below y (omega arith)

@@ -1,67 +1,67 @@
-use Prim.Native.Nat.{ℕ, zero, suc, _+_, _-_, _*_, _≤_, _<_}
-use mathlib.Core.Path.{_≡_, refl, sym, _∙_}
+-- `fill_sizes` makes each size from that of half the set's number.
+use Prim.Native.Nat.{_+_, _-_, _/_, _%_, _^_, _≤_, _<_}
+use mathlib.Core.Path.{_≡_, refl, _∙_}
 use native.Mathlib.Omega.{arith}
 use borrow.Author.Needs.{needs}
-use lib.ListN.{length, getD}
+use denote.Ref.{now}
+use lib.ListN.{length, getD, length-set}
+use lib.Pow.{pow-pos}
+use Rattle.cores.specs.ChargedTables.{SizesBelow, first-size, one-more-size}
+use Rattle.cores.specs.SetSizes.{itemsIn-at-most}
 use Rattle.cores.proofs.fill_sizes.Statement.{statement}
 use Rattle.cores.proofs.fill_sizes.Tie as tie
-use Rattle.cores.proofs.fill_sizes.Reads as reads
-use Rattle.cores.proofs.fill_sizes.Lts as lts
-use Rattle.values.proofs.sets_of.Reads as sets-of-reads
 
 abbrev Inv-loop : tie.InvT-loop
-Inv-loop items sizes₀ all x₀ sizes x = ?
+Inv-loop items sizes₀ all x₀ sizes x = (length sizes ≡ length sizes₀) × (1 ≤ x) × (x ≤ 2 ^ items) × SizesBelow items x sizes
 
 abbrev μ-loop : tie.MeasureT-loop
-μ-loop items sizes₀ all x₀ sizes x = ?
+μ-loop items sizes₀ all x₀ sizes x = 2 ^ items - x
 
--- src/lib.rt:21:9
 sets-of-requires : tie.Need-sets-of-requires Inv-loop μ-loop
 sets-of-requires c κs = search needs
 
--- src/lib.rt:23:5
 loop-holds : tie.Need-loop-holds Inv-loop μ-loop
-loop-holds c = search needs
+loop-holds c =
+    let a = c .before .before .args in
+    (refl, omega arith, pow-pos (a .items), first-size (a .items) (now (a .sizes)) (c .before .before .pre .1 .1))
 
--- src/lib.rt:24:20
 mul-sizes : tie.Need-mul-sizes Inv-loop μ-loop
 mul-sizes c = search needs
 
--- src/lib.rt:24:20
 slice-read-sizes : tie.Need-slice-read-sizes Inv-loop μ-loop
 slice-read-sizes c = search needs
 
--- src/lib.rt:24:20
 add-sizes : tie.Need-add-sizes Inv-loop μ-loop
-add-sizes c = search needs
+add-sizes c =
+    let at = c .before .before .loop in
+    let a = c .before .before .before .before .before .args in
+    omega (arith, at .inv .3 .at (at .x / 2) (omega arith), itemsIn-at-most (a .items) (at .x / 2), c .before .before .before .before .before .pre .0)
 
--- src/lib.rt:24:9
 mul-sizes-2 : tie.Need-mul-sizes-2 Inv-loop μ-loop
 mul-sizes-2 c = search needs
 
--- src/lib.rt:24:9
 slice-write-sizes : tie.Need-slice-write-sizes Inv-loop μ-loop
 slice-write-sizes c = search needs
 
--- src/lib.rt:25:9
 add-x : tie.Need-add-x Inv-loop μ-loop
 add-x c = search needs
 
--- src/lib.rt:23:5
 loop-less : tie.Need-loop-less Inv-loop μ-loop
 loop-less c = search needs
 
--- src/lib.rt:23:5
 loop-again : tie.Need-loop-again Inv-loop μ-loop
-loop-again c = search needs
+loop-again c =
+    let at = c .before .before .loop in
+    (length-set (at .sizes) (at .x) _ ∙ at .inv .0, omega arith, omega arith, one-more-size (at .inv .3) (at .inv .1) (omega arith) (omega arith))
 
--- src/lib.rt:15:1
 same-length : tie.Need-same-length Inv-loop μ-loop
 same-length c = search needs
 
--- src/lib.rt:15:1
 returns : tie.Need-returns Inv-loop μ-loop
-returns c = search needs
+returns c =
+    let at = c .before .loop in
+    let all : at .x ≡ 2 ^ c .before .before .before .before .args .items = omega arith in
+    rw all at (at .inv .3)
 
 pub fill-sizes-spec : {M : Type 1} → statement M
 fill-sizes-spec =
