@@ -15,9 +15,9 @@ unfoldable pub size : List Bool → ℕ
 size [] = 0
 size (b ∷ T) = cond b 1 0 + size T
 
--- the ticks of the span that a core's items leave; a core that runs none is off
-unfoldable pub idleTicks : ℕ → List Offer → List ℕ → ℕ
-idleTicks span offers pattern = cond (ltb 0 (size (keptItems pattern))) (span - patternLoad offers pattern) 0
+-- the ticks of the span that the load of a core's items leaves idle; a core that runs none is off
+unfoldable pub idleLoad : ℕ → List Offer → List ℕ → ℕ
+idleLoad span offers pattern = cond (ltb 0 (size (keptItems pattern))) (span - patternLoad offers pattern) 0
 
 -- each core takes load up to the span, and `unit` is what an idle tick costs
 unfoldable pub awakeOptions : (cores levels span unit : ℕ) → List Offer → List Item → Options
@@ -27,7 +27,7 @@ awakeOptions cores levels span unit offers items =
       levels = levels;
       items = items;
       admits = λ pattern. leb (patternLoad offers pattern) span;
-      coreCost = λ pattern. patternCost offers pattern + unit * idleTicks span offers pattern;
+      coreCost = λ pattern. patternCost offers pattern + unit * idleLoad span offers pattern;
     }
 
 -- what an item costs at level l on a core that runs nothing else

@@ -1,14 +1,15 @@
 -- Costs alone are true costs and the surplus, so that the least of the ones less the surplus is the least of the others.
-use Prim.Native.Nat.{ℕ, zero, suc, _+_, _-_, _*_, _≤_, _<_}
+use Prim.Native.Nat.{ℕ, zero, suc, pred, _+_, _-_, _*_, _≤_, _<_}
 use mathlib.Core.Path.{_≡_, refl, sym, ap, _∙_}
 use mathlib.Core.Logic.{inl, inr}
 use mathlib.Core.Bool.{Bool, cond}
 use mathlib.Core.List.{List, [], _∷_}
-use native.Mathlib.Nat.{suc-inj, suc-mul, mul-add, mul-zero, sub-add-cancel}
+use native.Mathlib.Nat.{suc-inj, suc-mul, mul-add, zero-mul, mul-zero, sub-add-cancel}
 use native.Mathlib.Omega.{arith}
 use borrow.Author.Tests.{leb-true, lt-ltb}
 use lib.Dec.{ltb}
 use lib.ListN.{length}
+use Rattle.assignment.specs.AlikeLaws.{Alike}
 use Rattle.assignment.specs.Assignment.{Item, Options}
 use Rattle.assignment.specs.CoreTables.{Admitted, patternWorth, CoreTable}
 use Rattle.assignment.specs.Keeping.{Keeps, done, refused, kept}
@@ -16,7 +17,7 @@ use Rattle.assignment.specs.KeepingLaws.{kept-items}
 use Rattle.assignment.specs.Values.{Value, pair, AtMost, cheaper, tied, Attained, Least}
 use Rattle.assignment.specs.ValueLaws.{none-above}
 use Rattle.knapsack.specs.Offers.{Offer, entryLoad, entryCost, patternLoad, patternCost, loadOptions}
-use Rattle.cores.specs.AwakeCores.{size, idleTicks, awakeOptions, aloneCost, OfferedAlone, surplus, takeOff}
+use Rattle.cores.specs.AwakeCores.{size, idleLoad, awakeOptions, aloneCost, OfferedAlone, surplus, takeOff}
 
 -- what a load pays for and what it leaves make the whole span
 whole-span : (unit : ℕ) {span load : ℕ} → load ≤ span → unit * (span - load) + unit * load ≡ unit * span
@@ -75,8 +76,8 @@ module _ {levels span unit : ℕ} where
 
   pub core-cost : {T : List Bool} {pattern : List ℕ} (offers alone : List Offer) → OfferedAlone levels span unit offers alone →
       length T ≡ length offers → Keeps levels T pattern → patternLoad offers pattern ≤ span →
-      patternCost alone pattern ≡ surplus (unit * span) (size T) + (patternCost offers pattern + unit * idleTicks span offers pattern)
-  unfolding surplus idleTicks
+      patternCost alone pattern ≡ surplus (unit * span) (size T) + (patternCost offers pattern + unit * idleLoad span offers pattern)
+  unfolding surplus idleLoad
   core-cost {T} {pattern} offers alone given beside keeps fits =
       rw (kept-items keeps) (go (size T) (empty-load offers keeps) (alone-sum offers alone given beside keeps fits))
     where
@@ -113,31 +114,54 @@ module _ {Has Has' : List ℕ → Type 0} {cost other key : List ℕ → ℕ} (s
             attained = inr (b, there b has, ap (λ (c : ℕ). pair c (key b)) rest);
           })
 
--- the table of the items alone, less the surplus of each set, is that of a core that pays for its idle ticks
-pub awake-core-table : {levels span unit : ℕ} {offers alone : List Offer} (cores : ℕ) (items : List Item) {table : List Bool → Value} →
-    OfferedAlone levels span unit offers alone → length offers ≡ length items →
-    CoreTable (loadOptions cores levels span alone items) table →
-    CoreTable (awakeOptions cores levels span unit offers items) (λ T. takeOff (surplus (unit * span) (size T)) (table T))
-unfolding loadOptions awakeOptions patternWorth
-awake-core-table {levels} {span} {unit} {offers} {alone} cores items {table} given all core =
+module _ {levels span unit : ℕ} {offers alone : List Offer} (cores : ℕ) (items : List Item) (given : OfferedAlone levels span unit offers alone)
+    (all : length offers ≡ length items) where
+  plain : Options
+  plain = loadOptions cores levels span alone items
+
+  awake : Options
+  awake = awakeOptions cores levels span unit offers items
+
+  module _ (T : List Bool) (of-items : length T ≡ length items) where
+    admitted-awake : {pattern : List ℕ} → Admitted plain T pattern → Admitted awake T pattern
+    unfolding plain awake loadOptions awakeOptions
+    admitted-awake admitted =
+        record { keeps = admitted .keeps; admitted = rw (alone-load offers alone given (of-items ∙ sym all) (admitted .keeps)) at (admitted .admitted) }
+
+    admitted-alone : {pattern : List ℕ} → Admitted awake T pattern → Admitted plain T pattern
+    unfolding plain awake loadOptions awakeOptions
+    admitted-alone admitted =
+        record { keeps = admitted .keeps; admitted = rw (alone-load offers alone given (of-items ∙ sym all) (admitted .keeps)) (admitted .admitted) }
+
+    pub admitted-cost : {pattern : List ℕ} → Admitted (loadOptions cores levels span alone items) T pattern →
+        loadOptions cores levels span alone items .coreCost pattern
+        ≡ surplus (unit * span) (size T) + awakeOptions cores levels span unit offers items .coreCost pattern
+    unfolding plain awake loadOptions awakeOptions
+    admitted-cost admitted =
+        core-cost offers alone given (of-items ∙ sym all) (admitted .keeps) (leb-true _ span (admitted-awake admitted .admitted))
+
+  -- the table of the items alone, less the surplus of each set, is that of a core that pays for its idle ticks
+  pub awake-core-table : {table : List Bool → Value} → CoreTable (loadOptions cores levels span alone items) table →
+      CoreTable (awakeOptions cores levels span unit offers items) (λ T. takeOff (surplus (unit * span) (size T)) (table T))
+  unfolding plain awake loadOptions awakeOptions patternWorth
+  awake-core-table core =
+      record {
+        least = λ T of-items.
+            least-less (surplus (unit * span) (size T)) (λ a. admitted-awake T of-items) (λ a. admitted-alone T of-items) (λ a.
+                admitted-cost T of-items) (core .least T of-items);
+      }
+
+-- where idle ticks cost nothing, items alone cost what they cost together
+pub free-alike : {levels span : ℕ} {offers alone : List Offer} (cores : ℕ) (items : List Item) → OfferedAlone levels span 0 offers alone →
+    length offers ≡ length items → Alike (loadOptions cores levels span alone items) (awakeOptions cores levels span 0 offers items)
+unfolding loadOptions awakeOptions surplus
+free-alike {levels} {span} {offers} {alone} cores items given all =
     record {
-      least = λ T of-items.
-          let beside = of-items ∙ sym all in
-          least-less (surplus (unit * span) (size T)) (λ a. there T beside) (λ a. back T beside) (λ a has. costs T beside has) (core .least T of-items);
+      same-cores = refl;
+      same-levels = refl;
+      same-items = refl;
+      same-admits = λ T of-items pattern keeps. rw (alone-load offers alone given (of-items ∙ sym all) keeps);
+      same-cost = λ T of-items pattern admitted.
+          let counted = admitted-cost cores items given all T of-items admitted in
+          omega (arith, zero-mul span, mul-zero (pred (size T)));
     }
-  where
-    plain : Options
-    plain = loadOptions cores levels span alone items
-
-    awake : Options
-    awake = awakeOptions cores levels span unit offers items
-
-    there : (T : List Bool) → length T ≡ length offers → {a : List ℕ} → Admitted plain T a → Admitted awake T a
-    there T beside admitted = record { keeps = admitted .keeps; admitted = rw (alone-load offers alone given beside (admitted .keeps)) at (admitted .admitted) }
-
-    back : (T : List Bool) → length T ≡ length offers → {a : List ℕ} → Admitted awake T a → Admitted plain T a
-    back T beside admitted = record { keeps = admitted .keeps; admitted = rw (alone-load offers alone given beside (admitted .keeps)) (admitted .admitted) }
-
-    costs : (T : List Bool) → length T ≡ length offers → {a : List ℕ} → Admitted plain T a →
-        patternCost alone a ≡ surplus (unit * span) (size T) + (patternCost offers a + unit * idleTicks span offers a)
-    costs T beside admitted = core-cost offers alone given beside (admitted .keeps) (leb-true _ span (there T beside admitted .admitted))

@@ -2,9 +2,9 @@
 use Prim.Native.Nat.{ℕ, zero, suc, _+_, _-_, _*_, _/_, _%_, _^_, _≤_, _<_}
 use mathlib.Core.Path.{_≡_, refl, sym, ap, _∙_}
 use mathlib.Core.Logic.{_⊎_, inl, inr}
-use mathlib.Core.Bool.{Bool, true, false, cond}
+use mathlib.Core.Bool.{cond}
 use mathlib.Core.List.{List}
-use native.Mathlib.Nat.{mul-zero, sub-zero, eq-or-lt-of-le}
+use native.Mathlib.Nat.{mul-zero, eq-or-lt-of-le}
 use native.Mathlib.Omega.{arith}
 use borrow.Author.Tests.{lt-ltb, le-ltb}
 use lib.Dec.{ltb}
@@ -55,6 +55,14 @@ charged-at-most whole count cost = go (lt-or-le cost noCost)
     go : (cost < noCost) ⊎ (noCost ≤ cost) → charged whole count cost ≤ cost
     go (inl real) = omega (arith, charged-real whole count cost real)
     go (inr dear) = omega (arith, charged-none whole count cost dear)
+
+-- what is real afterwards was real
+pub charged-was-real : (whole count cost : ℕ) → charged whole count cost < noCost → cost < noCost
+charged-was-real whole count cost real = go (lt-or-le cost noCost)
+  where
+    go : (cost < noCost) ⊎ (noCost ≤ cost) → cost < noCost
+    go (inl here) = here
+    go (inr dear) = absurd (omega (arith, charged-none whole count cost dear))
 
 nothing-off : (whole count cost : ℕ) → surplus whole count ≡ 0 → charged whole count cost ≡ cost
 nothing-off whole count cost none = go (lt-or-le cost noCost)

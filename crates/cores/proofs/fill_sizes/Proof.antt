@@ -1,10 +1,10 @@
 -- `fill_sizes` makes each size from that of half the set's number.
-use Prim.Native.Nat.{_+_, _-_, _/_, _%_, _^_, _≤_, _<_}
+use Prim.Native.Nat.{_-_, _/_, _^_, _≤_}
 use mathlib.Core.Path.{_≡_, refl, _∙_}
 use native.Mathlib.Omega.{arith}
 use borrow.Author.Needs.{needs}
 use denote.Ref.{now}
-use lib.ListN.{length, getD, length-set}
+use lib.ListN.{length, length-set}
 use lib.Pow.{pow-pos}
 use Rattle.cores.specs.ChargedTables.{SizesBelow, first-size, one-more-size}
 use Rattle.cores.specs.SetSizes.{itemsIn-at-most}
