@@ -5,6 +5,7 @@ pub mod Valid
 pub mod SpanLaws
 pub mod Held
 pub mod RangeLaws
+pub mod SettingsWritten
 pub mod LevelsWritten
 pub mod TasksWritten
 pub mod SiteFileLaws

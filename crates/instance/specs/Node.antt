@@ -15,6 +15,8 @@ use Rattle.instance.specs.declared.Weights.{Weights}
 pub record Problem : Type 0 where
   pub weights : Weights
   pub cores : ℕ
+  -- idle power, of document 02 (a): what an awake core draws in an idle tick
+  pub idle : ℕ
   pub levels : List Level
   pub tasks : List Task
 
@@ -51,6 +53,7 @@ stored p =
     record {
       weights = p .weights;
       cores = p .cores;
+      idle = p .idle;
       levelcount = levelCount p;
       levels = padded mostLevels noLevel (p .levels);
       taskcount = taskCount p;
@@ -64,6 +67,7 @@ noInstance =
     record {
       weights = record { energy = 0; penalty = 0 };
       cores = 0;
+      idle = 0;
       levelcount = 0;
       levels = replicate mostLevels noLevel;
       taskcount = 0;

@@ -20,7 +20,7 @@ use Rattle.instance.specs.declared.tasks.TaskGot.{TaskGot}
 use Rattle.instance.specs.declared.tasks.TasksGot.{TasksGot}
 
 abbrev pub settingsIn : SettingsGot → Settings
-settingsIn r = record { weights = r .weights; cores = r .cores }
+settingsIn r = record { weights = r .weights; cores = r .cores; idle = r .idle }
 
 pub record LevelWithinLimits (l : Level) : Type 0 where
   pub speed : l .speed ≤ Limits.mostSpeed

@@ -1,7 +1,7 @@
 -- The paper's section 'Site file', the words: "sections stand in a fixed order, each after its count", and of 'Refused
 -- input' the rows 2, 3 and 4: "words are taken from the front, each tested for 2, 3, 4".
 use Prim.Native.Nat.{ℕ, suc}
-use mathlib.Core.Bool.{Bool, _||_}
+use mathlib.Core.Bool.{Bool, cond, _||_}
 use mathlib.Core.List.{List, [], _∷_}
 use mathlib.Core.Path.{refl}
 use lib.Dec.{leb, eqb}
@@ -25,15 +25,21 @@ SiteFormat A = Format 4 A
 pub record Settings : Type 0 where
   pub weights : Weights
   pub cores : ℕ
+  pub idle : ℕ
 
--- "settings | 3"
+-- (a) "Settings may now count 4, the fourth word being idle power, 0 to 65,535; a count of 3 means 0."
+unfoldable pub idlePower : ℕ → SiteFormat ℕ
+idlePower count = cond (eqb count Limits.settingsWithIdle) (word 0 Limits.mostIdlePower) (done 0)
+
+-- settings | 3 or 4
 unfoldable pub settings : SiteFormat Settings
 settings = do
-  count ← word Limits.settingsCount Limits.settingsCount
+  count ← word Limits.settingsWithoutIdle Limits.settingsWithIdle
   energy ← word 1 Limits.mostWeight
   penalty ← word 1 Limits.mostWeight
   cores ← word 1 Limits.mostCores
-  done (record { weights = record { energy = energy; penalty = penalty }; cores = cores })
+  idle ← idlePower count
+  done (record { weights = record { energy = energy; penalty = penalty }; cores = cores; idle = idle })
 
 -- "speed 1 to 65,535, then power 1 to 65,535, for each level; both rise strictly from level to level": the level after
 -- `before`
@@ -83,7 +89,7 @@ siteFile = do
   ls ← levels
   ts ← tasks
   nothing ← end
-  done (record { weights = s .weights; cores = s .cores; levels = ls; tasks = ts })
+  done (record { weights = s .weights; cores = s .cores; idle = s .idle; levels = ls; tasks = ts })
 
 abbrev pub readingOf : Taken Problem → Reading Problem
 readingOf (refused r) = Reading.refused r

@@ -1,7 +1,7 @@
 -- Reading accepts exactly the words that write valid instances, each as the instance that they write.
 use Prim.Native.Nat.{ℕ, suc}
 use mathlib.Core.Path.{_≡_, ap}
-use mathlib.Core.List.{List, [], _∷_, _++_, append-nil}
+use mathlib.Core.List.{List, [], _∷_, _++_, append-assoc, append-nil}
 use native.Mathlib.Omega.{arith}
 use Rattle.ranges.specs.Limits
 use Rattle.refusals.specs.Refusals.{accepted}
@@ -12,26 +12,29 @@ use Rattle.formats.specs.Written as Written
 use Rattle.instance.specs.LevelsWritten.{rising-in-range, rising-rises, levels-rise, rising-levels, valid-speeds, valid-powers}
 use Rattle.instance.specs.Node.{Problem, levelCount, taskCount, noLevel, span, spanFrom}
 use Rattle.instance.specs.RangeLaws.{between-in-range, in-range-between}
+use Rattle.instance.specs.SettingsWritten.{IdleWritten, absent, given, idle-written, idle-at-most, settings-written}
 use Rattle.instance.specs.SiteFile.{settings, level, lastAfter, levels, task, tasks, siteFile, readingOf, problemOf}
 use Rattle.instance.specs.TasksWritten.{tasks-written, valid-tasks}
-use Rattle.instance.specs.Valid.{InRange, Valid, wordsOfLevels, wordsOfTasks, three, Writes, sections}
+use Rattle.instance.specs.Valid.{InRange, Valid, wordsOfLevels, wordsOfTasks, three, four, Writes, sections}
 
 record Read (p : Problem) (words : List ℕ) : Type 0 where
   valid : Valid p
   written : Writes p words
 
-writes-sections : {p : Problem} {settings-count level-count task-count : ℕ} {level-words task-words : List ℕ} →
-    settings-count ≡ Limits.settingsCount → levelCount p ≡ level-count → level-words ≡ wordsOfLevels (p .levels) ++ task-count ∷ task-words →
-    taskCount p ≡ task-count → task-words ≡ wordsOfTasks (p .tasks) ++ [] →
-    Writes p (settings-count ∷ p .weights .energy ∷ p .weights .penalty ∷ p .cores ∷ level-count ∷ level-words)
-writes-sections {p} settings-count level-count levels task-count tasks =
-    rw (settings-count, ← level-count, levels, ← task-count, tasks, append-nil (wordsOfTasks (p .tasks))) (sections three)
+writes-sections : {p : Problem} {settings-count level-count task-count : ℕ} {idle-words level-words task-words : List ℕ} →
+    IdleWritten (p .idle) (level-count ∷ level-words) settings-count idle-words → levelCount p ≡ level-count →
+    level-words ≡ wordsOfLevels (p .levels) ++ task-count ∷ task-words → taskCount p ≡ task-count → task-words ≡ wordsOfTasks (p .tasks) ++ [] →
+    Writes p (settings-count ∷ p .weights .energy ∷ p .weights .penalty ∷ p .cores ∷ idle-words)
+writes-sections {p} (absent none) level-count levels task-count tasks =
+    rw (← level-count, levels, ← task-count, tasks, append-nil (wordsOfTasks (p .tasks))) (sections (three none))
+writes-sections {p} (given most) level-count levels task-count tasks =
+    rw (← level-count, levels, ← task-count, tasks, append-nil (wordsOfTasks (p .tasks))) (sections four)
 
 site-file-read : {p : Problem} {words : List ℕ} (rest : List ℕ) → siteFile .Writes p words rest → Read p words
 unfolding siteFile settings levels tasks lastAfter spanFrom span
 site-file-read rest
     (then
-    (then (Written.word count t-passes) (then (Written.word energy e-passes) (then (Written.word penalty p-passes) (then (Written.word cores c-passes) nothing))))
+    (then (Written.word count t-passes) (then (Written.word energy e-passes) (then (Written.word penalty p-passes) (then (Written.word cores c-passes) (then idle-words nothing)))))
     (then
     (then (Written.word level-count l-passes) some-levels)
     (then
@@ -41,13 +44,14 @@ site-file-read rest
     let ts = times-written (λ before. task (spanFrom 1 before)) task-count [] some-tasks in
     let rise = levels-rise (ls .many) in
     let spanned = tasks-written (ts .many) in
-    let settings-count : count ≡ Limits.settingsCount = omega (arith, between-in-range t-passes) in
+    let idle = idle-written count (between-in-range t-passes) idle-words in
     rw (ls .are, ts .are) (record {
       valid =
           record {
             energy-weight = between-in-range e-passes;
             penalty-weight = between-in-range p-passes;
             cores = between-in-range c-passes;
+            idle = idle-at-most idle;
             level-count = rw (ls .count) (between-in-range l-passes);
             level = λ l below.
                 record {
@@ -60,28 +64,24 @@ site-file-read rest
             task = spanned .task;
             span-at-most = spanned .span-at-most (omega arith);
           };
-      written = writes-sections settings-count (ls .count) (rise .1) (ts .count) (spanned .written);
+      written = writes-sections idle (ls .count) (rise .1) (ts .count) (spanned .written);
     })
-
-settings-count-in-range : InRange Limits.settingsCount Limits.settingsCount Limits.settingsCount
-settings-count-in-range = omega arith
 
 site-file-writes : {p : Problem} {words : List ℕ} → Valid p → Writes p words → siteFile .Writes p words []
 unfolding siteFile settings levels tasks lastAfter spanFrom span
-site-file-writes {p} v (sections three) =
+site-file-writes {p} v (sections {settings = front} settings-words) =
     let task-count : InRange 0 Limits.mostTasks (taskCount p) = omega (arith, v .task-count) in
     let ls = rising-levels [] (p .levels) (taskCount p ∷ wordsOfTasks (p .tasks)) (valid-speeds v) (valid-powers v) in
     let ts = rw append-nil at (valid-tasks [] (p .tasks) [] (omega arith) (v .task) (v .span-at-most)) in
-    then
-    (then (Written.word _ (in-range-between settings-count-in-range))
-    (then (Written.word _ (in-range-between (v .energy-weight)))
-    (then (Written.word _ (in-range-between (v .penalty-weight)))
-    (then (Written.word _ (in-range-between (v .cores))) nothing))))
+    let together = append-assoc front (levelCount p ∷ wordsOfLevels (p .levels)) (taskCount p ∷ wordsOfTasks (p .tasks)) in
+    rw together
+    (then
+    (settings-written v settings-words _)
     (then
     (then (Written.word _ (in-range-between (v .level-count))) (many-written (λ before. level (lastAfter noLevel before)) ls))
     (then
     (then (Written.word _ (in-range-between task-count)) (many-written (λ before. task (spanFrom 1 before)) ts))
-    (then Written.EndWrites.ended nothing)))
+    (then Written.EndWrites.ended nothing))))
 
 accepted-read : (words : List ℕ) {p : Problem} → problemOf words ≡ accepted p → Read p words
 unfolding problemOf

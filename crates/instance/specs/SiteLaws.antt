@@ -2,6 +2,8 @@
 use Prim.Native.Nat.{ℕ}
 use mathlib.Core.Path.{_≡_, sym, _∙_}
 use mathlib.Core.List.{List}
+use mathlib.Core.Logic.{_≢_}
+use borrow.Author.Tests.{eq-eqb, ne-eqb}
 use Rattle.ranges.specs.Limits
 use Rattle.refusals.specs.Refusals.{refused}
 use Rattle.refusals.specs.declared.Refusal.{Refusal}
@@ -14,26 +16,39 @@ use Rattle.formats.specs.declared.Got.{Got}
 use Rattle.instance.specs.Node.{Problem, span, stored}
 use Rattle.instance.specs.Outcomes.{instanceReadOf, instanceOutcome}
 use Rattle.instance.specs.Sections.{settingsIn, levelsIn, GetsLevels, tasksIn, GetsTasks}
-use Rattle.instance.specs.SiteFile.{settings, siteFile, problemOf}
+use Rattle.instance.specs.SiteFile.{idlePower, settings, siteFile, problemOf}
 use Rattle.instance.specs.declared.Instance.{Instance}
 use Rattle.instance.specs.declared.levels.LevelsGot.{LevelsGot}
 use Rattle.instance.specs.declared.site.SettingsGot.{SettingsGot}
 use Rattle.instance.specs.declared.tasks.TasksGot.{TasksGot}
 
-pub settings-gets : {all : List ℕ} {c : Cursor} {count energy penalty cores : Got} →
-    GetsWord all c Limits.settingsCount Limits.settingsCount count → GetsWord all (count .cursor) 1 Limits.mostWeight energy →
+module _ {all : List ℕ} {c : Cursor} {count : ℕ} where
+  pub idle-word-gets : {got : Got} → count ≡ Limits.settingsWithIdle → GetsWord all c 0 Limits.mostIdlePower got →
+      Gets all c (idlePower count .take) (got .value) (got .cursor)
+  unfolding idlePower
+  idle-word-gets four word = rw (eq-eqb count Limits.settingsWithIdle four) (word .gets)
+
+  pub no-idle-word-gets : count ≢ Limits.settingsWithIdle → Gets all c (idlePower count .take) 0 c
+  unfolding idlePower
+  no-idle-word-gets other = rw (ne-eqb count Limits.settingsWithIdle other) (gets-done 0)
+
+pub settings-gets : {all : List ℕ} {c : Cursor} {count energy penalty cores idle : Got} →
+    GetsWord all c Limits.settingsWithoutIdle Limits.settingsWithIdle count → GetsWord all (count .cursor) 1 Limits.mostWeight energy →
     GetsWord all (energy .cursor) 1 Limits.mostWeight penalty → GetsWord all (penalty .cursor) 1 Limits.mostCores cores →
-    Gets all c (settings .take) (record { weights = record { energy = energy .value; penalty = penalty .value }; cores = cores .value }) (cores .cursor)
+    Gets all (cores .cursor) (idlePower (count .value) .take) (idle .value) (idle .cursor) →
+    Gets all c (settings .take)
+    (record { weights = record { energy = energy .value; penalty = penalty .value }; cores = cores .value; idle = idle .value })
+    (idle .cursor)
 unfolding settings
-settings-gets count energy penalty cores =
-    and-then _ (count .gets) (and-then _ (energy .gets) (and-then _ (penalty .gets) (and-then _ (cores .gets) (gets-done _))))
+settings-gets count energy penalty cores idle =
+    and-then _ (count .gets) (and-then _ (energy .gets) (and-then _ (penalty .gets) (and-then _ (cores .gets) (and-then _ idle (gets-done _)))))
 
 module _ {words : List ℕ} {start end : Cursor} {s : SettingsGot} {l : LevelsGot} {t : TasksGot}
     (at-start : start ≡ atStart) (settings-gets : Gets words start (settings .take) (settingsIn s) (s .cursor))
     (levels-get : GetsLevels words (s .cursor) l) (tasks-get : GetsTasks words (l .cursor) t)
     (end-gets : Gets words (t .cursor) takeEnd tt end) where
   abbrev read : Problem
-  read = record { weights = s .weights; cores = s .cores; levels = levelsIn l; tasks = tasksIn t }
+  read = record { weights = s .weights; cores = s .cores; idle = s .idle; levels = levelsIn l; tasks = tasksIn t }
 
   site-gets : Gets words atStart (siteFile .take) read end
   unfolding siteFile
@@ -49,6 +64,7 @@ module _ {words : List ℕ} {start end : Cursor} {s : SettingsGot} {l : LevelsGo
       record {
         weights = s .weights;
         cores = s .cores;
+        idle = s .idle;
         levelcount = l .count;
         levels = l .levels;
         taskcount = t .count;
@@ -62,6 +78,7 @@ module _ {words : List ℕ} {start end : Cursor} {s : SettingsGot} {l : LevelsGo
       record {
         weights = s .weights;
         cores = s .cores;
+        idle = s .idle;
         levelcount = sym (levels-get .filled .count) i;
         levels = levels-get .filled .is-padded i;
         taskcount = sym (tasks-get .filled .count) i;

@@ -1,4 +1,4 @@
--- The paper's section 'Site file' as what holds of an instance, and the words that the instance is written in. Nothing
+-- Document 01's section 'Site file', with (a) of document 02, as what holds of an instance, and the words that the instance is written in. Nothing
 -- here reads: that what is read is valid and written so, and that whatever is valid and written so is read, are laws.
 use Prim.Native.Nat.{ℕ, suc, _≤_, _<_}
 use mathlib.Core.Path.{_≡_}
@@ -30,6 +30,8 @@ pub record Valid (p : Problem) : Type 0 where
   pub energy-weight : InRange 1 Limits.mostWeight (p .weights .energy)
   pub penalty-weight : InRange 1 Limits.mostWeight (p .weights .penalty)
   pub cores : InRange 1 Limits.mostCores (p .cores)
+  -- (a) "idle power, 0 to 65,535"
+  pub idle : p .idle ≤ Limits.mostIdlePower
   -- "levels | 1 to 8"
   pub level-count : InRange 1 Limits.mostLevels (levelCount p)
   pub level : (l : ℕ) → l < levelCount p → ValidLevel (levelAt p l)
@@ -50,9 +52,11 @@ unfoldable pub wordsOfTasks : List Task → List ℕ
 wordsOfTasks [] = []
 wordsOfTasks (t ∷ ts) = t .period ∷ t .cycles ∷ t .penalty ∷ wordsOfTasks ts
 
--- "settings | 3"
+-- settings | 3 or 4. "A count of 3 means 0": an instance of idle power 0 is written in either way.
 pub data WritesSettings (p : Problem) : List ℕ → Type 0 where
-  three : WritesSettings p (Limits.settingsCount ∷ p .weights .energy ∷ p .weights .penalty ∷ p .cores ∷ [])
+  three : p .idle ≡ 0 →
+      WritesSettings p (Limits.settingsWithoutIdle ∷ p .weights .energy ∷ p .weights .penalty ∷ p .cores ∷ [])
+  four : WritesSettings p (Limits.settingsWithIdle ∷ p .weights .energy ∷ p .weights .penalty ∷ p .cores ∷ p .idle ∷ [])
 
 -- Which lists of words write an instance. "Its sections stand in a fixed order, each after its count."
 pub data Writes (p : Problem) : List ℕ → Type 0 where

@@ -25,10 +25,11 @@ pub struct Weights {
     pub penalty: u32,
 }
 
-// An accepted instance. Only the first `levelcount` levels and `taskcount` tasks are its own; the others are all zero.
+// An accepted instance; `idle` is the power that an awake core draws in an idle tick. Only the first `levelcount` levels and `taskcount` tasks are its own; the others are all zero.
 pub struct Instance {
     pub weights: Weights,
     pub cores: u32,
+    pub idle: u32,
     pub levelcount: usize,
     pub levels: [Level; ranges::MOST_LEVELS as usize],
     pub taskcount: usize,

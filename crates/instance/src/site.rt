@@ -7,6 +7,7 @@ use crate::Weights;
 use crate::levels::levels_next;
 use crate::tasks::tasks_next;
 use formats::Cursor;
+use formats::Got;
 use formats::cursor_at_start;
 use formats::end_next;
 use formats::word_next;
@@ -17,12 +18,23 @@ ghost use Rattle.formats.specs.Cursors.{Gets};
 ghost use Rattle.instance.specs.Outcomes.{instanceOutcome, instanceReadOf, ReadingEnds};
 ghost use Rattle.refusals.specs.Refusals.{refused};
 ghost use Rattle.instance.specs.Sections.{settingsIn};
-ghost use Rattle.instance.specs.SiteFile.{settings};
+ghost use Rattle.instance.specs.SiteFile.{idlePower, settings};
 
 struct SettingsGot {
     weights: Weights,
     cores: u32,
+    idle: u32,
     cursor: Cursor,
+}
+
+// The idle power, a word only where the settings count 4; else 0.
+fn idle_next(words: &[u32], cursor: Cursor, count: u32) -> Got
+    ensures { λ r. ⌜ Gets (now (words .entry)) cursor (idlePower count .take) (r .value) (r .cursor) ⌝ }
+{
+    if count == ranges::SETTINGS_WITH_IDLE {
+        return word_next(words, cursor, 0, ranges::MOST_IDLE_POWER);
+    }
+    Got { value: 0, cursor }
 }
 
 fn settings_next(words: &[u32], cursor: Cursor) -> SettingsGot
@@ -31,19 +43,21 @@ fn settings_next(words: &[u32], cursor: Cursor) -> SettingsGot
     let count = word_next(
         words,
         cursor,
-        ranges::SETTINGS_COUNT,
-        ranges::SETTINGS_COUNT,
+        ranges::SETTINGS_WITHOUT_IDLE,
+        ranges::SETTINGS_WITH_IDLE,
     );
     let energy = word_next(words, count.cursor, 1, ranges::MOST_WEIGHT);
     let penalty = word_next(words, energy.cursor, 1, ranges::MOST_WEIGHT);
     let cores = word_next(words, penalty.cursor, 1, ranges::MOST_CORES);
-    let after = cores.cursor;
+    let idle = idle_next(words, cores.cursor, count.value);
+    let after = idle.cursor;
     SettingsGot {
         weights: Weights {
             energy: energy.value,
             penalty: penalty.value,
         },
         cores: cores.value,
+        idle: idle.value,
         cursor: after,
     }
 }
@@ -59,6 +73,7 @@ fn no_instance(why: Refusal) -> InstanceRead
                 penalty: 0,
             },
             cores: 0,
+            idle: 0,
             levelcount: 0,
             levels: [Level { speed: 0, power: 0 }; ranges::MOST_LEVELS as usize],
             taskcount: 0,
@@ -93,6 +108,7 @@ pub fn read_instance(words: &[u32]) -> InstanceRead
         instance: Instance {
             weights,
             cores: settings.cores,
+            idle: settings.idle,
             levelcount: levelsection.count,
             levels,
             taskcount: tasksection.count,

@@ -35,6 +35,7 @@ module _ (p : Problem) (plan : List ℕ) (k : ℕ) where
   one-task-more held = record {
     above-0 = held .above-0;
     at-most = omega (arith, held .at-most);
+    is-kept = held .is-kept;
     same-period = held .same-period;
     same-window = held .same-window;
     same-ticks = held .same-ticks;
@@ -98,6 +99,7 @@ module _ (p : Problem) (plan : List ℕ) (k : ℕ) where
           record {
             above-0 = omega arith;
             at-most = omega arith;
+            is-kept = rw place is-kept;
             same-period = rw place is-period;
             same-window = rw place is-window;
             same-ticks = rw (place, is-kept) are-ticks;

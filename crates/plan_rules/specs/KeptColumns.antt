@@ -25,6 +25,7 @@ placeOf kept j = getD (kept .numbers) j 0 - 1
 pub record HeldTask (p : Problem) (plan : List ℕ) (k m : ℕ) (number period its-window ticks power : ℕ) : Type 0 where
   pub above-0 : 0 < number
   pub at-most : number ≤ m
+  pub is-kept : keeps p plan k (number - 1) ≡ true
   pub same-period : period ≡ taskAt p (number - 1) .period
   pub same-window : its-window ≡ window (taskAt p (number - 1))
   pub same-ticks : ticks ≡ ticksOn p plan k (number - 1)

@@ -1,18 +1,18 @@
 -- How large the prices of a valid problem can be, so that the code's numbers fit.
-use Prim.Native.Nat.{ℕ, _*_, _≤_, _<_}
+use Prim.Native.Nat.{ℕ, _+_, _-_, _*_, _≤_, _<_}
 use mathlib.Core.Bool.{Bool, true, false, cond}
 use mathlib.Core.List.{List}
 use mathlib.Core.Logic.{⊎-elim}
-use native.Mathlib.Nat.{mod-lt, mul-le-mul}
+use native.Mathlib.Nat.{mod-lt, mul-le-mul, mul-le-mul-right}
 use native.Mathlib.Omega.{arith}
 use Rattle.laws.specs.SumBounds.{sum-at-most, sum-of-products-at-most}
-use Rattle.ranges.specs.Limits.{mostCores, mostCycles, mostPower, mostSpan, mostTasks, mayNotBeRefused}
-use Rattle.instance.specs.Node.{Problem, levelAt, taskAt, taskCount}
+use Rattle.ranges.specs.Limits.{mostCores, mostCycles, mostIdlePower, mostPower, mostSpan, mostTasks, mayNotBeRefused}
+use Rattle.instance.specs.Node.{Problem, levelAt, taskAt, taskCount, span}
 use Rattle.instance.specs.Valid.{Valid}
 use Rattle.plan_rules.specs.PlanLaws.{PassingPlan}
 use Rattle.plan_rules.specs.QuantityBounds.{jobs-at-most, loadOn-at-most}
 use Rattle.plan_rules.specs.Quantities.{isRefused, levelOf, jobs, loadOn, coreLoad}
-use Rattle.prices.specs.Prices.{coreEnergy, energy, penalty}
+use Rattle.prices.specs.Prices.{busyEnergy, isAwake, idleTicks, coreEnergy, energy, penalty}
 
 -- the energy of task i on core k
 abbrev pub energyOn : Problem → List ℕ → ℕ → ℕ → ℕ
@@ -26,6 +26,9 @@ penaltyOf p plan i = cond (isRefused plan i) (jobs p i * taskAt p i .penalty) 0
 abbrev pub mostEnergyOn : ℕ
 mostEnergyOn = mostSpan * mostCycles * mostPower
 
+abbrev pub mostCoreEnergy : ℕ
+mostCoreEnergy = mostTasks * mostEnergyOn + mostIdlePower * mostSpan
+
 abbrev pub mostPenaltyOf : ℕ
 mostPenaltyOf = mostSpan * mayNotBeRefused
 
@@ -34,16 +37,38 @@ job-penalty-at-most p v i h =
     ⊎-elim (λ range. omega (arith, range .at-most)) (λ must. omega arith) (v .task i h .penalty)
 
 module _ (p : Problem) (v : Valid p) (plan : List ℕ) where
-  power-at-most : (i : ℕ) → levelAt p (levelOf p plan i) .power ≤ mostPower
+  pub power-at-most : (i : ℕ) → levelAt p (levelOf p plan i) .power ≤ mostPower
   power-at-most i = v .level (levelOf p plan i) (mod-lt _ (v .level-count .at-least)) .power .at-most
 
   pub energyOn-at-most : (k i : ℕ) → i < taskCount p → energyOn p plan k i ≤ mostEnergyOn
   energyOn-at-most k i h = mul-le-mul (loadOn-at-most p v plan i h k) (power-at-most i)
 
-  pub coreEnergy-at-most : (k : ℕ) → coreEnergy p plan k ≤ mostTasks * mostEnergyOn
-  unfolding coreEnergy
+  -- an awake core that fits is idle where it is not busy
+  idle-ticks-at-most : (k : ℕ) → coreLoad p plan k ≤ span p → idleTicks p plan k + coreLoad p plan k ≤ span p
+  unfolding idleTicks
+  idle-ticks-at-most k fits = go (isAwake p plan k)
+    where
+      go : (awake : Bool) → cond awake (span p - coreLoad p plan k) 0 + coreLoad p plan k ≤ span p
+      go true = omega arith
+      go false = omega arith
+
+  idle-ticks-within-span : (k : ℕ) → idleTicks p plan k ≤ mostSpan
+  unfolding idleTicks
+  idle-ticks-within-span k = go (isAwake p plan k)
+    where
+      go : (awake : Bool) → cond awake (span p - coreLoad p plan k) 0 ≤ mostSpan
+      go true = omega (arith, v .span-at-most)
+      go false = omega arith
+
+  pub coreEnergy-at-most : (k : ℕ) → coreEnergy p plan k ≤ mostCoreEnergy
+  unfolding coreEnergy busyEnergy
   coreEnergy-at-most k =
-      omega (arith, sum-at-most (energyOn p plan k) mostEnergyOn (taskCount p) (energyOn-at-most k), v .task-count)
+      omega (
+        arith,
+        sum-at-most (energyOn p plan k) mostEnergyOn (taskCount p) (energyOn-at-most k),
+        mul-le-mul (v .idle) (idle-ticks-within-span k),
+        v .task-count,
+      )
 
   pub penaltyOf-at-most : (i : ℕ) → i < taskCount p → penaltyOf p plan i ≤ mostPenaltyOf
   penaltyOf-at-most i h = go (isRefused plan i)
@@ -57,14 +82,22 @@ module _ (p : Problem) (v : Valid p) (plan : List ℕ) where
   penalty-at-most =
       omega (arith, sum-at-most (penaltyOf p plan) mostPenaltyOf (taskCount p) penaltyOf-at-most, v .task-count)
 
-  -- a core that fits is busy for a span at most
-  fitting-core-energy-at-most : (k : ℕ) → coreLoad p plan k ≤ mostSpan → coreEnergy p plan k ≤ mostSpan * mostPower
-  unfolding coreEnergy coreLoad
+  busyEnergy-at-most : (k : ℕ) → busyEnergy p plan k ≤ coreLoad p plan k * mostPower
+  unfolding busyEnergy coreLoad
+  busyEnergy-at-most k =
+      sum-of-products-at-most (loadOn p plan k) (λ i. levelAt p (levelOf p plan i) .power) mostPower (taskCount p) (λ i h.
+      power-at-most i)
+
+  -- a core that fits is busy and idle for a span at most; the largest idle power is the largest power
+  fitting-core-energy-at-most : (k : ℕ) → coreLoad p plan k ≤ span p → coreEnergy p plan k ≤ mostSpan * mostPower
+  unfolding coreEnergy
   fitting-core-energy-at-most k fits =
       omega (
         arith,
-        sum-of-products-at-most (loadOn p plan k) (λ i. levelAt p (levelOf p plan i) .power) mostPower (taskCount p) (λ i h.
-            power-at-most i),
+        busyEnergy-at-most k,
+        mul-le-mul-right (idleTicks p plan k) (v .idle),
+        idle-ticks-at-most k fits,
+        v .span-at-most,
       )
 
   pub passing-energy-at-most : PassingPlan p plan → energy p plan ≤ mostCores * (mostSpan * mostPower)
@@ -73,6 +106,6 @@ module _ (p : Problem) (v : Valid p) (plan : List ℕ) where
       omega (
         arith,
         sum-at-most (coreEnergy p plan) (mostSpan * mostPower) (p .cores) (λ k h.
-            fitting-core-energy-at-most k (omega (arith, passing .load-at-most k h, v .span-at-most))),
+            fitting-core-energy-at-most k (passing .load-at-most k h)),
         v .cores .at-most,
       )

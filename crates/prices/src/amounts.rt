@@ -3,7 +3,10 @@ use instance::Instance;
 use plan_rules::kept_tasks;
 use plan_rules::of_all_jobs;
 use refusals::Refusal;
+ghost use mathlib.Core.Bool.{cond};
 ghost use mathlib.Core.Path.{_≡_};
+ghost use Prim.Native.Nat.{_*_, _-_};
+ghost use lib.Dec.{ltb};
 ghost use lib.ListN.{length};
 ghost use Rattle.instance.specs.Held.{Sound, problemIn};
 ghost use Rattle.instance.specs.Node.{taskCount};
@@ -23,20 +26,36 @@ pub enum Priced {
     Refused(Refusal),
 }
 
+// What a core that keeps `kept` tasks draws in its idle ticks: nothing where it is off.
+fn idle_energy(idle: u32, span: u32, kept: usize, load: u64) -> u64
+    ensures { λ r. ⌜ r ≡ idle * cond (ltb 0 kept) (span - load) 0 ⌝ }
+{
+    if kept == 0 {
+        return 0;
+    }
+    if span as u64 <= load {
+        return 0;
+    }
+    idle as u64 * (span as u64 - load)
+}
+
+// What core k, counted from 0, draws in its busy ticks and in its idle ones.
 fn core_energy(inst: Instance, plan: &[u32], k: usize) -> u64
     requires { ⌜ Sound inst ⌝ }
     requires { ⌜ length (now plan) ≡ taskCount (problemIn inst) ⌝ }
     ensures { λ r. ⌜ r ≡ coreEnergy (problemIn inst) (now (plan .entry)) k ⌝ }
 {
     let kept = kept_tasks(inst, plan, k);
-    let mut energy = 0;
+    let mut busy = 0;
+    let mut load = 0;
     let mut j = 0;
     while j < kept.count {
-        let load = of_all_jobs(inst.span, kept.periods[j], kept.ticks[j]);
-        energy += load * kept.powers[j] as u64;
+        let asked = of_all_jobs(inst.span, kept.periods[j], kept.ticks[j]);
+        busy += asked * kept.powers[j] as u64;
+        load += asked;
         j += 1;
     }
-    energy
+    busy + idle_energy(inst.idle, inst.span, kept.count, load)
 }
 
 fn all_energy(inst: Instance, plan: &[u32]) -> u64

@@ -1,4 +1,4 @@
--- The numbers of the paper's section 'Site file', each once, and the largest span.
+-- The numbers of the papers, each once: of document 01's section 'Site file', of document 02 (a), and the largest span.
 use Prim.Native.Nat.{ℕ}
 
 -- "As text it is at most 4,096 bytes"
@@ -10,8 +10,15 @@ abbrev pub mostWord : ℕ
 mostWord = 4294967295
 
 -- "settings | 3 | energy weight 1 to 1,000; penalty weight 1 to 1,000; M 1 to 4"
-abbrev pub settingsCount : ℕ
-settingsCount = 3
+abbrev pub settingsWithoutIdle : ℕ
+settingsWithoutIdle = 3
+
+-- (a) "Settings may now count 4, the fourth word being idle power, 0 to 65,535"
+abbrev pub settingsWithIdle : ℕ
+settingsWithIdle = 4
+
+abbrev pub mostIdlePower : ℕ
+mostIdlePower = 65535
 
 abbrev pub mostWeight : ℕ
 mostWeight = 1000

@@ -1,16 +1,20 @@
-// The numbers of document 01 that inputs are tested against, each once: the ranges of its section 'Site file', and the largest
-// span. And what follows from them.
+// The numbers of the papers that inputs are tested against, each once: the ranges of document 01's section 'Site file', and of
+// document 02 (a), and the largest span. And what follows from them.
 
 pub const MOST_TEXT_BYTES: u32 = 4_096;
 
 // Two numbers are parted by a byte.
 pub const MOST_TEXT_WORDS: u32 = (MOST_TEXT_BYTES + 1) / 2;
 
-pub const SETTINGS_COUNT: u32 = 3;
+pub const SETTINGS_WITHOUT_IDLE: u32 = 3;
+
+pub const SETTINGS_WITH_IDLE: u32 = 4;
 
 pub const MOST_WEIGHT: u32 = 1_000;
 
 pub const MOST_CORES: u32 = 4;
+
+pub const MOST_IDLE_POWER: u32 = 65_535;
 
 pub const MOST_LEVELS: u32 = 8;
 

@@ -16,9 +16,17 @@ word-next-requires-3 c κs = search needs
 word-next-requires-4 : tie.Need-word-next-requires-4
 word-next-requires-4 c κs = search needs
 
+idle-next-requires : tie.Need-idle-next-requires
+idle-next-requires c κs = search needs
+
 returns : tie.Need-returns
 returns c =
-    settings-gets (c .before .before .before .before .word-next .ensures) (c .before .before .before .word-next2 .ensures) (c .before .before .word-next3 .ensures) (c .before .word-next4 .ensures)
+    settings-gets
+    (c .before .before .before .before .before .word-next .ensures)
+    (c .before .before .before .before .word-next2 .ensures)
+    (c .before .before .before .word-next3 .ensures)
+    (c .before .before .word-next4 .ensures)
+    (c .before .idle-next .ensures)
 
 pub settings-next-spec : {M : Type 1} → statement M
 settings-next-spec =
@@ -28,4 +36,5 @@ settings-next-spec =
     word-next-requires-2
     word-next-requires-3
     word-next-requires-4
+    idle-next-requires
     returns)

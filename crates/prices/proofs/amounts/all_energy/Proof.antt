@@ -5,9 +5,8 @@ use native.Mathlib.Omega.{arith}
 use Rattle.laws.specs.SumBounds.{sum-and-next-at-most}
 use Rattle.laws.specs.Sums.{sum}
 use Rattle.instance.specs.Held.{problemIn}
-use Rattle.ranges.specs.Limits.{mostTasks}
 use Rattle.plan_rules.specs.HeldPlans.{held-cores, cores-at-most}
-use Rattle.prices.specs.PriceBounds.{mostEnergyOn, coreEnergy-at-most}
+use Rattle.prices.specs.PriceBounds.{mostCoreEnergy, coreEnergy-at-most}
 use Rattle.prices.specs.Prices.{coreEnergy, energy}
 use Rattle.prices.proofs.amounts.all_energy.Statement.{statement}
 use Rattle.prices.proofs.amounts.all_energy.Tie as tie
@@ -38,7 +37,7 @@ add-total c = let start = c .before .before .before .before .before in
       arith,
       sum-and-next-at-most
           (coreEnergy p (start .args .plan .now))
-          (mostTasks * mostEnergyOn)
+          mostCoreEnergy
           (p .cores)
           (at .k)
           (λ k h. coreEnergy-at-most p (s .valid) (start .args .plan .now) k)
