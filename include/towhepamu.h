@@ -32,9 +32,9 @@ extern "C" {
 #endif
 
 /* The version of the header and the archive. */
-#define TOWHEPAMU_VERSION "1.0.0"
+#define TOWHEPAMU_VERSION "1.1.0"
 #define TOWHEPAMU_VERSION_MAJOR 1
-#define TOWHEPAMU_VERSION_MINOR 0
+#define TOWHEPAMU_VERSION_MINOR 1
 #define TOWHEPAMU_VERSION_PATCH 0
 
 /* The longest site file that is read, in bytes. */
