@@ -1,9 +1,8 @@
 use Prim.Native.Nat.{_*_, _≤_}
-use mathlib.Core.Path.{_∙_}
 use native.Mathlib.Nat.{mul-le-mul}
 use native.Mathlib.Omega.{arith}
 use borrow.Author.Needs.{needs}
-use Rattle.ranges.specs.Limits.{mostIdlePower, mostSpan, mostWeight}
+use Rattle.ranges.specs.Limits.{mostIdlePower, mostWeight}
 use Rattle.planner.specs.HeldChoices.{held-knapsacks-fit, held-charge-ready, held-core-filled}
 use Rattle.planner.specs.HeldOptions.{held-span-at-most, energy-weight-at-most, idle-power-at-most}
 use Rattle.planner.proofs.best.fill_core_table.Statement.{statement}
