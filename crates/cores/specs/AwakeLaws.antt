@@ -148,7 +148,7 @@ module _ {levels span unit : ℕ} {offers alone : List Offer} (cores : ℕ) (ite
       record {
         least = λ T of-items.
             least-less (surplus (unit * span) (size T)) (λ a. admitted-awake T of-items) (λ a. admitted-alone T of-items) (λ a.
-                admitted-cost T of-items) (core .least T of-items);
+            admitted-cost T of-items) (core .least T of-items);
       }
 
 -- where idle ticks cost nothing, items alone cost what they cost together

@@ -60,7 +60,13 @@ fn fill_levels(
         let asked = jobs as u64 * ticks as u64;
         let at = i * STRIDE + l;
         load[at] = asked;
-        cost[at] = cost_of(inst.weights.energy, inst.span, asked, level.power, inst.idle);
+        cost[at] = cost_of(
+            inst.weights.energy,
+            inst.span,
+            asked,
+            level.power,
+            inst.idle,
+        );
         l += 1;
     }
 }
