@@ -95,7 +95,7 @@ module _ {p : Problem} {load cost refusal : List ℕ} {must : List Bool} (v : Va
         key-below = best .key-below;
       }
 
-  module _ {costs keys : List ℕ} (filled : CoreFilled p costs keys) where
+  module _ {costs₀ keys₀ costs keys : List ℕ} (filled : CoreFilled p costs₀ keys₀ costs keys) where
     pub search-ready : SearchReady (shapeOf p) refusal must costs keys
     search-ready =
         record {

@@ -1,7 +1,7 @@
 -- The table of one core, as the search asks for it: from the knapsacks of what is offered, each less what it counts too often.
 use Prim.Native.Nat.{ℕ, _*_, _^_, _≤_}
 use mathlib.Core.List.{List}
-use mathlib.Core.Path.{_≡_}
+use mathlib.Core.Path.{_≡_, _∙_}
 use native.Mathlib.Nat.{le-trans}
 use native.Mathlib.Omega.{arith}
 use lib.ListN.{length}
@@ -13,7 +13,7 @@ use Rattle.assignment.specs.CoreTables.{CoreTable}
 use Rattle.assignment.specs.Sets.{tableAt}
 use Rattle.knapsack.specs.Offered.{offersOf}
 use Rattle.knapsack.specs.Offers.{loadOptions}
-use Rattle.knapsack_tables.specs.TabledKnapsacks.{KnapsacksFit, KnapsacksFilled, filled-core-table}
+use Rattle.knapsack_tables.specs.TabledKnapsacks.{KnapsacksFit, KnapsacksFilled, SameFrom, filled-core-table}
 use Rattle.cores.specs.ChargedLaws.{charge-ready, charged-core-table, charged-keyed}
 use Rattle.cores.specs.ChargedTables.{ChargeReady, ChargedBelow, charged-at-most, charged-was-real}
 use Rattle.partition.specs.Tables.{OneCoreTable, mostSets, room-for-sets}
@@ -23,10 +23,12 @@ use Rattle.planner.specs.OfferedOptions.{LevelsOffered}
 use Rattle.planner.specs.OptionsLaws.{item-count}
 use Rattle.planner.specs.OptionsOf.{idleCost, optionsOf}
 
--- the least values of all sets on one core, within the limits of the search
-pub record CoreFilled (p : Problem) (costs keys : List ℕ) : Type 0 where
+-- the least values of all sets on one core, within the limits of the search, and nothing else is written
+pub record CoreFilled (p : Problem) (costs₀ keys₀ costs keys : List ℕ) : Type 0 where
   pub limited : OneCoreTable (taskCount p) (levelCount p) costs keys
   pub least : CoreTable (optionsOf p) (tableAt (taskCount p) costs keys)
+  pub other-costs : SameFrom (2 ^ taskCount p) costs₀ costs
+  pub other-keys : SameFrom (2 ^ taskCount p) keys₀ keys
 
 module _ {p : Problem} {load cost : List ℕ} (v : Valid p) (o : LevelsOffered p (taskCount p * mostLevels) load cost) where
   pub knapsacks-fit : {costs keys : List ℕ} → mostSets ≤ length costs → mostSets ≤ length keys →
@@ -51,7 +53,7 @@ module _ {p : Problem} {load cost : List ℕ} (v : Valid p) (o : LevelsOffered p
         (filled .tabled .costs-for-all)
 
     pub core-filled : {after : List ℕ} → ChargedBelow (taskCount p) (idleCost p * span p) (2 ^ taskCount p) costs after → length after ≡ length costs →
-        CoreFilled p after keys
+        CoreFilled p costs₀ keys₀ after keys
     core-filled charged same-length =
         record {
           limited =
@@ -71,4 +73,10 @@ module _ {p : Problem} {load cost : List ℕ} (v : Valid p) (o : LevelsOffered p
           least =
               core-table-alike (awake-alike p)
               (charged-core-table (p .cores) (optionsOf p .items) keys (offered-alone v o) (offers-beside-items p) (item-count p) alone-table charged);
+          other-costs =
+              record {
+                same-length = same-length ∙ filled .other-costs .same-length;
+                as-before = λ x over. charged .from x over ∙ filled .other-costs .as-before x over;
+              };
+          other-keys = filled .other-keys;
         }

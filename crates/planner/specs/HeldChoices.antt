@@ -55,7 +55,7 @@ module _ (inst : Instance) (s : Sound inst) where
     held-light-best free light =
         light-is-best (s .valid) o free (rw (held-taskcount inst s, held-levelcount inst s, held-span inst s) at light)
 
-    module _ {costs keys : List ℕ} (filled : CoreFilled (problemIn inst) costs keys) where
+    module _ {costs₀ keys₀ costs keys : List ℕ} (filled : CoreFilled (problemIn inst) costs₀ keys₀ costs keys) where
       pub held-search-ready : SearchReady (shapeIn inst) refusal must costs keys
       held-search-ready = rw held-shape (search-ready (s .valid) o filled)
 
@@ -83,7 +83,7 @@ module _ (inst : Instance) (s : Sound inst) where
 
       pub held-core-filled : {after : List ℕ} →
           ChargedBelow (inst .taskcount) (inst .weights .energy * inst .idle * inst .span) (2 ^ inst .taskcount) costs after →
-          length after ≡ length costs → CoreFilled (problemIn inst) after keys
+          length after ≡ length costs → CoreFilled (problemIn inst) costs₀ keys₀ after keys
       unfolding problemIn idleCost
       held-core-filled charged same-length =
           core-filled (s .valid) o tables (rw (held-taskcount inst s, held-span inst s) at charged) same-length

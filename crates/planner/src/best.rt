@@ -40,7 +40,7 @@ fn fill_core_table(
     requires { ⌜ Sound inst ⌝ }
     requires { ⌜ LevelsOffered (problemIn inst) (taskCount (problemIn inst) * mostLevels) (now load) (now cost) ⌝ }
     requires { ⌜ (mostSets ≤ length (now corecosts)) × (mostSets ≤ length (now corekeys)) ⌝ }
-    ensures { λ _. ⌜ CoreFilled (problemIn inst) (now (corecosts .exit)) (now (corekeys .exit)) ⌝ }
+    ensures { λ _. ⌜ CoreFilled (problemIn inst) (now (corecosts .entry)) (now (corekeys .entry)) (now (corecosts .exit)) (now (corekeys .exit)) ⌝ }
 {
     let items = inst.taskcount;
     let core = Core {
