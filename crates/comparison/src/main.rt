@@ -5,7 +5,7 @@
 mod compare;
 mod planners;
 
-const INSTANCES: u32 = 5_000;
+const INSTANCES: u32 = 10_000;
 
 fn compare_one(state: &mut u32, counts: &mut [u64; 31]) {
     let mut words = [0; 32];
