@@ -41,7 +41,7 @@ module _ {levels span unit : ℕ} where
         alone-cost = λ i l h. given .alone-cost (suc i) l (omega arith);
       }
 
-  pub alone-load : {T : List Bool} {pattern : List ℕ} (offers alone : List Offer) → OfferedAlone levels span unit offers alone →
+  alone-load : {T : List Bool} {pattern : List ℕ} (offers alone : List Offer) → OfferedAlone levels span unit offers alone →
       length T ≡ length offers → Keeps levels T pattern → patternLoad alone pattern ≡ patternLoad offers pattern
   unfolding patternLoad entryLoad
   alone-load [] [] given beside keeps = refl
@@ -74,7 +74,7 @@ module _ {levels span unit : ℕ} where
         alone-sum offers alone (others-alone given) (suc-inj beside) keeps (omega arith),
       )
 
-  pub core-cost : {T : List Bool} {pattern : List ℕ} (offers alone : List Offer) → OfferedAlone levels span unit offers alone →
+  core-cost : {T : List Bool} {pattern : List ℕ} (offers alone : List Offer) → OfferedAlone levels span unit offers alone →
       length T ≡ length offers → Keeps levels T pattern → patternLoad offers pattern ≤ span →
       patternCost alone pattern ≡ surplus (unit * span) (size T) + (patternCost offers pattern + unit * idleLoad span offers pattern)
   unfolding surplus idleLoad
@@ -95,7 +95,7 @@ taken-off s c d {a} first second (tied e h) = let same : a - s ≡ d = omega ari
 -- where each cost is another plus the same number, the least of the ones less that number is the least of the others
 module _ {Has Has' : List ℕ → Type 0} {cost other key : List ℕ → ℕ} (s : ℕ) (there : (a : List ℕ) → Has a → Has' a)
     (back : (a : List ℕ) → Has' a → Has a) (sum : (a : List ℕ) → Has a → cost a ≡ s + other a) where
-  pub least-less : {v : Value} → Least Has (λ a. pair (cost a) (key a)) v → Least Has' (λ a. pair (other a) (key a)) (takeOff s v)
+  least-less : {v : Value} → Least Has (λ a. pair (cost a) (key a)) v → Least Has' (λ a. pair (other a) (key a)) (takeOff s v)
   unfolding takeOff
   least-less {v} least = go (least .attained) (least .below)
     where

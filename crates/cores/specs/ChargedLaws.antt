@@ -1,24 +1,24 @@
 -- The charged table of the items alone is the table of a core that pays for its idle ticks.
 use Prim.Native.Nat.{ℕ, _-_, _*_, _^_, _≤_, _<_}
-use mathlib.Core.Path.{_≡_, sym, _∙_}
+use mathlib.Core.Path.{_≡_, sym, ap, _∙_}
 use mathlib.Core.Logic.{_⊎_, inl, inr}
 use mathlib.Core.Bool.{Bool}
 use mathlib.Core.List.{List}
-use native.Mathlib.Nat.{le-refl}
+use native.Mathlib.Nat.{le-refl, le-trans}
 use native.Mathlib.Omega.{arith}
 use lib.ListN.{length, getD}
 use Rattle.laws.specs.Below.{lt-or-le}
 use Rattle.assignment.specs.Assignment.{Item}
 use Rattle.assignment.specs.CoreTables.{patternWorth, CoreTable, Keyed}
 use Rattle.assignment.specs.Limits.{mostItems}
-use Rattle.assignment.specs.Sets.{setNumber, tableAt}
+use Rattle.assignment.specs.Sets.{setNumber, tableAt, Tabled}
 use Rattle.assignment.specs.SetLaws.{setNumber-below, Numbered, numbered}
 use Rattle.assignment.specs.Values.{Value, none, pair, Attained}
 use Rattle.assignment.specs.Words.{noCost, valueOf, words-none, words-pair}
 use Rattle.knapsack.specs.Offers.{Offer, loadOptions}
 use Rattle.cores.specs.AwakeCores.{size, awakeOptions, OfferedAlone, surplus, takeOff}
 use Rattle.cores.specs.AwakeLaws.{admitted-cost, awake-core-table}
-use Rattle.cores.specs.ChargedTables.{charged, ChargeReady, ChargedBelow, charged-none, charged-real}
+use Rattle.cores.specs.ChargedTables.{charged, ChargeReady, ChargedBelow, charged-none, charged-real, charged-at-most, charged-was-real}
 use Rattle.cores.specs.SetSizes.{itemsIn, itemsIn-set}
 
 charged-value : (whole count cost key : ℕ) → valueOf (charged whole count cost) key ≡ takeOff (surplus whole count) (valueOf cost key)
@@ -41,11 +41,30 @@ attained-at-least s each (inl e) = rw e (le-refl s)
 attained-at-least s each (inr (a, has, e)) = rw e (each a has)
 
 -- in all entries
-pub charged-entry : {n whole : ℕ} {before after : List ℕ} (keys : List ℕ) → ChargedBelow n whole (2 ^ n) before after → (T : List Bool) →
+charged-entry : {n whole : ℕ} {before after : List ℕ} (keys : List ℕ) → ChargedBelow n whole (2 ^ n) before after → (T : List Bool) →
     length T ≡ n → tableAt n after keys T ≡ takeOff (surplus whole (size T)) (tableAt n before keys T)
 unfolding tableAt
 charged-entry {n} {whole} keys done T of-items =
     rw (done .below (setNumber n T) (setNumber-below n T), itemsIn-set n T of-items) (charged-value whole (size T) _ _)
+
+pub charged-tabled : {n keys whole : ℕ} {f : List Bool → Value} {before after marks : List ℕ} → Tabled n keys f before marks →
+    ChargedBelow n whole (2 ^ n) before after → length after ≡ length before →
+    Tabled n keys (λ T. takeOff (surplus whole (size T)) (f T)) after marks
+charged-tabled {whole = whole} {marks = marks} tabled done same-length =
+    record {
+      costs-for-all = rw same-length (tabled .costs-for-all);
+      marks-for-all = tabled .marks-for-all;
+      holds = λ T of-items. charged-entry marks done T of-items ∙ ap (takeOff (surplus whole (size T))) (tabled .holds T of-items);
+      cost-bound = λ x h. rw (done .below x h) (le-trans (charged-at-most _ _ _) (tabled .cost-bound x h));
+      key-bound = tabled .key-bound;
+    }
+
+pub charged-limited : {n whole most : ℕ} {before after : List ℕ} → ChargedBelow n whole (2 ^ n) before after →
+    ((x : ℕ) → x < 2 ^ n → getD before x 0 < noCost → getD before x 0 ≤ most) →
+    (x : ℕ) → x < 2 ^ n → getD after x 0 < noCost → getD after x 0 ≤ most
+charged-limited done limited x h real =
+    let was-real = charged-was-real _ _ _ (rw (done .below x h) at real) in
+    rw (done .below x h) (le-trans (charged-at-most _ _ _) (limited x h was-real))
 
 -- keys stay
 pub charged-keyed : {n whole levels : ℕ} {before after : List ℕ} (keys : List ℕ) → ChargedBelow n whole (2 ^ n) before after → (T : List Bool) →

@@ -8,8 +8,8 @@ use native.Mathlib.Omega.{arith}
 use Rattle.laws.specs.Lists.{onto}
 use Rattle.instance.specs.Node.{Problem, taskCount, levelCount, span}
 use Rattle.instance.specs.Valid.{Valid}
-use Rattle.assignment.specs.AlikeLaws.{Alike, alike-trans, cost-alike, best-alike}
-use Rattle.assignment.specs.Assignment.{Best, totalCost}
+use Rattle.assignment.specs.AlikeLaws.{Alike, cost-alike, best-alike}
+use Rattle.assignment.specs.Assignment.{Options, Best, totalCost}
 use Rattle.assignment.specs.Keys.{digits}
 use Rattle.knapsack.specs.Offered.{offersOf}
 use Rattle.knapsack.specs.Offers.{loadOptions}
@@ -33,6 +33,14 @@ use Rattle.planner.specs.OfferedLaws.{awake-alike, offered-alone, offers
 use Rattle.planner.specs.OfferedOptions.{OptionsOffered}
 use Rattle.planner.specs.OptionsOf.{idleCost, optionsOf}
 use Rattle.planner.specs.Planning.{bestPlan}
+
+key-alike : {o o' : Options} {n : ℕ} {worth : Worth} → Alike o o' → BestKey o n worth → BestKey o' n worth
+key-alike alike best =
+    record {
+      is-best = best-alike alike (best .is-best);
+      costs = sym (cost-alike alike (best .is-best .allowed)) ∙ best .costs;
+      key-below = best .key-below;
+    }
 
 abbrev pub shapeOf : Problem → Shape
 shapeOf p = record { items = taskCount p; cores = p .cores; levels = levelCount p }
@@ -72,28 +80,16 @@ module _ {p : Problem} {load cost refusal : List ℕ} {must : List Bool} (v : Va
         refusals-limited = offered-refusal-at-most v o;
       }
 
-  -- where idle ticks cost nothing, the cores of the problem's options cost what the offers do
-  offered-alike : p .idle ≡ 0 →
-      Alike (loadOptions (p .cores) (levelCount p) (span p) (offersOf load cost (taskCount p)) (optionsOf p .items)) (optionsOf p)
-  unfolding idleCost
-  offered-alike free =
-      let nothing : idleCost p ≡ 0 = rw free (mul-zero (p .weights .energy)) in
-      alike-trans
-      (free-alike (p .cores) (optionsOf p .items) (rw nothing at (offered-alone v (o .levels))) (offers-beside-items p))
-      (rw nothing at (awake-alike p))
-
   -- on light sites without idle power
   pub light-is-best : p .idle ≡ 0 → {worth : Worth} →
       ((cores : ℕ) → 0 < cores → BestKey (loadOptions cores (levelCount p) (span p) (offersOf load cost (taskCount p)) (itemsOf refusal must (taskCount p))) (taskCount p) worth) →
       BestKey (optionsOf p) (taskCount p) worth
-  light-is-best free light =
+  unfolding idleCost
+  light-is-best none light =
+      let free : idleCost p ≡ 0 = rw none (mul-zero (p .weights .energy)) in
       let best = rw (offered-items o) at (light (p .cores) (v .cores .at-least)) in
-      let alike = offered-alike free in
-      record {
-        is-best = best-alike alike (best .is-best);
-        costs = sym (cost-alike alike (best .is-best .allowed)) ∙ best .costs;
-        key-below = best .key-below;
-      }
+      let alone = rw free at (offered-alone v (o .levels)) in
+      key-alike (rw free at (awake-alike p)) (key-alike (free-alike (p .cores) (optionsOf p .items) alone (offers-beside-items p)) best)
 
   module _ {costs₀ keys₀ costs keys : List ℕ} (filled : CoreFilled p costs₀ keys₀ costs keys) where
     pub search-ready : SearchReady (shapeOf p) refusal must costs keys

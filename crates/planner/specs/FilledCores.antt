@@ -2,7 +2,6 @@
 use Prim.Native.Nat.{ℕ, _*_, _^_, _≤_}
 use mathlib.Core.List.{List}
 use mathlib.Core.Path.{_≡_, _∙_}
-use native.Mathlib.Nat.{le-trans}
 use native.Mathlib.Omega.{arith}
 use lib.ListN.{length}
 use Rattle.ranges.specs.Limits.{mostLevels}
@@ -14,9 +13,9 @@ use Rattle.assignment.specs.Sets.{tableAt}
 use Rattle.knapsack.specs.Offered.{offersOf}
 use Rattle.knapsack.specs.Offers.{loadOptions}
 use Rattle.knapsack_tables.specs.TabledKnapsacks.{KnapsacksFit, KnapsacksFilled, SameFrom, filled-core-table}
-use Rattle.cores.specs.ChargedLaws.{charge-ready, charged-core-table, charged-keyed}
-use Rattle.cores.specs.ChargedTables.{ChargeReady, ChargedBelow, charged-at-most, charged-was-real}
-use Rattle.partition.specs.Tables.{OneCoreTable, mostSets, room-for-sets}
+use Rattle.cores.specs.ChargedLaws.{charge-ready, charged-core-table, charged-tabled, charged-limited, charged-keyed}
+use Rattle.cores.specs.ChargedTables.{ChargeReady, ChargedBelow}
+use Rattle.partition.specs.Tables.{OneCoreTable, one-core-table, mostSets, room-for-sets}
 use Rattle.planner.specs.OfferedBounds.{offered-affordable}
 use Rattle.planner.specs.OfferedLaws.{awake-alike, offered-alone, offers-beside-items}
 use Rattle.planner.specs.OfferedOptions.{LevelsOffered}
@@ -57,19 +56,10 @@ module _ {p : Problem} {load cost : List ℕ} (v : Valid p) (o : LevelsOffered p
     core-filled charged same-length =
         record {
           limited =
-              record {
-                small =
-                    record {
-                      costs-for-all = rw same-length (filled .tabled .costs-for-all);
-                      keys-for-all = filled .tabled .marks-for-all;
-                      cost-bound = λ x h. rw (charged .below x h) (le-trans (charged-at-most _ _ _) (filled .tabled .cost-bound x h));
-                      real-bound = λ x h real.
-                          let before = charged-was-real _ _ _ (rw (charged .below x h) at real) in
-                          rw (charged .below x h) (le-trans (charged-at-most _ _ _) (filled .costs-limited x h before));
-                      key-bound = filled .tabled .key-bound;
-                    };
-                keyed = λ T of-items. charged-keyed keys charged T of-items (filled .keyed T of-items);
-              };
+              one-core-table
+              (charged-tabled (filled .tabled) charged same-length)
+              (charged-limited charged (filled .costs-limited))
+              (λ T of-items. charged-keyed keys charged T of-items (filled .keyed T of-items));
           least =
               core-table-alike (awake-alike p)
               (charged-core-table (p .cores) (optionsOf p .items) keys (offered-alone v o) (offers-beside-items p) (item-count p) alone-table charged);
