@@ -13,7 +13,7 @@ use Rattle.assignment.specs.Assignment.{Options, Best, totalCost}
 use Rattle.assignment.specs.Keys.{digits}
 use Rattle.knapsack.specs.Offered.{offersOf}
 use Rattle.knapsack.specs.Offers.{loadOptions}
-use Rattle.cores.specs.AwakeLaws.{free-alike}
+use Rattle.core_tables.specs.AwakeLaws.{free-alike}
 use Rattle.light.specs.Light.{OfferFits}
 use Rattle.search.specs.Found.{Searched, BestFound}
 use Rattle.search.specs.FoundLaws.{search-is-best}

@@ -13,8 +13,8 @@ use Rattle.assignment.specs.Sets.{tableAt}
 use Rattle.knapsack.specs.Offered.{offersOf}
 use Rattle.knapsack.specs.Offers.{loadOptions}
 use Rattle.knapsack_tables.specs.TabledKnapsacks.{KnapsacksFit, KnapsacksFilled, SameFrom, filled-core-table}
-use Rattle.cores.specs.ChargedLaws.{charge-ready, charged-core-table, charged-tabled, charged-limited, charged-keyed}
-use Rattle.cores.specs.ChargedTables.{ChargeReady, ChargedBelow}
+use Rattle.core_tables.specs.ChargedLaws.{charge-ready, charged-core-table, charged-tabled, charged-limited, charged-keyed}
+use Rattle.core_tables.specs.ChargedTables.{ChargeReady, ChargedBelow}
 use Rattle.partition.specs.Tables.{OneCoreTable, one-core-table, mostSets, room-for-sets}
 use Rattle.planner.specs.OfferedBounds.{offered-affordable}
 use Rattle.planner.specs.OfferedLaws.{awake-alike, offered-alone, offers-beside-items}

@@ -15,7 +15,7 @@ use Rattle.knapsack.specs.Offered.{offersOf}
 use Rattle.knapsack.specs.Offers.{loadOptions}
 use Rattle.knapsack_tables.specs.TabledKnapsacks.{KnapsacksFit, KnapsacksFilled}
 use Rattle.light.specs.Light.{OfferFits}
-use Rattle.cores.specs.ChargedTables.{ChargeReady, ChargedBelow}
+use Rattle.core_tables.specs.ChargedTables.{ChargeReady, ChargedBelow}
 use Rattle.partition.specs.Tables.{mostSets}
 use Rattle.search.specs.Found.{Searched}
 use Rattle.search.specs.Limits.{SearchReady}

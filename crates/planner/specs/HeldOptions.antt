@@ -12,7 +12,7 @@ use Rattle.instance.specs.declared.Level.{Level}
 use Rattle.instance.specs.declared.Task.{Task}
 use Rattle.plan_rules.specs.Quantities.{ticks}
 use Rattle.plan_rules.specs.QuantityBounds.{ticks-at-most}
-use Rattle.cores.specs.AwakeCores.{aloneCost}
+use Rattle.core_tables.specs.AwakeCores.{aloneCost}
 use Rattle.planner.specs.OptionsOf.{jobsOf, loadAt, itemOf, offerOf, idleCost, offeredCost}
 
 module _ (inst : Instance) (s : Sound inst) where

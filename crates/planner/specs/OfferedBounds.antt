@@ -13,7 +13,7 @@ use Rattle.plan_rules.specs.QuantityBounds.{jobs-at-most}
 use Rattle.prices.specs.PriceBounds.{job-penalty-at-most}
 use Rattle.assignment.specs.Limits.{mostCost}
 use Rattle.knapsack.specs.Offered.{Affordable}
-use Rattle.cores.specs.AwakeCores.{aloneCost}
+use Rattle.core_tables.specs.AwakeCores.{aloneCost}
 use Rattle.planner.specs.OfferedOptions.{LevelsOffered, OptionsOffered, offered-level}
 use Rattle.planner.specs.OptionsOf.{jobsOf, itemOf, offerOf, idleCost, offeredCost}
 

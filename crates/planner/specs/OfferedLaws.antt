@@ -25,7 +25,7 @@ use Rattle.assignment.specs.Keeping.{Keeps, done, refused, kept, keptItems}
 use Rattle.assignment.specs.KeyLaws.{keeps-length}
 use Rattle.knapsack.specs.Offered.{offerAt, offersOf}
 use Rattle.knapsack.specs.Offers.{Offer, entryLoad, entryCost, patternLoad, patternCost}
-use Rattle.cores.specs.AwakeCores.{size, idleLoad, awakeOptions, noOffer, OfferedAlone}
+use Rattle.core_tables.specs.AwakeCores.{size, idleLoad, awakeOptions, noOffer, OfferedAlone}
 use Rattle.values.specs.Items.{itemAt, itemsOf}
 use Rattle.planner.specs.OfferedOptions.{LevelOffered, LevelsOffered, OptionsOffered, offered-level}
 use Rattle.planner.specs.OptionsLaws.{item-count, item-at}

@@ -12,7 +12,7 @@ use Rattle.plan_rules.specs.Quantities.{ticks}
 use Rattle.prices.specs.Prices.{coreEnergy}
 use Rattle.assignment.specs.Assignment.{Item, Options}
 use Rattle.knapsack.specs.Offers.{Offer}
-use Rattle.cores.specs.AwakeCores.{aloneCost}
+use Rattle.core_tables.specs.AwakeCores.{aloneCost}
 
 -- "Jobs in a span: L / p."
 unfoldable pub jobsOf : Problem → Task → ℕ

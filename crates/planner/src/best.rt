@@ -1,7 +1,7 @@
 // The best plan of an instance.
 use crate::options::OFFERS;
 use crate::options::fill_options;
-use cores::charge_idle_once;
+use core_tables::charge_idle_once;
 use instance::Instance;
 use knapsack::Core;
 use knapsack_tables::fill_knapsacks;

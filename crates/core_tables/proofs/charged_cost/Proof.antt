@@ -3,9 +3,9 @@ use Prim.Native.Nat.{ℕ, _-_, _*_, _≤_}
 use mathlib.Core.Path.{sym, ap}
 use native.Mathlib.Omega.{arith}
 use borrow.Author.Needs.{needs}
-use Rattle.cores.specs.ChargedTables.{charged-none, charged-real, taken-once-less}
-use Rattle.cores.proofs.charged_cost.Statement.{statement}
-use Rattle.cores.proofs.charged_cost.Tie as tie
+use Rattle.core_tables.specs.ChargedTables.{charged-none, charged-real, taken-once-less}
+use Rattle.core_tables.proofs.charged_cost.Statement.{statement}
+use Rattle.core_tables.proofs.charged_cost.Tie as tie
 
 returns : tie.Need-returns
 returns c = sym (charged-none _ _ _ (c .if1 .taken))

@@ -6,9 +6,9 @@ use borrow.Author.Needs.{needs}
 use denote.Ref.{now}
 use lib.ListN.{length, length-set}
 use lib.Pow.{pow-pos, pow-mono}
-use Rattle.cores.specs.ChargedTables.{ChargedBelow, first-charged, free-charged, next-counted, one-more-charged}
-use Rattle.cores.proofs.charge_idle_once.Statement.{statement}
-use Rattle.cores.proofs.charge_idle_once.Tie as tie
+use Rattle.core_tables.specs.ChargedTables.{ChargedBelow, first-charged, free-charged, next-counted, one-more-charged}
+use Rattle.core_tables.proofs.charge_idle_once.Statement.{statement}
+use Rattle.core_tables.proofs.charge_idle_once.Tie as tie
 
 abbrev Inv-loop : tie.InvT-loop
 Inv-loop items whole costs₀ sizes all x₀ costs x = (length costs ≡ length costs₀) × (1 ≤ x) × (x ≤ 2 ^ items) × ChargedBelow items whole x costs₀ costs

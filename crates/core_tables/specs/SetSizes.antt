@@ -11,7 +11,7 @@ use Rattle.laws.specs.Below.{lt-or-le}
 use Rattle.assignment.specs.Sets.{setNumber}
 use Rattle.assignment.specs.SetLaws.{setNumber-below}
 use Rattle.knapsack.specs.SetNumberLaws.{half-number}
-use Rattle.cores.specs.AwakeCores.{size}
+use Rattle.core_tables.specs.AwakeCores.{size}
 
 -- the items of set number x of n items
 unfoldable pub itemsIn : (n x : ℕ) → ℕ

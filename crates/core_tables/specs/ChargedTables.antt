@@ -13,8 +13,8 @@ use lib.Seq.{getD-set-same, getD-set-other}
 use Rattle.laws.specs.Below.{lt-or-le}
 use Rattle.assignment.specs.Limits.{mostItems}
 use Rattle.assignment.specs.Words.{noCost}
-use Rattle.cores.specs.AwakeCores.{surplus}
-use Rattle.cores.specs.SetSizes.{itemsIn, itemsIn-half, itemsIn-empty, itemsIn-some}
+use Rattle.core_tables.specs.AwakeCores.{surplus}
+use Rattle.core_tables.specs.SetSizes.{itemsIn, itemsIn-half, itemsIn-empty, itemsIn-some}
 
 -- the cost of a set of so many items, less what is counted too often; no cost stays no cost
 unfoldable pub charged : (whole count cost : ℕ) → ℕ

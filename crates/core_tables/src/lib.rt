@@ -8,8 +8,8 @@ ghost use Prim.Native.Nat.{_^_, _≤_, _<_};
 ghost use lib.ListN.{length, getD};
 ghost use Rattle.assignment.specs.Limits.{mostItems};
 ghost use Rattle.assignment.specs.Words.{noCost};
-ghost use Rattle.cores.specs.AwakeCores.{surplus};
-ghost use Rattle.cores.specs.ChargedTables.{ChargeReady, ChargedBelow, SizesBelow, charged};
+ghost use Rattle.core_tables.specs.AwakeCores.{surplus};
+ghost use Rattle.core_tables.specs.ChargedTables.{ChargeReady, ChargedBelow, SizesBelow, charged};
 
 // How many items each set has.
 fn fill_sizes(items: usize, sizes: &mut [u64])

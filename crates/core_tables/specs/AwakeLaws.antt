@@ -17,7 +17,7 @@ use Rattle.assignment.specs.KeepingLaws.{kept-items}
 use Rattle.assignment.specs.Values.{Value, pair, AtMost, cheaper, tied, Attained, Least}
 use Rattle.assignment.specs.ValueLaws.{none-above}
 use Rattle.knapsack.specs.Offers.{Offer, entryLoad, entryCost, patternLoad, patternCost, loadOptions}
-use Rattle.cores.specs.AwakeCores.{size, idleLoad, awakeOptions, aloneCost, OfferedAlone, surplus, takeOff}
+use Rattle.core_tables.specs.AwakeCores.{size, idleLoad, awakeOptions, aloneCost, OfferedAlone, surplus, takeOff}
 
 -- what a load pays for and what it leaves make the whole span
 whole-span : (unit : ℕ) {span load : ℕ} → load ≤ span → unit * (span - load) + unit * load ≡ unit * span

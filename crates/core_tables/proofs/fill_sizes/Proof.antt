@@ -6,10 +6,10 @@ use borrow.Author.Needs.{needs}
 use denote.Ref.{now}
 use lib.ListN.{length, length-set}
 use lib.Pow.{pow-pos}
-use Rattle.cores.specs.ChargedTables.{SizesBelow, first-size, one-more-size}
-use Rattle.cores.specs.SetSizes.{itemsIn-at-most}
-use Rattle.cores.proofs.fill_sizes.Statement.{statement}
-use Rattle.cores.proofs.fill_sizes.Tie as tie
+use Rattle.core_tables.specs.ChargedTables.{SizesBelow, first-size, one-more-size}
+use Rattle.core_tables.specs.SetSizes.{itemsIn-at-most}
+use Rattle.core_tables.proofs.fill_sizes.Statement.{statement}
+use Rattle.core_tables.proofs.fill_sizes.Tie as tie
 
 abbrev Inv-loop : tie.InvT-loop
 Inv-loop items sizes₀ all x₀ sizes x = (length sizes ≡ length sizes₀) × (1 ≤ x) × (x ≤ 2 ^ items) × SizesBelow items x sizes

@@ -16,10 +16,10 @@ use Rattle.assignment.specs.SetLaws.{setNumber-below, Numbered, numbered}
 use Rattle.assignment.specs.Values.{Value, none, pair, Attained}
 use Rattle.assignment.specs.Words.{noCost, valueOf, words-none, words-pair}
 use Rattle.knapsack.specs.Offers.{Offer, loadOptions}
-use Rattle.cores.specs.AwakeCores.{size, awakeOptions, OfferedAlone, surplus, takeOff}
-use Rattle.cores.specs.AwakeLaws.{admitted-cost, awake-core-table}
-use Rattle.cores.specs.ChargedTables.{charged, ChargeReady, ChargedBelow, charged-none, charged-real, charged-at-most, charged-was-real}
-use Rattle.cores.specs.SetSizes.{itemsIn, itemsIn-set}
+use Rattle.core_tables.specs.AwakeCores.{size, awakeOptions, OfferedAlone, surplus, takeOff}
+use Rattle.core_tables.specs.AwakeLaws.{admitted-cost, awake-core-table}
+use Rattle.core_tables.specs.ChargedTables.{charged, ChargeReady, ChargedBelow, charged-none, charged-real, charged-at-most, charged-was-real}
+use Rattle.core_tables.specs.SetSizes.{itemsIn, itemsIn-set}
 
 charged-value : (whole count cost key : ℕ) → valueOf (charged whole count cost) key ≡ takeOff (surplus whole count) (valueOf cost key)
 unfolding takeOff
