@@ -16,6 +16,11 @@ unfolding count
 count-split p a zero = rw (add-zero a) (omega arith)
 count-split p a (suc b) = rw add-suc (omega (arith, count-split p a b))
 
+pub count-is-sum : (p : ℕ → Bool) (n : ℕ) → count p n ≡ sum (λ x. cond (p x) 1 0) n
+unfolding count sum
+count-is-sum p zero = refl
+count-is-sum p (suc n) = omega (arith, count-is-sum p n)
+
 pub count-mono : (p : ℕ → Bool) (m n : ℕ) → m ≤ n → count p m ≤ count p n
 count-mono p m n l = let rest = le-dest l in rw (← rest .1) (rw count-split (omega arith))
 
