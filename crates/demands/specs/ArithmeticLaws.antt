@@ -1,4 +1,4 @@
--- What demand 2 needs: ticks round up, a price is document 01's sums, and the check and planning answer for an instance that
+-- What demand 2 needs: ticks round up, a price is the papers' sums, and the check and planning answer for an instance that
 -- was read what the definitions say of it.
 use Prim.Native.Nat.{ℕ, suc, _+_, _-_, _*_, _/_, _≤_, _<_}
 use mathlib.Core.Bool.{cond}
@@ -20,9 +20,9 @@ use Rattle.checks.specs.Checks.{check}
 use Rattle.checks.specs.Outcomes.{checkOutcome, checkOutcomeOf}
 use Rattle.plan_rules.specs.Plans.{choicesPass}
 use Rattle.plan_rules.specs.Quantities.{isRefused, levelOf, ticks, jobTicks, jobs}
-use Rattle.prices.specs.Prices.{penalty, cost, priceOf}
+use Rattle.prices.specs.Prices.{idleTicks, penalty, cost, priceOf}
 use Rattle.tables.specs.Tables.{tableSize}
-use Rattle.planner.specs.EnergyLaws.{energy-of-kept-tasks}
+use Rattle.planner.specs.EnergyLaws.{energy-of-kept-tasks-and-idle-ticks}
 use Rattle.planner.specs.Outcomes.{planAnswered, planOutcome}
 use Rattle.planner.specs.PlannedLaws.{where-room}
 use Rattle.planner.specs.Planning.{bestPlan}
@@ -40,8 +40,9 @@ module _ (p : Problem) (plan : List ℕ) where
   pub priced-energy : choicesPass p plan ≡ Accepted →
       priceOf p plan .energy
       ≡ sum (λ i. cond (isRefused plan i) 0 (jobs p i * jobTicks p plan i * levelAt p (levelOf p plan i) .power)) (taskCount p)
+      + p .idle * sum (idleTicks p plan) (p .cores)
   unfolding priceOf
-  priced-energy passes = energy-of-kept-tasks p plan (choices-pass p plan .0 passes)
+  priced-energy passes = energy-of-kept-tasks-and-idle-ticks p plan (choices-pass p plan .0 passes)
 
   pub priced-penalty : priceOf p plan .penalty ≡ sum (λ i. cond (isRefused plan i) (jobs p i * taskAt p i .penalty) 0) (taskCount p)
   unfolding priceOf penalty

@@ -1,4 +1,5 @@
--- The paper's section 'K1 to K13, to be proved': one table of cases, and one statement about the definitions.
+-- Document 01's section 'K1 to K13, to be proved', with the example of document 02 (a): one table of cases, and one statement
+-- about the definitions.
 use Prim.Native.Nat.{ℕ}
 use mathlib.Core.Path.{_≡_, refl}
 use mathlib.Core.List.{List, [], _∷_, _++_, map}
@@ -8,7 +9,7 @@ use Rattle.instance.specs.Node.{Problem, taskCount, span, spanFrom}
 use Rattle.refusals.specs.Refusals.{Reading, refused, accepted, numberOf, placeOf, room}
 use Rattle.formats.specs.Formats.{times}
 use Rattle.formats.specs.Taking.{between, takeWord, takeTested, takeEnd}
-use Rattle.instance.specs.SiteFile.{problemOf, siteFile, settings, level, lastAfter, levels, period, isPenalty, task, tasks}
+use Rattle.instance.specs.SiteFile.{problemOf, siteFile, idlePower, settings, level, lastAfter, levels, period, isPenalty, task, tasks}
 use Rattle.text.specs.Text.{wordsOf, numbers, firstFault, faulty, begins, isDigit, isBlank, valueAfter}
 use Rattle.refusals.specs.declared.Refusal.{Refusal}
 use Rattle.laws.specs.Lists.{listOf, joined, onto}
@@ -17,7 +18,7 @@ use Rattle.laws.specs.Search.{first}
 use Rattle.laws.specs.Sums.{sum}
 use Rattle.plan_rules.specs.Plans.{isMust, badChoice, choicesPass, fits, coresFit, planPasses}
 use Rattle.plan_rules.specs.Quantities.{keeps, ticks, jobTicks, ticksOn, jobs, loadOn, coreLoad}
-use Rattle.prices.specs.Prices.{coreEnergy, energy, penalty, cost, priceOf}
+use Rattle.prices.specs.Prices.{busyEnergy, keptCount, isAwake, idleTicks, coreEnergy, energy, penalty, cost, priceOf}
 use Rattle.dispatch.specs.Rows.{dueAt, afterRelease, earliest, chosen, afterRun, step, dispatched, row}
 use Rattle.tables.specs.Tables.{coreTasks, tableSize, tableOf}
 use Rattle.prices.specs.declared.amounts.Price.{Price}
@@ -96,8 +97,15 @@ must = mayNotBeRefused
 abbrev k1-tasks : List ℕ
 k1-tasks = 2 ∷ 10 ∷ 2400 ∷ 5000 ∷ 20 ∷ 6000 ∷ 3000 ∷ []
 
+abbrev k2-tasks : List ℕ
+k2-tasks = 2 ∷ 10 ∷ 2400 ∷ 5000 ∷ 20 ∷ 6000 ∷ must ∷ []
+
 abbrev k2 : List ℕ
-k2 = usual (2 ∷ 10 ∷ 2400 ∷ 5000 ∷ 20 ∷ 6000 ∷ must ∷ [])
+k2 = usual k2-tasks
+
+-- K2 with idle power 50, of document 02 (a)
+abbrev k2-idle : List ℕ
+k2-idle = (4 ∷ 1 ∷ 1 ∷ 1 ∷ 50 ∷ []) ++ xscale ++ k2-tasks
 
 -- "3 1 1 1", "5 150 80 400 170 600 400 800 900 1000 1600", "2 10 2400 5000 20 6000 4294967295", a line feed after each
 abbrev k2-text : List ℕ
@@ -143,12 +151,15 @@ cases =
     case (usual (2 ∷ 64 ∷ 1 ∷ 1 ∷ 4096 ∷ 1 ∷ 1 ∷ [])) (spanIs 4096) ∷
     -- K13: K1 with weights 2 and 8: choices 3, 3; cost 14,400
     case (site 2 8 1 k1-tasks) (plan (3 ∷ 3 ∷ []) 14400) ∷
+    -- (a): "K2 with idle power 50 costs 7,300, same choices."
+    case k2-idle (plan (3 ∷ 3 ∷ []) 7300) ∷
+    case k2-idle (price 7300 0 7300) ∷
     []
 
 pub K1-to-K13 : map (λ c. defined (c .words) (c .claim)) cases ≡ map (λ c. c .claim) cases
-unfolding wordsOf numbers firstFault faulty begins isDigit isBlank valueAfter problemOf siteFile settings level lastAfter levels period
+unfolding wordsOf numbers firstFault faulty begins isDigit isBlank valueAfter problemOf siteFile idlePower settings level lastAfter levels period
     isPenalty task tasks times between takeWord takeTested takeEnd
     span spanFrom lcm first listOf joined onto sum room isMust badChoice choicesPass fits coresFit planPasses
-    keeps ticks jobTicks ticksOn jobs loadOn coreLoad coreEnergy energy penalty cost priceOf dueAt afterRelease earliest chosen afterRun
+    keeps ticks jobTicks ticksOn jobs loadOn coreLoad busyEnergy keptCount isAwake idleTicks coreEnergy energy penalty cost priceOf dueAt afterRelease earliest chosen afterRun
     step dispatched row coreTasks tableOf planOutcome choiceLists isAllowed better firstCheapest bestPlan
 K1-to-K13 = refl

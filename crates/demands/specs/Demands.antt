@@ -1,8 +1,8 @@
--- Demands 1 to 3: above each theorem stands the demand that it meets, in our words. What documents 00 and 01 say stands in
+-- Demands 1 to 3: above each theorem stands the demand that it meets, in our words. What documents 00 to 02 say stands in
 -- quotation marks. What the theorems speak of is defined in document 01's words in the crates below, and in `Endings` and
 -- `Planned`.
-use Prim.Native.Nat.{ℕ, _+_, _*_, _≤_, _<_, _∣_}
-use mathlib.Core.Bool.{cond}
+use Prim.Native.Nat.{ℕ, _+_, _-_, _*_, _≤_, _<_, _∣_}
+use mathlib.Core.Bool.{true, false, cond}
 use mathlib.Core.List.{List, [], _∷_, map, List·Memᴰ}
 use mathlib.Core.Logic.{_↔_}
 use mathlib.Core.Option.{none, some}
@@ -42,8 +42,9 @@ use Rattle.prices.specs.OutcomeLaws.{passing-plan-is-priced}
 use Rattle.tables.specs.OutcomeLaws.{passing-plan-is-tabled}
 use Rattle.tables.specs.Periods.{valid-is-periodic}
 use Rattle.plan_rules.specs.Plans.{choicesPass, planPasses}
-use Rattle.plan_rules.specs.Quantities.{isRefused, levelOf, ticks, jobTicks, jobs}
-use Rattle.prices.specs.Prices.{priceOf}
+use Rattle.plan_rules.specs.Quantities.{isRefused, levelOf, keeps, ticks, jobTicks, jobs, coreLoad}
+use Rattle.prices.specs.Prices.{idleTicks, priceOf}
+use Rattle.prices.specs.IdleLaws.{idle-ticks-of-awake-core, no-idle-ticks-of-off-core}
 use Rattle.tables.specs.Tables.{tableOf, tableSize}
 use Rattle.drawings.specs.WorkedOut.{WorkedOut}
 use Rattle.drawings.specs.WorkedOutLaws.{worked-out-is-table}
@@ -118,7 +119,7 @@ demand-1 =
       instance-handed-over = instance-is-handed-over;
     }
 
--- Demand 2. Ticks, span, price and slot table are those of document 01, in whole ticks; and of a plan that 7 lets pass, the
+-- Demand 2. Ticks, span, price and slot table are those of documents 01 and 02, in whole ticks; and of a plan that 7 lets pass, the
 -- check passes exactly the tables in which each job of a kept task has exactly its ticks between release and deadline on its
 -- core and every other slot is idle.
 pub record QuantitiesExact (words : List ℕ) (p : Problem) : Type 0 where
@@ -128,10 +129,16 @@ pub record QuantitiesExact (words : List ℕ) (p : Problem) : Type 0 where
   -- "least common multiple of the periods"
   pub span-is-common-multiple : (i : ℕ) → i < taskCount p → taskAt p i .period ∣ span p
   pub span-is-least : (m : ℕ) → ((i : ℕ) → i < taskCount p → taskAt p i .period ∣ m) → span p ∣ m
-  -- "Energy of a kept task: jobs × ticks × P.": of a plan that 7 lets pass
-  pub energy-of-kept-tasks : (plan : List ℕ) → choicesPass p plan ≡ Accepted →
+  -- "Energy of a kept task: jobs × ticks × P.", and (a) "A core with a kept task pays idle power for each idle tick of the
+  -- span. A core without one is off and pays nothing.": of a plan that 7 lets pass
+  pub energy-of-kept-tasks-and-idle-ticks : (plan : List ℕ) → choicesPass p plan ≡ Accepted →
       priceOf p plan .energy
       ≡ sum (λ i. cond (isRefused plan i) 0 (jobs p i * jobTicks p plan i * levelAt p (levelOf p plan i) .power)) (taskCount p)
+      + p .idle * sum (idleTicks p plan) (p .cores)
+  pub idle-ticks-of-awake-core : (plan : List ℕ) (k i : ℕ) → i < taskCount p → keeps p plan k i ≡ true →
+      idleTicks p plan k ≡ span p - coreLoad p plan k
+  pub no-idle-ticks-of-off-core : (plan : List ℕ) (k : ℕ) → ((i : ℕ) → i < taskCount p → keeps p plan k i ≡ false) →
+      idleTicks p plan k ≡ 0
   -- "Penalty of a refused one: jobs × its penalty."
   pub penalty-of-refused-tasks : (plan : List ℕ) →
       priceOf p plan .penalty ≡ sum (λ i. cond (isRefused plan i) (jobs p i * taskAt p i .penalty) 0) (taskCount p)
@@ -159,7 +166,9 @@ demand-2 words p read =
       ticks-rounded-up = λ i l n is-task is-level. ticks-round-up _ _ n (valid .level l is-level .speed .at-least);
       span-is-common-multiple = period-divides-span valid;
       span-is-least = span-divides-common-multiple valid;
-      energy-of-kept-tasks = priced-energy p;
+      energy-of-kept-tasks-and-idle-ticks = priced-energy p;
+      idle-ticks-of-awake-core = idle-ticks-of-awake-core p;
+      no-idle-ticks-of-off-core = no-idle-ticks-of-off-core p;
       penalty-of-refused-tasks = priced-penalty p;
       weighted-cost = priced-cost p;
       slot-table = λ plan table passes. worked-out-is-table p (valid-is-periodic valid) plan passes table;
