@@ -1,0 +1,4 @@
+pub mod Rows
+pub mod RowWalks
+pub mod CoreSleeps
+pub mod Outcomes
