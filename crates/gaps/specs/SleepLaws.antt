@@ -18,7 +18,7 @@ use Rattle.gaps.specs.declared.SleepCosts.{SleepCosts}
 
 module _ (costs : SleepCosts) where
   -- where the gap is long enough, the lesser of the two energies
-  energy-at-most-awake : (gap : ℕ) → energyIn costs gap ≤ costs .idle * gap
+  pub energy-at-most-awake : (gap : ℕ) → energyIn costs gap ≤ costs .idle * gap
   unfolding energyIn gapEnergy sleepsIn
   energy-at-most-awake gap = go (leb (costs .time) gap) (ltb (costs .energy) (costs .idle * gap)) refl
     where

@@ -73,7 +73,7 @@ both-refuse (refuses m) next = refuses m
 
 -- the tests that refusals hang on
 module _ {numbers : List ℕ} (r : Refusal) (listed : List·Memᴰ (numberOf r) numbers) where
-  refuses-unless : (t : Bool) (next : Verdict) → RefusesOnly numbers next → RefusesOnly numbers (cond t next (Refused r))
+  pub refuses-unless : (t : Bool) (next : Verdict) → RefusesOnly numbers next → RefusesOnly numbers (cond t next (Refused r))
   refuses-unless true next h = h
   refuses-unless false next h = refuses listed
 

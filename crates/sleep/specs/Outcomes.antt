@@ -2,6 +2,7 @@
 -- a call ends.
 use Prim.Native.Nat.{ℕ}
 use mathlib.Core.List.{List, [], _∷_}
+use mathlib.Core.Path.{_≡_}
 use Rattle.laws.specs.Lists.{onto}
 use Rattle.refusals.specs.Endings.{lent, Ends, readThen, neededFor}
 use Rattle.instance.specs.Node.{Problem}
@@ -48,3 +49,9 @@ SleepingEnds words plan table energy time energies sleeps o =
     (2 ∷ 3 ∷ 4 ∷ 11 ∷ 6 ∷ 7 ∷ 9 ∷ 10 ∷ [])
     (lent (neededFor (λ p. p .cores) reading) energies (o .energies) ∷ lent (neededFor (λ p. p .cores) reading) sleeps (o .sleeps) ∷ [])
     (o .answer)
+
+-- what a call promises of its answer and of both lists: they are those of the outcome, and so it ends
+pub record SleepsAs (words plan table : List ℕ) (energy time : ℕ) (energies sleeps : List ℕ) (answer : Verdict) (energiesAfter sleepsAfter : List ℕ) : Type 0 where
+  pub same-answer : answer ≡ sleepOutcome words plan table energy time energies sleeps .answer
+  pub same-energies : energiesAfter ≡ sleepOutcome words plan table energy time energies sleeps .energies
+  pub same-sleeps : sleepsAfter ≡ sleepOutcome words plan table energy time energies sleeps .sleeps

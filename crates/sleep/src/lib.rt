@@ -3,3 +3,4 @@ mod reckoning;
 mod rows;
 
 
+pub use reckoning::sleep;

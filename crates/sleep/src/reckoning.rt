@@ -2,6 +2,7 @@
 use crate::rows::row_slept;
 use checks::table_passes;
 use gaps::SleepCosts;
+use gaps::Slept;
 use instance::Instance;
 use instance::read_instance;
 use ranges::MOST_SWITCHING_ENERGY;
@@ -10,13 +11,13 @@ use ranges::Slot;
 use refusals::Refusal;
 use refusals::Verdict;
 ghost use mathlib.Core.Path.{_≡_};
-ghost use Prim.Native.Nat.{_≤_};
+ghost use Prim.Native.Nat.{_≤_, _<_};
 ghost use lib.ListN.{length};
 ghost use Rattle.instance.specs.Held.{Sound, problemIn};
 ghost use Rattle.laws.specs.Lists.{onto};
 ghost use Rattle.tables.specs.Tables.{tableSize};
-ghost use Rattle.sleep.specs.CoreSleeps.{leastEnergies, sleepCounts, switchingPasses};
-ghost use Rattle.sleep.specs.Outcomes.{sleepOutcome, sleepOutcomeOf, SleepingEnds};
+ghost use Rattle.sleep.specs.CoreSleeps.{coreSlept, leastEnergies, sleepCounts, switchingPasses};
+ghost use Rattle.sleep.specs.Outcomes.{SleepsAs};
 
 // 11, the energy before the time.
 fn switching_passes(energy: u32, time: u32) -> Verdict
@@ -31,7 +32,25 @@ fn switching_passes(energy: u32, time: u32) -> Verdict
     Verdict::Accepted
 }
 
-// Writes what each core's row comes to.
+// What the row of core k, counted from 0, comes to.
+fn core_slept(inst: Instance, table: &[Slot], energy: u32, time: u32, k: usize) -> Slept
+    requires { ⌜ Sound inst ⌝ }
+    requires { ⌜ length (now table) ≡ tableSize (problemIn inst) ⌝ }
+    requires { ⌜ k < problemIn inst .cores ⌝ }
+    ensures { λ r. ⌜ r ≡ coreSlept (problemIn inst) (now (table .entry)) energy time k ⌝ }
+{
+    let costs = SleepCosts {
+        idle: inst.idle as u64,
+        energy: energy as u64,
+        time: time as u64,
+    };
+    let span = inst.span as usize;
+    let from = k * span;
+    let to = from + span;
+    row_slept(&table[from..to], costs)
+}
+
+// Writes what each core comes to, to the fronts of both lists.
 fn fill_slept(
     inst: Instance,
     table: &[Slot],
@@ -47,20 +66,52 @@ fn fill_slept(
     ensures { λ _. ⌜ now (energies .exit) ≡ onto (leastEnergies (problemIn inst) (now (table .entry)) energy time) (now (energies .entry)) ⌝ }
     ensures { λ _. ⌜ now (sleeps .exit) ≡ onto (sleepCounts (problemIn inst) (now (table .entry)) energy time) (now (sleeps .entry)) ⌝ }
 {
-    let costs = SleepCosts {
-        idle: inst.idle as u64,
-        energy: energy as u64,
-        time: time as u64,
-    };
     let cores = inst.cores as usize;
-    let span = inst.span as usize;
     let mut k = 0;
     while k < cores {
-        let from = k * span;
-        let to = from + span;
-        let slept = row_slept(&table[from..to], costs);
+        let slept = core_slept(inst, table, energy, time, k);
         energies[k] = slept.energy;
         sleeps[k] = slept.sleeps;
         k += 1;
     }
+}
+
+// Writes the least idle energy of each core and the number of its sleeps to the fronts of the lent lists.
+pub fn sleep(
+    instance: &[u32],
+    plan: &[u32],
+    table: &[Slot],
+    switching_energy: u32,
+    switching_time: u32,
+    energies: &mut [u64],
+    sleeps: &mut [u32],
+) -> Verdict
+    ensures { λ r. ⌜ SleepsAs (now (instance .entry)) (now (plan .entry)) (now (table .entry)) switching_energy switching_time
+        (now (energies .entry)) (now (sleeps .entry)) r (now (energies .exit)) (now (sleeps .exit)) ⌝ }
+{
+    let read = read_instance(instance);
+    let words = read.verdict;
+    let Verdict::Accepted = words else {
+        return words;
+    };
+    let switching = switching_passes(switching_energy, switching_time);
+    let Verdict::Accepted = switching else {
+        return switching;
+    };
+    let cores = read.instance.cores as usize;
+    if energies.len() < cores || sleeps.len() < cores {
+        return Verdict::Refused(Refusal::ShortBuffer(cores));
+    }
+    let verdict = table_passes(read.instance, plan, table);
+    if let Verdict::Accepted = verdict {
+        fill_slept(
+            read.instance,
+            table,
+            switching_energy,
+            switching_time,
+            energies,
+            sleeps,
+        );
+    }
+    verdict
 }
