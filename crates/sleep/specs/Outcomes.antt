@@ -18,6 +18,12 @@ pub record SleepOutcome : Type 0 where
   pub energies : List ℕ
   pub sleeps : List ℕ
 
+-- the answer and the lists that make an outcome
+pub record Gives (answer : Verdict) (energies sleeps : List ℕ) (outcome : SleepOutcome) : Type 0 where
+  pub same-answer : answer ≡ outcome .answer
+  pub same-energies : energies ≡ outcome .energies
+  pub same-sleeps : sleeps ≡ outcome .sleeps
+
 abbrev pub sleepWhere : Verdict → (newEnergies newSleeps energies sleeps : List ℕ) → SleepOutcome
 sleepWhere Accepted newEnergies newSleeps energies sleeps =
     record { answer = Accepted; energies = onto newEnergies energies; sleeps = onto newSleeps sleeps }
@@ -41,17 +47,13 @@ unfoldable pub sleepOutcome : (words plan table : List ℕ) → (energy time : �
 sleepOutcome words plan table energy time energies sleeps = sleepOutcomeOf (problemOf words) plan table energy time energies sleeps
 
 -- 2, 3, 4; 11; 6; and the check's own, 7, 9, 10
-abbrev pub SleepingEnds : (words plan table : List ℕ) → (energy time : ℕ) → (energies sleeps : List ℕ) → SleepOutcome → Type 0
-SleepingEnds words plan table energy time energies sleeps o =
+abbrev pub SleepingEnds : (words plan table : List ℕ) → (energy time : ℕ) → (energies sleeps : List ℕ) →
+    Verdict → (energiesAfter sleepsAfter : List ℕ) → Type 0
+SleepingEnds words plan table energy time energies sleeps answer energiesAfter sleepsAfter =
     let reading = problemOf words in
+    let cores = neededFor (λ p. p .cores) reading in
     Ends
     (readThen reading (λ p. sleepTests p plan table energy time energies sleeps))
     (2 ∷ 3 ∷ 4 ∷ 11 ∷ 6 ∷ 7 ∷ 9 ∷ 10 ∷ [])
-    (lent (neededFor (λ p. p .cores) reading) energies (o .energies) ∷ lent (neededFor (λ p. p .cores) reading) sleeps (o .sleeps) ∷ [])
-    (o .answer)
-
--- what a call promises of its answer and of both lists: they are those of the outcome, and so it ends
-pub record SleepsAs (words plan table : List ℕ) (energy time : ℕ) (energies sleeps : List ℕ) (answer : Verdict) (energiesAfter sleepsAfter : List ℕ) : Type 0 where
-  pub same-answer : answer ≡ sleepOutcome words plan table energy time energies sleeps .answer
-  pub same-energies : energiesAfter ≡ sleepOutcome words plan table energy time energies sleeps .energies
-  pub same-sleeps : sleepsAfter ≡ sleepOutcome words plan table energy time energies sleeps .sleeps
+    (lent cores energies energiesAfter ∷ lent cores sleeps sleepsAfter ∷ [])
+    answer

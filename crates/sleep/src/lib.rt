@@ -2,5 +2,4 @@
 mod reckoning;
 mod rows;
 
-
 pub use reckoning::sleep;

@@ -15,9 +15,10 @@ ghost use Prim.Native.Nat.{_≤_, _<_};
 ghost use lib.ListN.{length};
 ghost use Rattle.instance.specs.Held.{Sound, problemIn};
 ghost use Rattle.laws.specs.Lists.{onto};
+ghost use Rattle.refusals.specs.Refusals.{accepted};
 ghost use Rattle.tables.specs.Tables.{tableSize};
 ghost use Rattle.sleep.specs.CoreSleeps.{coreSlept, leastEnergies, sleepCounts, switchingPasses};
-ghost use Rattle.sleep.specs.Outcomes.{SleepsAs};
+ghost use Rattle.sleep.specs.Outcomes.{Gives, sleepOutcome, sleepOutcomeOf, SleepingEnds};
 
 // 11, the energy before the time.
 fn switching_passes(energy: u32, time: u32) -> Verdict
@@ -76,6 +77,38 @@ fn fill_slept(
     }
 }
 
+// Reckons for an instance that was read.
+fn sleep_read(
+    inst: Instance,
+    plan: &[u32],
+    table: &[Slot],
+    energy: u32,
+    time: u32,
+    energies: &mut [u64],
+    sleeps: &mut [u32],
+) -> Verdict
+    requires { ⌜ Sound inst ⌝ }
+    ensures { λ r. ⌜ Gives r (now (energies .exit)) (now (sleeps .exit))
+        (sleepOutcomeOf (accepted (problemIn inst)) (now (plan .entry)) (now (table .entry)) energy time (now (energies .entry)) (now (sleeps .entry))) ⌝ }
+{
+    let switching = switching_passes(energy, time);
+    let Verdict::Accepted = switching else {
+        return switching;
+    };
+    let cores = inst.cores as usize;
+    if energies.len() < cores {
+        return Verdict::Refused(Refusal::ShortBuffer(cores));
+    }
+    if sleeps.len() < cores {
+        return Verdict::Refused(Refusal::ShortBuffer(cores));
+    }
+    let verdict = table_passes(inst, plan, table);
+    if let Verdict::Accepted = verdict {
+        fill_slept(inst, table, energy, time, energies, sleeps);
+    }
+    verdict
+}
+
 // Writes the least idle energy of each core and the number of its sleeps to the fronts of the lent lists.
 pub fn sleep(
     instance: &[u32],
@@ -86,7 +119,15 @@ pub fn sleep(
     energies: &mut [u64],
     sleeps: &mut [u32],
 ) -> Verdict
-    ensures { λ r. ⌜ SleepsAs (now (instance .entry)) (now (plan .entry)) (now (table .entry)) switching_energy switching_time
+    ensures { λ r. ⌜ r ≡ sleepOutcome (now (instance .entry)) (now (plan .entry)) (now (table .entry)) «switching_energy» «switching_time»
+        (now (energies .entry)) (now (sleeps .entry)) .answer ⌝ }
+    ensures { λ _. ⌜ now (energies .exit)
+        ≡ sleepOutcome (now (instance .entry)) (now (plan .entry)) (now (table .entry)) «switching_energy» «switching_time»
+        (now (energies .entry)) (now (sleeps .entry)) .energies ⌝ }
+    ensures { λ _. ⌜ now (sleeps .exit)
+        ≡ sleepOutcome (now (instance .entry)) (now (plan .entry)) (now (table .entry)) «switching_energy» «switching_time»
+        (now (energies .entry)) (now (sleeps .entry)) .sleeps ⌝ }
+    ensures promise { λ r. ⌜ SleepingEnds (now (instance .entry)) (now (plan .entry)) (now (table .entry)) «switching_energy» «switching_time»
         (now (energies .entry)) (now (sleeps .entry)) r (now (energies .exit)) (now (sleeps .exit)) ⌝ }
 {
     let read = read_instance(instance);
@@ -94,24 +135,13 @@ pub fn sleep(
     let Verdict::Accepted = words else {
         return words;
     };
-    let switching = switching_passes(switching_energy, switching_time);
-    let Verdict::Accepted = switching else {
-        return switching;
-    };
-    let cores = read.instance.cores as usize;
-    if energies.len() < cores || sleeps.len() < cores {
-        return Verdict::Refused(Refusal::ShortBuffer(cores));
-    }
-    let verdict = table_passes(read.instance, plan, table);
-    if let Verdict::Accepted = verdict {
-        fill_slept(
-            read.instance,
-            table,
-            switching_energy,
-            switching_time,
-            energies,
-            sleeps,
-        );
-    }
-    verdict
+    sleep_read(
+        read.instance,
+        plan,
+        table,
+        switching_energy,
+        switching_time,
+        energies,
+        sleeps,
+    )
 }
