@@ -97,12 +97,12 @@ pub(crate) fn row_slept(row: &[Slot], costs: SleepCosts) -> Slept
     requires { ⌜ costs .idle ≤ mostIdlePower ⌝ }
     ensures { λ r. ⌜ r ≡ rowSlept costs (busyIn (now (row .entry))) (length (now (row .entry))) ⌝ }
 {
-    let walk = walk_row(row, costs);
-    if walk.met {
-        let gap = gap_slept(costs, walk.leading + walk.run);
+    let all = walk_row(row, costs);
+    if all.met {
+        let gap = gap_slept(costs, all.leading + all.run);
         return Slept {
-            energy: walk.energy + gap.energy,
-            sleeps: walk.sleeps + gap.sleeps,
+            energy: all.energy + gap.energy,
+            sleeps: all.sleeps + gap.sleeps,
         };
     }
     Slept {
