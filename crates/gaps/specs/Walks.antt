@@ -89,8 +89,8 @@ module _ {F : ℕ → ℕ} {busy : ℕ → Bool} where
     walked-past-first e (none-busy w) = since-first (first-busy-passed e w)
 
 module _ (F : ℕ → ℕ) (busy : ℕ → Bool) (L : ℕ) (repeats : Repeats busy L) (none : F 0 ≡ 0) where
-  pub walk-without-busy-slot : {leading run total : ℕ} → Walked F busy L false leading run total → overGaps F busy L ≡ 0
-  walk-without-busy-slot (none-busy w) = no-gaps-without-busy-slot F none busy L (w .idle)
+  pub walk-without-busy-slot : {leading run total : ℕ} → Walked F busy L false leading run total → overGaps F busy L ≡ total
+  walk-without-busy-slot (none-busy w) = no-gaps-without-busy-slot F none busy L (w .idle) ∙ sym (w .no-total)
 
   -- the first gap is the last run, joined with the leading one across the end of the span
   joined-gap : (d leading : ℕ) → d ≤ leading → ((t : ℕ) → t < leading → busy t ≡ false) → idleBefore busy (L + d) ≡ d + idleBefore busy L

@@ -126,7 +126,7 @@ module _ (costs : SleepCosts) (busy : ℕ → Bool) (L : ℕ) (repeats : Repeats
       let sleeps = walk-comes-to (sleepIn costs) busy L repeats (no-sleep-in-no-gap costs) (rw met at (w .sleeps)) in
       rw (energy, sleeps, g .its-energy, g .its-sleep) refl
 
-  pub row-without-gaps : walk .met ≡ false → _≡_ {A = Slept} (record { energy = 0; sleeps = 0 }) (rowSlept costs busy L)
+  pub row-without-gaps : walk .met ≡ false → _≡_ {A = Slept} (record { energy = walk .energy; sleeps = walk .sleeps }) (rowSlept costs busy L)
   unfolding rowSlept
   row-without-gaps none =
       let energy = walk-without-busy-slot (energyIn costs) busy L repeats (no-energy-in-no-gap costs) (rw none at (w .energies)) in

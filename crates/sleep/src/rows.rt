@@ -106,7 +106,7 @@ pub(crate) fn row_slept(row: &[Slot], costs: SleepCosts) -> Slept
         };
     }
     Slept {
-        energy: 0,
-        sleeps: 0,
+        energy: all.energy,
+        sleeps: all.sleeps,
     }
 }
