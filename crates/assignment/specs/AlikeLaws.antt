@@ -50,6 +50,20 @@ module _ {o o' : Options} (alike : Alike o o') where
             sym (alike .same-cost T here pattern (admitted-back T here admitted));
       }
 
+  pub alike-trans : {o'' : Options} → Alike o' o'' → Alike o o''
+  alike-trans next =
+      record {
+        same-cores = alike .same-cores ∙ next .same-cores;
+        same-levels = alike .same-levels ∙ next .same-levels;
+        same-items = alike .same-items ∙ next .same-items;
+        same-admits = λ T of-items pattern keeps.
+            alike .same-admits T of-items pattern keeps
+            ∙ next .same-admits T (rw (← alike .same-items) of-items) pattern (rw (← alike .same-levels) keeps);
+        same-cost = λ T of-items pattern admitted.
+            alike .same-cost T of-items pattern admitted
+            ∙ next .same-cost T (rw (← alike .same-items) of-items) pattern (admitted-alike T of-items admitted);
+      }
+
   pattern-worth-alike : (T : List Bool) → length T ≡ length (o .items) → {pattern : List ℕ} → Admitted o T pattern →
       patternWorth o pattern ≡ patternWorth o' pattern
   unfolding patternWorth

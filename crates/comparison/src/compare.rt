@@ -8,6 +8,7 @@ use generator::Choices;
 use generator::PLAN_ROOM;
 use generator::TABLE_ROOM;
 use generator::Table;
+use generator::count_idle;
 use generator::draw_room;
 use generator::has_busy_slots;
 use generator::table_fails;
@@ -18,17 +19,18 @@ use generator::try_answered;
 use generator::try_drawn_plans;
 
 // Whether all tasks are kept or refused, by the answer.
-fn count_kept(answer: &[u64; 5], counts: &mut [u64; 28]) {
+fn count_kept(answer: &[u64; 5], counts: &mut [u64; 31]) {
     add_if(counts, tally::KEEPING_ALL, answer[3] == 0);
     add_if(counts, tally::REFUSING_ALL, answer[2] == 0);
 }
 
-// What kind of plan it is: which cores are used, by the table, and which tasks are kept.
-fn count_plan(site: Site, answer: &[u64; 5], table: &Table, counts: &mut [u64; 28]) {
+// What kind of plan it is: which cores are used, by the table, and which tasks are kept; and whether idle power was given.
+fn count_plan(words: &[u32], site: Site, answer: &[u64; 5], table: &Table, counts: &mut [u64; 31]) {
     let span = site.span as usize;
     let others = has_busy_slots(table, span, span, site.slots, 1);
     let full = has_busy_slots(table, span, 0, site.slots, span);
     add(counts, tally::PLANNED, 1);
+    count_idle(words, site.levels, counts);
     add_if(counts, tally::OTHER_CORES, others);
     add_if(counts, tally::FULL_ROWS, full);
     if 0 < site.tasks {
@@ -44,7 +46,7 @@ fn look_at_tables(
     plan: &Choices,
     table: &Table,
     state: &mut u32,
-    counts: &mut [u64; 28],
+    counts: &mut [u64; 31],
 ) {
     let fails = table_fails(words, site.slots, plan, site.tasks, table);
     add_if(counts, tally::TABLES_FAIL, fails);
@@ -66,7 +68,7 @@ fn look_at_drawn_plans(
     site: Site,
     least: u64,
     state: &mut u32,
-    counts: &mut [u64; 28],
+    counts: &mut [u64; 31],
 ) {
     try_drawn_plans(
         words,
@@ -86,7 +88,7 @@ fn look_at_refusal(
     site: Site,
     number: u64,
     state: &mut u32,
-    counts: &mut [u64; 28],
+    counts: &mut [u64; 31],
 ) {
     if 2 <= number && number <= 6 {
         add(counts, number as usize, 1);
@@ -103,10 +105,10 @@ fn look_at(
     plan: &Choices,
     table: &Table,
     state: &mut u32,
-    counts: &mut [u64; 28],
+    counts: &mut [u64; 31],
 ) {
     if answer[0] == 0 {
-        count_plan(site, answer, table, counts);
+        count_plan(words, site, answer, table, counts);
         look_at_tables(words, site, answer[4], plan, table, state, counts);
     } else {
         look_at_refusal(words, site, answer[0], state, counts);
@@ -120,7 +122,7 @@ fn draw_rooms(site: Site, state: &mut u32) -> Rooms {
     }
 }
 
-pub(crate) fn compare(words: &[u32], state: &mut u32, counts: &mut [u64; 28]) {
+pub(crate) fn compare(words: &[u32], state: &mut u32, counts: &mut [u64; 31]) {
     let site = site_of(words);
     let rooms = draw_rooms(site, state);
     let mut plan = [7_777_777; PLAN_ROOM];

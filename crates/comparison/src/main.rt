@@ -5,22 +5,22 @@
 mod compare;
 mod planners;
 
-const INSTANCES: u32 = 5_000;
+const INSTANCES: u32 = 10_000;
 
-fn compare_one(state: &mut u32, counts: &mut [u64; 28]) {
+fn compare_one(state: &mut u32, counts: &mut [u64; 31]) {
     let mut words = [0; 32];
     let end = generator::draw_instance(&mut words, state);
     compare_front(&words, end, state, counts);
 }
 
-fn compare_front(words: &[u32; 32], end: usize, state: &mut u32, counts: &mut [u64; 28]) {
+fn compare_front(words: &[u32; 32], end: usize, state: &mut u32, counts: &mut [u64; 31]) {
     let all = &words[..];
     if end <= all.len() {
         compare::compare(&all[0..end], state, counts);
     }
 }
 
-fn compare_many(instances: u32, counts: &mut [u64; 28]) {
+fn compare_many(instances: u32, counts: &mut [u64; 31]) {
     let mut state = 1;
     let mut k = 0;
     while k < instances {
@@ -30,13 +30,13 @@ fn compare_many(instances: u32, counts: &mut [u64; 28]) {
 }
 
 fn main() {
-    let mut counts = [0; 28];
+    let mut counts = [0; 31];
     compare_many(INSTANCES, &mut counts);
     print_all(&counts);
 }
 
 // Prints every count with its name.
-fn print_all(counts: &[u64; 28]) {
+fn print_all(counts: &[u64; 31]) {
     printing::print_filled(
         b"-- drawn\n\
           # instances\n\
@@ -46,6 +46,9 @@ fn print_all(counts: &[u64; 28]) {
           # refused with 4\n\
           # refused with 5, no plan\n\
           # refused with 6, a short buffer\n\
+          # planned with settings that count 4\n\
+          # of them with idle power below every level's power, but not 0\n\
+          # of them with idle power above every level's power\n\
           -- plans\n\
           # tried\n\
           # of them not refused\n\

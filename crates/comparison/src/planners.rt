@@ -72,7 +72,7 @@ pub(crate) fn plan_by_search(
     numbers_of(search_with_plan(words, plan, table, rooms))
 }
 
-fn count_tried(tried: Tried, counts: &mut [u64; 28]) {
+fn count_tried(tried: Tried, counts: &mut [u64; 31]) {
     add(counts, tally::PLANS_TRIED, tried.tried);
     add(counts, tally::PLANS_PRICED, tried.priced);
     add_if(counts, tally::SEVERAL_LEAST, 1 < tried.cheapest);
@@ -80,7 +80,7 @@ fn count_tried(tried: Tried, counts: &mut [u64; 28]) {
 }
 
 // Counts the numbers in which two answers differ, each at its place.
-fn count_differences(counts: &mut [u64; 28], a: &[u64; 5], b: &[u64; 5]) {
+fn count_differences(counts: &mut [u64; 31], a: &[u64; 5], b: &[u64; 5]) {
     let mut i = 0;
     while i < 5 {
         add_if(counts, tally::ANSWERS_DIFFER + i, a[i] != b[i]);
@@ -96,7 +96,7 @@ pub(crate) fn compare_with_trying(
     answer: &[u64; 5],
     plan: &Choices,
     table: &Table,
-    counts: &mut [u64; 28],
+    counts: &mut [u64; 31],
 ) {
     let mut own_plan = [7_777_777; PLAN_ROOM];
     let mut own_table = [77; TABLE_ROOM];
@@ -117,7 +117,7 @@ pub(crate) fn compare_with_trying(
     count_answer(tried, answer, counts);
 }
 
-fn count_answer(tried: Tried, answer: &[u64; 5], counts: &mut [u64; 28]) {
+fn count_answer(tried: Tried, answer: &[u64; 5], counts: &mut [u64; 31]) {
     let own = tried.answer;
     count_differences(counts, answer, &own);
     count_tried(tried, counts);

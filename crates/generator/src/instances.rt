@@ -3,7 +3,10 @@
 use crate::draw::below;
 use crate::draw::times;
 use crate::draw::up_to;
+use crate::idle::BELOW_LEVELS;
+use crate::idle::idle_power;
 use ranges::MAY_NOT_BE_REFUSED;
+use ranges::SETTINGS_WITH_IDLE;
 use ranges::SETTINGS_WITHOUT_IDLE;
 
 const PERIODS: [u32; 8] = [1, 2, 3, 4, 6, 8, 12, 24];
@@ -27,19 +30,25 @@ fn put(words: &mut [u32; 32], at: usize, word: u32) {
     }
 }
 
-// The number of settings, the two weights, and the cores.
-fn put_settings(words: &mut [u32; 32], state: &mut u32) {
+// The number of settings, the two weights, the cores, and in one list of three idle power; answers where the next word goes.
+fn put_settings(words: &mut [u32; 32], state: &mut u32) -> usize {
     words[0] = SETTINGS_WITHOUT_IDLE;
     words[1] = up_to(state, 3);
     words[2] = up_to(state, 3);
     words[3] = up_to(state, 3);
+    if below(state, 3) != 0 {
+        return 4;
+    }
+    words[0] = SETTINGS_WITH_IDLE;
+    words[4] = idle_power(state);
+    5
 }
 
 // Levels whose speeds rise by 1 to 3, and powers by 1 to 4; answers where the next word goes.
-fn put_levels(words: &mut [u32; 32], count: u32, state: &mut u32) -> usize {
-    let mut at = 5;
+fn put_levels(words: &mut [u32; 32], from: usize, count: u32, state: &mut u32) -> usize {
+    let mut at = from;
     let mut speed = 0;
-    let mut power = 0;
+    let mut power = BELOW_LEVELS;
     let mut l = 0;
     while l < count {
         speed = std::num::wrapping_add_u32(speed, up_to(state, 3));
@@ -100,10 +109,10 @@ fn put_tasks(words: &mut [u32; 32], from: usize, count: u32, state: &mut u32) ->
 }
 
 fn put_instance(words: &mut [u32; 32], state: &mut u32) -> usize {
-    put_settings(words, state);
+    let first = put_settings(words, state);
     let levels = up_to(state, 4);
-    words[4] = levels;
-    let at = put_levels(words, levels, state);
+    put(words, first, levels);
+    let at = put_levels(words, std::num::wrapping_add_usize(first, 1), levels, state);
     let tasks = TASKS[below(state, 16) as usize];
     put(words, at, tasks);
     put_tasks(words, std::num::wrapping_add_usize(at, 1), tasks, state)
@@ -111,7 +120,7 @@ fn put_instance(words: &mut [u32; 32], state: &mut u32) -> usize {
 
 fn put_odd_word(words: &mut [u32; 32], state: &mut u32) {
     let word = ODD_WORDS[below(state, 8) as usize];
-    put(words, below(state, 27) as usize, word);
+    put(words, below(state, 28) as usize, word);
 }
 
 // The list with a word too many, another length, 4,095 for the last period, or a word changed: mostly one that reading

@@ -1,6 +1,7 @@
 // What a fixed generator draws: instances, and tables for their plans, which are tried and counted.
 mod buffers;
 mod draw;
+mod idle;
 mod instances;
 mod other_tables;
 pub mod tally;
@@ -14,6 +15,7 @@ pub use buffers::draw_room;
 pub use buffers::has_busy_slots;
 pub use buffers::plans_differ;
 pub use buffers::tables_differ;
+pub use idle::count_idle;
 pub use instances::draw_instance;
 pub use trials::table_fails;
 pub use trials::try_answered;

@@ -4,6 +4,7 @@ use crate::buffers::TABLE_ROOM;
 use crate::buffers::Table;
 use crate::draw::below;
 use crate::draw::times;
+use crate::idle::word;
 use ranges::Slot;
 
 // In place of the slot of its window that a job tries first: it tries them from the end.
@@ -67,14 +68,6 @@ fn fill_row(table: &mut Table, task: Kept, span: u32) {
     }
 }
 
-// The word at a place of the list, 0 past its end.
-fn word(words: &[u32], at: usize) -> u32 {
-    if at < words.len() {
-        return words[at];
-    }
-    0
-}
-
 // The first slot of the row of a kept task's core.
 fn row_of(choice: u32, levels: u32, span: u32) -> u32 {
     if levels == 0 {
@@ -83,21 +76,25 @@ fn row_of(choice: u32, levels: u32, span: u32) -> u32 {
     times(std::num::wrapping_sub_u32(choice, 1) / levels, span)
 }
 
-// The speed of a kept task's level, one of so many that come after the settings.
-fn speed_of(words: &[u32], choice: u32, levels: u32) -> u32 {
+// The speed of a kept task's level, one of so many that come after the settings and their count.
+fn speed_of(words: &[u32], settings: u32, choice: u32, levels: u32) -> u32 {
     let level = rest(std::num::wrapping_sub_u32(choice, 1), levels);
-    word(words, 5 + 2 * level as usize)
+    word(words, 2 + settings as usize + 2 * level as usize)
 }
 
 // The task with this number, from 1, and this choice: its three words come after the levels and those of the tasks before.
 fn kept_task(words: &[u32], span: u32, choice: u32, number: Slot, first: u32) -> Kept {
-    let levels = word(words, 4);
-    let at = 3 + 2 * levels as usize + 3 * number as usize;
+    let settings = word(words, 0);
+    let levels = word(words, 1 + settings as usize);
+    let at = settings as usize + 2 * levels as usize + 3 * number as usize;
     Kept {
         number,
         row: row_of(choice, levels, span),
         period: word(words, at),
-        ticks: plan_rules::ticks_of(word(words, at + 1), speed_of(words, choice, levels)),
+        ticks: plan_rules::ticks_of(
+            word(words, at + 1),
+            speed_of(words, settings, choice, levels),
+        ),
         first,
     }
 }

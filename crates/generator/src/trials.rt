@@ -43,14 +43,14 @@ fn is_other(words: &[u32], plan: &[u32], table: &Table) -> bool {
 }
 
 // What a drawing's plan costs, where the answered plan costs `least`.
-fn count_price(priced: Priced, least: u64, counts: &mut [u64; 28]) {
+fn count_price(priced: Priced, least: u64, counts: &mut [u64; 31]) {
     match priced {
         Priced::Cost(price) => add_if(counts, tally::CHEAPER_DRAWINGS, price.cost < least),
         Priced::Refused(_) => add(counts, tally::UNFIT_DRAWINGS, 1),
     }
 }
 
-fn count_drawing(words: &[u32], plan: &[u32], table: &Table, least: u64, counts: &mut [u64; 28]) {
+fn count_drawing(words: &[u32], plan: &[u32], table: &Table, least: u64, counts: &mut [u64; 31]) {
     add(counts, tally::DRAWINGS, 1);
     add_if(counts, tally::OTHER_DRAWINGS, is_other(words, plan, table));
     count_price(prices::price(words, plan), least, counts);
@@ -64,7 +64,7 @@ fn try_table(
     plan: &[u32],
     least: u64,
     state: &mut u32,
-    counts: &mut [u64; 28],
+    counts: &mut [u64; 31],
 ) {
     let mut table = [0; TABLE_ROOM];
     fill_table(&mut table, words, span, plan, state);
@@ -83,7 +83,7 @@ fn try_front(
     n: usize,
     least: u64,
     state: &mut u32,
-    counts: &mut [u64; 28],
+    counts: &mut [u64; 31],
 ) {
     let all = &front[..];
     if n <= all.len() {
@@ -100,7 +100,7 @@ fn try_drawn_plan(
     most: u32,
     least: u64,
     state: &mut u32,
-    counts: &mut [u64; 28],
+    counts: &mut [u64; 31],
 ) {
     let mut plan = [0; PLAN_ROOM];
     draw_plan(&mut plan, n, std::num::wrapping_add_u32(most, 1), state);
@@ -116,7 +116,7 @@ pub fn try_drawn_plans(
     most: u32,
     least: u64,
     state: &mut u32,
-    counts: &mut [u64; 28],
+    counts: &mut [u64; 31],
 ) {
     try_drawn_plan(words, span, slots, n, most, least, state, counts);
     try_drawn_plan(words, span, slots, n, most, least, state, counts);
@@ -141,7 +141,7 @@ pub fn try_answered(
     n: usize,
     least: u64,
     state: &mut u32,
-    counts: &mut [u64; 28],
+    counts: &mut [u64; 31],
 ) {
     try_front(words, span, slots, front, n, least, state, counts);
     try_front(words, span, slots, front, n, least, state, counts);

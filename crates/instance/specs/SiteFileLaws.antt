@@ -68,7 +68,7 @@ site-file-read rest
     })
 
 site-file-writes : {p : Problem} {words : List ℕ} → Valid p → Writes p words → siteFile .Writes p words []
-unfolding siteFile settings levels tasks lastAfter spanFrom span
+unfolding siteFile levels tasks lastAfter spanFrom span
 site-file-writes {p} v (sections {settings = front} settings-words) =
     let task-count : InRange 0 Limits.mostTasks (taskCount p) = omega (arith, v .task-count) in
     let ls = rising-levels [] (p .levels) (taskCount p ∷ wordsOfTasks (p .tasks)) (valid-speeds v) (valid-powers v) in

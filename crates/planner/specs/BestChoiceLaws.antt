@@ -3,20 +3,18 @@ use Prim.Native.Nat.{ℕ, _<_}
 use mathlib.Core.Bool.{Bool}
 use mathlib.Core.List.{List}
 use mathlib.Core.Path.{_≡_, refl, sym, ap, _∙_}
+use native.Mathlib.Nat.{mul-zero}
 use native.Mathlib.Omega.{arith}
 use Rattle.laws.specs.Lists.{onto}
 use Rattle.instance.specs.Node.{Problem, taskCount, levelCount, span}
 use Rattle.instance.specs.Valid.{Valid}
-use Rattle.assignment.specs.AlikeLaws.{cost-alike, best-alike, core-table-alike}
+use Rattle.assignment.specs.AlikeLaws.{Alike, alike-trans, cost-alike, best-alike}
 use Rattle.assignment.specs.Assignment.{Best, totalCost}
-use Rattle.assignment.specs.CoreTables.{CoreTable}
 use Rattle.assignment.specs.Keys.{digits}
-use Rattle.assignment.specs.Sets.{tableAt}
 use Rattle.knapsack.specs.Offered.{offersOf}
 use Rattle.knapsack.specs.Offers.{loadOptions}
-use Rattle.knapsack_tables.specs.TabledKnapsacks.{KnapsacksFilled, filled-core-table}
+use Rattle.cores.specs.AwakeLaws.{free-alike}
 use Rattle.light.specs.Light.{OfferFits}
-use Rattle.partition.specs.Tables.{one-core-table}
 use Rattle.search.specs.Found.{Searched, BestFound}
 use Rattle.search.specs.FoundLaws.{search-is-best}
 use Rattle.search.specs.Limits.{SearchReady}
@@ -29,11 +27,11 @@ use Rattle.values.specs.declared.value.Worth.{Worth}
 use Rattle.planner.specs.BestChoices.{foundOf, chosenOnto}
 use Rattle.planner.specs.BestPlanLaws.{choice-count, best-is-best-plan, none-is-none}
 use Rattle.planner.specs.CostLaws.{cost-is-total}
+use Rattle.planner.specs.FilledCores.{CoreFilled}
 use Rattle.planner.specs.OfferedBounds.{offered-affordable, offered-refusal-at-most}
-use Rattle.planner.specs.OfferedLaws.{offered-alike, offered-items}
+use Rattle.planner.specs.OfferedLaws.{awake-alike, offered-alone, offers-beside-items, offered-items}
 use Rattle.planner.specs.OfferedOptions.{OptionsOffered}
-use Rattle.planner.specs.OptionsLaws.{item-count}
-use Rattle.planner.specs.OptionsOf.{optionsOf}
+use Rattle.planner.specs.OptionsOf.{idleCost, optionsOf}
 use Rattle.planner.specs.Planning.{bestPlan}
 
 abbrev pub shapeOf : Problem → Shape
@@ -53,6 +51,10 @@ module _ (p : Problem) where
         written = rw (best-is-best-plan p best) written;
       }
 
+  pub key-is-chosen : {worth : Worth} {before after : List ℕ} → BestKey (optionsOf p) (taskCount p) worth →
+      after ≡ onto (digits (taskCount p) (worth .key)) before → Chosen p before after (Found.Cheapest (worth .cost))
+  key-is-chosen best written = best-chosen (best .is-best) (best .costs) written
+
   found-is-chosen : (before after : List ℕ) (r : Found) → BestFound (optionsOf p) before after r → Chosen p before after r
   found-is-chosen before after (Found.Cheapest cost) best = best-chosen (best .is-best) (best .costs) (best .written)
   found-is-chosen before after Found.NoPlan (none-allowed, unchanged) =
@@ -64,21 +66,36 @@ module _ {p : Problem} {load cost refusal : List ℕ} {must : List Bool} (v : Va
   offer-fits =
       record {
         items-limited = v .task-count;
-        affordable = offered-affordable v o;
+        affordable = offered-affordable v (o .levels);
         refusals-for-all = omega (arith, o .refusal-length, v .task-count);
         musts-for-all = omega (arith, o .must-length, v .task-count);
         refusals-limited = offered-refusal-at-most v o;
       }
 
-  pub light-is-chosen : (worth : Worth) {before after : List ℕ} →
-      ((cores : ℕ) → 0 < cores → BestKey (loadOptions cores (levelCount p) (span p) (offersOf load cost (taskCount p)) (itemsOf refusal must (taskCount p))) (taskCount p) worth) →
-      after ≡ onto (digits (taskCount p) (worth .key)) before → Chosen p before after (Found.Cheapest (worth .cost))
-  light-is-chosen worth light written =
-      let best = rw (offered-items v o) at (light (p .cores) (v .cores .at-least)) in
-      let alike = offered-alike v o in
-      best-chosen p (best-alike alike (best .is-best)) (sym (cost-alike alike (best .is-best .allowed)) ∙ best .costs) written
+  -- where idle ticks cost nothing, the cores of the problem's options cost what the offers do
+  offered-alike : p .idle ≡ 0 →
+      Alike (loadOptions (p .cores) (levelCount p) (span p) (offersOf load cost (taskCount p)) (optionsOf p .items)) (optionsOf p)
+  unfolding idleCost
+  offered-alike free =
+      let nothing : idleCost p ≡ 0 = rw free (mul-zero (p .weights .energy)) in
+      alike-trans
+      (free-alike (p .cores) (optionsOf p .items) (rw nothing at (offered-alone v (o .levels))) (offers-beside-items p))
+      (rw nothing at (awake-alike p))
 
-  module _ {costs₀ keys₀ costs keys : List ℕ} (filled : KnapsacksFilled (taskCount p) (levelCount p) (span p) load cost costs₀ keys₀ costs keys) where
+  -- on light sites without idle power
+  pub light-is-best : p .idle ≡ 0 → {worth : Worth} →
+      ((cores : ℕ) → 0 < cores → BestKey (loadOptions cores (levelCount p) (span p) (offersOf load cost (taskCount p)) (itemsOf refusal must (taskCount p))) (taskCount p) worth) →
+      BestKey (optionsOf p) (taskCount p) worth
+  light-is-best free light =
+      let best = rw (offered-items o) at (light (p .cores) (v .cores .at-least)) in
+      let alike = offered-alike free in
+      record {
+        is-best = best-alike alike (best .is-best);
+        costs = sym (cost-alike alike (best .is-best .allowed)) ∙ best .costs;
+        key-below = best .key-below;
+      }
+
+  module _ {costs₀ keys₀ costs keys : List ℕ} (filled : CoreFilled p costs₀ keys₀ costs keys) where
     pub search-ready : SearchReady (shapeOf p) refusal must costs keys
     search-ready =
         record {
@@ -92,13 +109,10 @@ module _ {p : Problem} {load cost refusal : List ℕ} {must : List Bool} (v : Va
           refusals-for-all = omega (arith, o .refusal-length, v .task-count);
           musts-for-all = omega (arith, o .must-length, v .task-count);
           refusals-limited = offered-refusal-at-most v o;
-          core-table = one-core-table (filled .tabled) (filled .costs-limited) (filled .keyed);
+          core-table = filled .limited;
         }
-
-    core-table : CoreTable (optionsOf p) (tableAt (taskCount p) costs keys)
-    core-table = core-table-alike (offered-alike v o) (filled-core-table filled (p .cores) (optionsOf p .items) (item-count p))
 
     pub searched-is-chosen : {before after : List ℕ} {r : Found} → Searched (shapeOf p) refusal must costs keys before after r → Chosen p before after r
     unfolding optionsOf
     searched-is-chosen {before} {after} {r} searched =
-        found-is-chosen p before after r (search-is-best search-ready searched (optionsOf p) refl refl (sym (offered-items v o)) core-table)
+        found-is-chosen p before after r (search-is-best search-ready searched (optionsOf p) refl refl (sym (offered-items o)) (filled .least))

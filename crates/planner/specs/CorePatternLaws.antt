@@ -11,7 +11,7 @@ use Rattle.laws.specs.SumLaws.{sum-cong}
 use Rattle.instance.specs.Node.{Problem, levelCount, taskCount, taskAt, levelAt}
 use Rattle.plan_rules.specs.Plans.{fits}
 use Rattle.plan_rules.specs.Quantities.{choiceAt, keeps, jobs, ticks, jobTicks, ticksOn, loadOn, coreLoad}
-use Rattle.prices.specs.Prices.{coreEnergy}
+use Rattle.prices.specs.Prices.{busyEnergy, keptCount, isAwake, idleTicks, coreEnergy}
 use Rattle.assignment.specs.Assignment.{onCore, corePattern}
 
 pub corePattern-length : (levels k : ℕ) (plan : List ℕ) → length (corePattern levels k plan) ≡ length plan
@@ -64,14 +64,30 @@ module _ (p : Problem) (plan : List ℕ) (k : ℕ) where
       rw (corePattern-at (levelCount p) k plan i)
       (same-on-core (loadIf i) (λ l m. refl) (levelCount p) k (choiceAt plan i))
 
-  pub fits-of-pattern : fits p (corePattern (levelCount p) k plan) 0 ≡ fits p plan k
-  unfolding fits coreLoad
-  fits-of-pattern = rw (sum-cong _ _ (taskCount p) (λ i h. load-of-pattern i))
+  coreLoad-of-pattern : coreLoad p (corePattern (levelCount p) k plan) 0 ≡ coreLoad p plan k
+  unfolding coreLoad
+  coreLoad-of-pattern = sum-cong _ _ (taskCount p) (λ i h. load-of-pattern i)
 
-  pub energy-of-pattern : coreEnergy p (corePattern (levelCount p) k plan) 0 ≡ coreEnergy p plan k
-  unfolding coreEnergy loadOn ticksOn keeps jobTicks loadIf energyIf
-  energy-of-pattern =
+  pub fits-of-pattern : fits p (corePattern (levelCount p) k plan) 0 ≡ fits p plan k
+  unfolding fits
+  fits-of-pattern = rw coreLoad-of-pattern
+
+  busy-of-pattern : busyEnergy p (corePattern (levelCount p) k plan) 0 ≡ busyEnergy p plan k
+  unfolding busyEnergy loadOn ticksOn keeps jobTicks loadIf energyIf
+  busy-of-pattern =
       sum-cong _ _ (taskCount p)
       (λ i h.
       rw (corePattern-at (levelCount p) k plan i)
       (same-on-core (energyIf i) (λ l m. omega arith) (levelCount p) k (choiceAt plan i)))
+
+  count-of-pattern : keptCount p (corePattern (levelCount p) k plan) 0 ≡ keptCount p plan k
+  unfolding keptCount keeps
+  count-of-pattern =
+      sum-cong _ _ (taskCount p)
+      (λ i h.
+      rw (corePattern-at (levelCount p) k plan i)
+      (same-on-core (λ b l. cond b 1 0) (λ l m. refl) (levelCount p) k (choiceAt plan i)))
+
+  pub energy-of-pattern : coreEnergy p (corePattern (levelCount p) k plan) 0 ≡ coreEnergy p plan k
+  unfolding coreEnergy idleTicks isAwake
+  energy-of-pattern = rw (busy-of-pattern, count-of-pattern, coreLoad-of-pattern) refl

@@ -1,18 +1,19 @@
 -- The options of a problem, from the fields of the struct that holds it.
-use Prim.Native.Nat.{ℕ, _*_, _/_, _≤_, _<_}
-use mathlib.Core.Path.{_≡_, ap, ap₂, _∙_}
-use native.Mathlib.Nat.{le-trans, le-of-eq, mul-le-mul, div-le-self}
+use Prim.Native.Nat.{ℕ, _+_, _-_, _*_, _/_, _≤_, _<_}
+use mathlib.Core.Path.{_≡_, refl, ap, ap₂, _∙_}
+use native.Mathlib.Nat.{le-trans, le-of-eq, mul-add, mul-assoc, mul-le-mul, div-le-self}
 use lib.Dec.{eqb}
 use lib.ListN.{getD}
 use Rattle.instance.specs.Held.{problemIn, Sound, held-task, held-level, held-span}
-use Rattle.ranges.specs.Limits.{mostCycles, mostPower, mostSpan, mostWeight, mayNotBeRefused}
+use Rattle.ranges.specs.Limits.{mostCycles, mostIdlePower, mostPower, mostSpan, mostWeight, mayNotBeRefused}
 use Rattle.instance.specs.Node.{levelCount, taskCount, taskAt, noLevel, noTask}
 use Rattle.instance.specs.declared.Instance.{Instance}
 use Rattle.instance.specs.declared.Level.{Level}
 use Rattle.instance.specs.declared.Task.{Task}
 use Rattle.plan_rules.specs.Quantities.{ticks}
 use Rattle.plan_rules.specs.QuantityBounds.{ticks-at-most}
-use Rattle.planner.specs.OptionsOf.{jobsOf, loadAt, itemOf, offerOf}
+use Rattle.cores.specs.AwakeCores.{aloneCost}
+use Rattle.planner.specs.OptionsOf.{jobsOf, loadAt, itemOf, offerOf, idleCost, offeredCost}
 
 module _ (inst : Instance) (s : Sound inst) where
   pub held-span-at-most : inst .span ≤ mostSpan
@@ -21,6 +22,10 @@ module _ (inst : Instance) (s : Sound inst) where
   pub energy-weight-at-most : inst .weights .energy ≤ mostWeight
   unfolding problemIn
   energy-weight-at-most = s .valid .energy-weight .at-most
+
+  pub idle-power-at-most : inst .idle ≤ mostIdlePower
+  unfolding problemIn
+  idle-power-at-most = s .valid .idle
 
   pub penalty-weight-at-most : inst .weights .penalty ≤ mostWeight
   unfolding problemIn
@@ -57,10 +62,12 @@ module _ (inst : Instance) (s : Sound inst) where
     level-power-at-most = rw (held-level inst s l h) (s .valid .level l h .power .at-most)
 
     pub held-cost : (i x : ℕ) → x ≡ offerOf (problemIn inst) (taskAt (problemIn inst) i) .load l →
-        inst .weights .energy * (x * getD (inst .levels) l noLevel .power) ≡ offerOf (problemIn inst) (taskAt (problemIn inst) i) .cost l
-    unfolding offerOf problemIn
+        inst .weights .energy * (x * getD (inst .levels) l noLevel .power + inst .idle * (inst .span - x))
+        ≡ offeredCost (problemIn inst) (taskAt (problemIn inst) i) l
+    unfolding offerOf problemIn idleCost aloneCost
     held-cost i x same =
-        ap (λ (y : ℕ). inst .weights .energy * y) (ap₂ _*_ same (ap (λ (level : Level). level .power) (held-level inst s l h)))
+        let power = ap (λ (level : Level). level .power) (held-level inst s l h) in
+        rw (same, power, held-span inst s, mul-add, mul-assoc) refl
 
   pub held-must : (i : ℕ) → i < taskCount (problemIn inst) →
       eqb (getD (inst .tasks) i noTask .penalty) mayNotBeRefused ≡ itemOf (problemIn inst) (taskAt (problemIn inst) i) .must

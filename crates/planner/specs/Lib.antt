@@ -17,6 +17,7 @@ pub mod BestDrawingLaws
 pub mod PlannedLaws
 pub mod OfferedOptions
 pub mod OfferedLaws
+pub mod FilledCores
 pub mod OfferedBounds
 pub mod HeldOptions
 pub mod BestChoices

@@ -2,33 +2,34 @@
 use Prim.Native.Nat.{ℕ, zero, suc, pred, _+_, _*_, _/_, _%_, _≤_, _<_}
 use mathlib.Core.Bool.{Bool, cond, not, _&&_}
 use mathlib.Core.List.{List, [], _∷_}
-use mathlib.Core.Path.{_≡_, refl, sym, _∙_}
-use native.Mathlib.Nat.{div-eq-of-lt, mod-eq-of-lt, mul-zero, le-trans, le-of-eq}
+use mathlib.Core.Path.{_≡_, refl, sym, ap, _∙_}
+use native.Mathlib.Nat.{div-eq-of-lt, mod-eq-of-lt, mul-zero, mul-add, mul-assoc, le-of-eq}
 use native.Mathlib.Omega.{arith}
-use borrow.Author.Tests.{leb-true}
 use lib.Dec.{eqb, eqb·suc-zero}
 use lib.ListN.{length, getD}
 use lib.Seq.{take-all}
 use Rattle.laws.specs.JoinedLaws.{length-listOf, getD-listOf, listOf-same, take-is-listOf}
 use Rattle.laws.specs.Lists.{listOf}
-use Rattle.laws.specs.SumLaws.{sum-cong, sum-scaled, term-le-sum}
-use Rattle.laws.specs.SumOrderLaws.{total-is-sum}
+use Rattle.laws.specs.SumLaws.{sum-cong, sum-scaled}
+use Rattle.laws.specs.SumOrderLaws.{sum-from-first, total-is-sum}
 use Rattle.laws.specs.Sums.{sum}
+use Rattle.ranges.specs.Limits.{mostLevels}
 use Rattle.instance.specs.Node.{Problem, levelCount, levelAt, noTask, taskAt, taskCount, span}
 use Rattle.instance.specs.Valid.{Valid}
 use Rattle.plan_rules.specs.Plans.{fits}
 use Rattle.plan_rules.specs.Quantities
-use Rattle.plan_rules.specs.Quantities.{choiceAt, levelOf, ticks, jobs, jobTicks, ticksOn, loadOn, coreLoad}
-use Rattle.prices.specs.Prices.{coreEnergy}
+use Rattle.plan_rules.specs.Quantities.{choiceAt, isRefused, levelOf, ticks, jobs, jobTicks, ticksOn, loadOn, coreLoad}
+use Rattle.prices.specs.Prices.{busyEnergy, keptCount, isAwake, idleTicks, coreEnergy}
 use Rattle.assignment.specs.AlikeLaws.{Alike}
-use Rattle.assignment.specs.Keeping.{Keeps, done, refused, kept}
+use Rattle.assignment.specs.Keeping.{Keeps, done, refused, kept, keptItems}
 use Rattle.assignment.specs.KeyLaws.{keeps-length}
 use Rattle.knapsack.specs.Offered.{offerAt, offersOf}
-use Rattle.knapsack.specs.Offers.{Offer, entryLoad, entryCost, patternLoad, patternCost, loadOptions}
+use Rattle.knapsack.specs.Offers.{Offer, entryLoad, entryCost, patternLoad, patternCost}
+use Rattle.cores.specs.AwakeCores.{size, idleLoad, awakeOptions, noOffer, OfferedAlone}
 use Rattle.values.specs.Items.{itemAt, itemsOf}
-use Rattle.planner.specs.OfferedOptions.{OptionsOffered, offered-level}
+use Rattle.planner.specs.OfferedOptions.{LevelOffered, LevelsOffered, OptionsOffered, offered-level}
 use Rattle.planner.specs.OptionsLaws.{item-count, item-at}
-use Rattle.planner.specs.OptionsOf.{jobsOf, loadAt, itemOf, offerOf, optionsOf}
+use Rattle.planner.specs.OptionsOf.{jobsOf, loadAt, itemOf, offerOf, offersIn, idleCost, optionsOf}
 
 -- a pattern has no choice above the levels
 keeps-choice : {most : ℕ} {T : List Bool} {pattern : List ℕ} → Keeps most T pattern → (i : ℕ) → choiceAt pattern i ≤ most
@@ -38,81 +39,130 @@ keeps-choice (refused k) (suc i) = keeps-choice k i
 keeps-choice (kept d h k) zero = h
 keeps-choice (kept d h k) (suc i) = keeps-choice k i
 
-module _ {p : Problem} (v : Valid p) {load cost refusal : List ℕ} {must : List Bool}
-    (o : OptionsOffered p (taskCount p) load cost refusal must) where
-  module _ (i : ℕ) (h : i < taskCount p) where
+-- the items that a pattern keeps, counted one after the other
+size-is-sum : (pattern : List ℕ) → size (keptItems pattern) ≡ sum (λ i. cond (not (isRefused pattern i)) 1 0) (length pattern)
+unfolding size keptItems sum
+size-is-sum [] = refl
+size-is-sum (c ∷ pattern) =
+    ap (λ (k : ℕ). cond (not (eqb c 0)) 1 0 + k) (size-is-sum pattern)
+    ∙ sym (sum-from-first (λ i. cond (not (isRefused (c ∷ pattern) i)) 1 0) (length pattern))
+
+module _ (p : Problem) where
+  module _ (i : ℕ) where
     -- what choice c asks of core 0 for task i, as the problem says it
     loadOf : ℕ → ℕ
     loadOf c = jobs p i * cond (not (eqb c 0) && eqb (pred c / levelCount p) 0) (ticks (taskAt p i .cycles) (levelAt p (pred c % levelCount p) .speed)) 0
 
-    entry-load : (c : ℕ) → c ≤ levelCount p → entryLoad (offerAt load cost i) c ≡ loadOf c
-    unfolding entryLoad offerAt loadOf offerOf loadAt jobsOf jobs
+    entry-load : (c : ℕ) → c ≤ levelCount p → entryLoad (offerOf p (taskAt p i)) c ≡ loadOf c
+    unfolding entryLoad loadOf offerOf loadAt jobsOf jobs
     entry-load zero low = sym (mul-zero (jobs p i))
-    entry-load (suc l) low = rw (eqb·suc-zero, div-eq-of-lt low, mod-eq-of-lt low) (offered-level (v .level-count .at-most) o i l h low .same-load)
+    entry-load (suc l) low = rw (eqb·suc-zero, div-eq-of-lt low, mod-eq-of-lt low) refl
 
-    entry-cost : (c : ℕ) → c ≤ levelCount p → loadOf c ≤ span p →
-        entryCost (offerAt load cost i) c ≡ p .weights .energy * (loadOf c * levelAt p (pred c % levelCount p) .power)
-    unfolding entryCost offerAt loadOf offerOf loadAt jobsOf jobs
-    entry-cost zero low takes = omega (arith, mul-zero (jobs p i))
-    entry-cost (suc l) low takes =
-        let asked : offerOf p (taskAt p i) .load l ≤ span p = rw (eqb·suc-zero, div-eq-of-lt low, mod-eq-of-lt low) at takes in
-        rw (eqb·suc-zero, div-eq-of-lt low, mod-eq-of-lt low) (offered-level (v .level-count .at-most) o i l h low .same-cost asked)
+    entry-cost : (c : ℕ) → c ≤ levelCount p →
+        entryCost (offerOf p (taskAt p i)) c ≡ p .weights .energy * (loadOf c * levelAt p (pred c % levelCount p) .power)
+    unfolding entryCost loadOf offerOf loadAt jobsOf jobs
+    entry-cost zero low = omega (arith, mul-zero (jobs p i))
+    entry-cost (suc l) low = rw (eqb·suc-zero, div-eq-of-lt low, mod-eq-of-lt low) refl
+
+  -- a choice of a pattern is on core 0
+  kept-on-core : (c : ℕ) → c ≤ levelCount p → not (eqb c 0) ≡ (not (eqb c 0) && eqb (pred c / levelCount p) 0)
+  kept-on-core zero low = refl
+  kept-on-core (suc l) low = rw (eqb·suc-zero, div-eq-of-lt low) refl
 
   module _ {T : List Bool} {pattern : List ℕ} (keeps : Keeps (levelCount p) T pattern) (of-items : length T ≡ taskCount p) where
-    offers-counted : length pattern ≡ length (offersOf load cost (taskCount p))
-    unfolding offersOf
-    offers-counted = keeps-length keeps ∙ of-items ∙ sym (length-listOf (offerAt load cost) (taskCount p))
+    one-per-task : length pattern ≡ taskCount p
+    one-per-task = keeps-length keeps ∙ of-items
 
     -- sums over offers are sums over tasks
     by-task : (part : Offer → ℕ → ℕ) (total : List Offer → List ℕ → ℕ) → ((pattern : List ℕ) → total [] pattern ≡ 0) →
         ((offer : Offer) (offers : List Offer) (c : ℕ) (pattern : List ℕ) → total (offer ∷ offers) (c ∷ pattern) ≡ part offer c + total offers pattern) →
-        (f : ℕ → ℕ) → ((i : ℕ) → i < taskCount p → part (offerAt load cost i) (choiceAt pattern i) ≡ f i) →
-        total (offersOf load cost (taskCount p)) pattern ≡ sum f (taskCount p)
-    unfolding offersOf
+        (f : ℕ → ℕ) → ((i : ℕ) → i < taskCount p → part (offerOf p (taskAt p i)) (choiceAt pattern i) ≡ f i) →
+        total (offersIn p) pattern ≡ sum f (taskCount p)
+    unfolding offersIn
     by-task part total none more f same =
-        total-is-sum (offerAt load cost 0) part total none more (listOf (offerAt load cost) (taskCount p)) pattern offers-counted
-        ∙ rw (length-listOf (offerAt load cost) (taskCount p))
-        (sum-cong _ _ _ (λ i h. rw (getD-listOf (offerAt load cost) (taskCount p) i (offerAt load cost 0) h) (same i h)))
+        let offer : ℕ → Offer = λ i. offerOf p (taskAt p i) in
+        total-is-sum (offer 0) part total none more (listOf offer (taskCount p)) pattern (one-per-task ∙ sym (length-listOf offer (taskCount p)))
+        ∙ rw (length-listOf offer (taskCount p))
+        (sum-cong _ _ _ (λ i h. rw (getD-listOf offer (taskCount p) i (offer 0) h) (same i h)))
 
-    pub offered-load : patternLoad (offersOf load cost (taskCount p)) pattern ≡ coreLoad p pattern 0
+    tasks-load : patternLoad (offersIn p) pattern ≡ coreLoad p pattern 0
     unfolding patternLoad coreLoad loadOn ticksOn Quantities.keeps jobTicks loadOf
-    offered-load =
+    tasks-load =
         by-task entryLoad patternLoad (λ pattern. refl) (λ offer offers c pattern. refl) (loadOn p pattern 0)
-        (λ i h. entry-load i h (choiceAt pattern i) (keeps-choice keeps i))
+        (λ i h. entry-load i (choiceAt pattern i) (keeps-choice keeps i))
 
-    pub offered-cost : coreLoad p pattern 0 ≤ span p →
-        patternCost (offersOf load cost (taskCount p)) pattern ≡ p .weights .energy * coreEnergy p pattern 0
-    unfolding patternCost coreLoad coreEnergy loadOn ticksOn Quantities.keeps jobTicks loadOf
-    offered-cost takes =
+    tasks-cost : patternCost (offersIn p) pattern ≡ p .weights .energy * busyEnergy p pattern 0
+    unfolding patternCost busyEnergy loadOn ticksOn Quantities.keeps jobTicks loadOf
+    tasks-cost =
         by-task entryCost patternCost (λ pattern. refl) (λ offer offers c pattern. refl)
         (λ i. p .weights .energy * (loadOn p pattern 0 i * levelAt p (levelOf p pattern i) .power))
-        (λ i h.
-        entry-cost i h (choiceAt pattern i) (keeps-choice keeps i)
-        (le-trans (term-le-sum (loadOn p pattern 0) (taskCount p) i h) takes))
+        (λ i h. entry-cost i (choiceAt pattern i) (keeps-choice keeps i))
         ∙ sum-scaled (p .weights .energy) _ (taskCount p)
 
-  -- the cores of the problem's options take what the offers' cores take, at the same cost
-  pub offered-alike : Alike (loadOptions (p .cores) (levelCount p) (span p) (offersOf load cost (taskCount p)) (optionsOf p .items)) (optionsOf p)
-  unfolding loadOptions optionsOf fits
-  offered-alike =
+    tasks-kept : size (keptItems pattern) ≡ keptCount p pattern 0
+    unfolding keptCount Quantities.keeps
+    tasks-kept =
+        size-is-sum pattern
+        ∙ rw one-per-task
+        (sum-cong _ _ (taskCount p) (λ i h. ap (λ (b : Bool). cond b 1 0) (kept-on-core (choiceAt pattern i) (keeps-choice keeps i))))
+
+    tasks-idle : idleLoad (span p) (offersIn p) pattern ≡ idleTicks p pattern 0
+    unfolding idleLoad idleTicks isAwake
+    tasks-idle = rw (tasks-kept, tasks-load) refl
+
+  -- the cores of the problem's options admit and cost what awake cores do
+  pub awake-alike : Alike (awakeOptions (p .cores) (levelCount p) (span p) (idleCost p) (offersIn p) (optionsOf p .items)) (optionsOf p)
+  unfolding awakeOptions optionsOf fits coreEnergy idleCost
+  awake-alike =
       record {
         same-cores = refl;
         same-levels = refl;
         same-items = refl;
-        same-admits = λ T of-items pattern keeps. rw (offered-load keeps (of-items ∙ item-count p));
+        same-admits = λ T of-items pattern keeps. rw (tasks-load keeps (of-items ∙ item-count p));
         same-cost = λ T of-items pattern admitted.
             let beside = of-items ∙ item-count p in
-            offered-cost (admitted .keeps) beside (rw (offered-load (admitted .keeps) beside) at (leb-true (patternLoad (offersOf load cost (taskCount p)) pattern) (span p) (admitted .admitted)));
+            rw (tasks-cost (admitted .keeps) beside, tasks-idle (admitted .keeps) beside, mul-add, mul-assoc) refl;
       }
 
-  -- refusals as they are offered
-  pub offered-items : itemsOf refusal must (taskCount p) ≡ optionsOf p .items
-  unfolding itemsOf itemAt
-  offered-items =
-      listOf-same (itemAt refusal must) (λ i. getD (optionsOf p .items) i (itemOf p noTask)) (taskCount p)
-      (λ i h. same-item i h ∙ sym (item-at p i))
-      ∙ sym (take-is-listOf (optionsOf p .items) (itemOf p noTask) (taskCount p) (le-of-eq (sym (item-count p))))
-      ∙ take-all _ _ (le-of-eq (item-count p))
-    where
-      same-item : (i : ℕ) → i < taskCount p → itemAt refusal must i ≡ itemOf p (taskAt p i)
-      same-item i h = λ k. record { refusal = o .same-refusal i h k; must = o .same-must i h k }
+  pub offers-beside-items : length (offersIn p) ≡ length (optionsOf p .items)
+  unfolding offersIn
+  offers-beside-items = length-listOf (λ i. offerOf p (taskAt p i)) (taskCount p) ∙ sym (item-count p)
+
+-- the arrays have what each task costs alone
+pub offered-alone : {p : Problem} {load cost : List ℕ} → Valid p → LevelsOffered p (taskCount p * mostLevels) load cost →
+    OfferedAlone (levelCount p) (span p) (idleCost p) (offersIn p) (offersOf load cost (taskCount p))
+unfolding offersIn offersOf offerAt noOffer
+offered-alone {p} {load} {cost} v o =
+    record {
+      for-all = length-listOf _ n ∙ sym (length-listOf _ n);
+      same-load = λ i l h k. rw (listed i h, offered i h) (at i l h k .same-load);
+      alone-cost = λ i l h k fits. rw (listed i h, offered i h) (at i l h k .same-cost (rw (listed i h) at fits));
+    }
+  where
+    n : ℕ
+    n = taskCount p
+
+    below : (i : ℕ) → i < length (listOf (λ i. offerOf p (taskAt p i)) n) → i < n
+    below i h = rw (length-listOf (λ i. offerOf p (taskAt p i)) n) at h
+
+    at : (i l : ℕ) → i < length (listOf (λ i. offerOf p (taskAt p i)) n) → l < levelCount p → LevelOffered p load cost i l
+    at i l h k = offered-level (v .level-count .at-most) o i l (below i h) k
+
+    listed : (i : ℕ) → i < length (listOf (λ i. offerOf p (taskAt p i)) n) → getD (listOf (λ i. offerOf p (taskAt p i)) n) i noOffer ≡ offerOf p (taskAt p i)
+    listed i h = getD-listOf (λ i. offerOf p (taskAt p i)) n i noOffer (below i h)
+
+    offered : (i : ℕ) → i < length (listOf (λ i. offerOf p (taskAt p i)) n) → getD (listOf (offerAt load cost) n) i noOffer ≡ offerAt load cost i
+    offered i h = getD-listOf (offerAt load cost) n i noOffer (below i h)
+
+-- refusals as they are offered
+pub offered-items : {p : Problem} {load cost refusal : List ℕ} {must : List Bool} → OptionsOffered p (taskCount p) load cost refusal must →
+    itemsOf refusal must (taskCount p) ≡ optionsOf p .items
+unfolding itemsOf itemAt
+offered-items {p} {load} {cost} {refusal} {must} o =
+    listOf-same (itemAt refusal must) (λ i. getD (optionsOf p .items) i (itemOf p noTask)) (taskCount p)
+    (λ i h. same-item i h ∙ sym (item-at p i))
+    ∙ sym (take-is-listOf (optionsOf p .items) (itemOf p noTask) (taskCount p) (le-of-eq (sym (item-count p))))
+    ∙ take-all _ _ (le-of-eq (item-count p))
+  where
+    same-item : (i : ℕ) → i < taskCount p → itemAt refusal must i ≡ itemOf p (taskAt p i)
+    same-item i h = λ k. record { refusal = o .same-refusal i h k; must = o .same-must i h k }

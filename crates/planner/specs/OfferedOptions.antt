@@ -12,12 +12,12 @@ use borrow.Author.Count.{below-more}
 use Rattle.laws.specs.Below.{lt-or-le}
 use Rattle.ranges.specs.Limits.{mostLevels, mostTasks}
 use Rattle.instance.specs.Node.{Problem, levelCount, taskAt, taskCount, span}
-use Rattle.planner.specs.OptionsOf.{itemOf, offerOf}
+use Rattle.planner.specs.OptionsOf.{itemOf, offerOf, offeredCost}
 
 -- task i at level l: a load that no core takes is never chosen, and its cost does not matter
 pub record LevelOffered (p : Problem) (load cost : List ℕ) (i l : ℕ) : Type 0 where
   pub same-load : getD load (i * mostLevels + l) 0 ≡ offerOf p (taskAt p i) .load l
-  pub same-cost : offerOf p (taskAt p i) .load l ≤ span p → getD cost (i * mostLevels + l) 0 ≡ offerOf p (taskAt p i) .cost l
+  pub same-cost : offerOf p (taskAt p i) .load l ≤ span p → getD cost (i * mostLevels + l) 0 ≡ offeredCost p (taskAt p i) l
 
 -- the levels of the tasks whose places are below `end`
 pub record LevelsOffered (p : Problem) (end : ℕ) (load cost : List ℕ) : Type 0 where
@@ -33,9 +33,9 @@ pub record OptionsOffered (p : Problem) (n : ℕ) (load cost refusal : List ℕ)
   pub same-refusal : (i : ℕ) → i < n → getD refusal i 0 ≡ itemOf p (taskAt p i) .refusal
   pub same-must : (i : ℕ) → i < n → getD must i false ≡ itemOf p (taskAt p i) .must
 
-pub offered-level : {p : Problem} {load cost refusal : List ℕ} {must : List Bool} → levelCount p ≤ mostLevels →
-    OptionsOffered p (taskCount p) load cost refusal must → (i l : ℕ) → i < taskCount p → l < levelCount p → LevelOffered p load cost i l
-offered-level few o i l h k = o .levels .level i l k (omega arith)
+pub offered-level : {p : Problem} {load cost : List ℕ} → levelCount p ≤ mostLevels → LevelsOffered p (taskCount p * mostLevels) load cost →
+    (i l : ℕ) → i < taskCount p → l < levelCount p → LevelOffered p load cost i l
+offered-level few o i l h k = o .level i l k (omega arith)
 
 pub nothing-offered : (p : Problem) (load cost refusal : List ℕ) (must : List Bool) → length load ≡ mostTasks * mostLevels →
     length cost ≡ mostTasks * mostLevels → length refusal ≡ mostTasks → length must ≡ mostTasks →
@@ -63,7 +63,7 @@ module _ {A : Type 0} (f : ℕ → A) (blank : A) where
 module _ (p : Problem) (levels : levelCount p ≤ mostLevels) (i : ℕ) (load cost : List ℕ) where
   module _ (l x y : ℕ) (within : i < mostTasks) (below : l < levelCount p) (before : LevelsOffered p (i * mostLevels + l) load cost)
       (same-load : x ≡ offerOf p (taskAt p i) .load l)
-      (same-cost : x ≤ span p → y ≡ offerOf p (taskAt p i) .cost l) where
+      (same-cost : x ≤ span p → y ≡ offeredCost p (taskAt p i) l) where
     level-after : (j m : ℕ) → m < levelCount p → (j * mostLevels + m < i * mostLevels + l) ⊎ (i * mostLevels + l ≤ j * mostLevels + m) →
         j * mostLevels + m < i * mostLevels + (l + 1) →
         LevelOffered p (set load (i * mostLevels + l) x) (set cost (i * mostLevels + l) y) j m

@@ -1,6 +1,7 @@
 // The best plan of an instance.
 use crate::options::OFFERS;
 use crate::options::fill_options;
+use cores::charge_idle_once;
 use instance::Instance;
 use knapsack::Core;
 use knapsack_tables::fill_knapsacks;
@@ -12,16 +13,46 @@ use search::cheapest_plan;
 use search::write_plan;
 use values::MOST_SETS;
 use values::NO_COST;
-ghost use Prim.Native.Nat.{_≤_};
+use values::Worth;
+ghost use Prim.Native.Nat.{_*_, _≤_, _<_};
 ghost use mathlib.Core.Path.{_≡_};
 ghost use lib.ListN.{length};
+ghost use Rattle.ranges.specs.Limits.{mostLevels};
 ghost use Rattle.instance.specs.Held.{Sound, problemIn};
 ghost use Rattle.instance.specs.Node.{taskCount};
 ghost use Rattle.planner.specs.BestChoices.{foundOf, chosenOnto};
-ghost use Rattle.planner.specs.OfferedOptions.{OptionsOffered};
+ghost use Rattle.assignment.specs.Words.{noCost};
+ghost use Rattle.values.specs.BestKeys.{BestKey};
+ghost use Rattle.partition.specs.Tables.{mostSets};
+ghost use Rattle.planner.specs.FilledCores.{CoreFilled};
+ghost use Rattle.planner.specs.OfferedOptions.{LevelsOffered, OptionsOffered};
+ghost use Rattle.planner.specs.OptionsOf.{optionsOf};
 ghost use Rattle.planner.specs.Planning.{bestPlan};
 
-// The best plan from the table of one core: for every set of tasks the least cost of running it there.
+// Fills the table of one core: for every set of tasks the least cost of running it there, idle ticks included.
+fn fill_core_table(
+    inst: Instance,
+    load: &[u64],
+    cost: &[u64],
+    corecosts: &mut [u64],
+    corekeys: &mut [u64],
+)
+    requires { ⌜ Sound inst ⌝ }
+    requires { ⌜ LevelsOffered (problemIn inst) (taskCount (problemIn inst) * mostLevels) (now load) (now cost) ⌝ }
+    requires { ⌜ (mostSets ≤ length (now corecosts)) × (mostSets ≤ length (now corekeys)) ⌝ }
+    ensures { λ _. ⌜ CoreFilled (problemIn inst) (now (corecosts .entry)) (now (corekeys .entry)) (now (corecosts .exit)) (now (corekeys .exit)) ⌝ }
+{
+    let items = inst.taskcount;
+    let core = Core {
+        levels: inst.levelcount,
+        capacity: inst.span as usize,
+    };
+    fill_knapsacks(core, items, load, cost, corecosts, corekeys);
+    let whole = inst.weights.energy as u64 * inst.idle as u64 * inst.span as u64;
+    charge_idle_once(items, whole, corecosts);
+}
+
+// The best plan from the table of one core.
 fn search_cores(
     inst: Instance,
     load: &[u64],
@@ -36,24 +67,43 @@ fn search_cores(
     ensures { λ r. ⌜ r ≡ foundOf (problemIn inst) (bestPlan (problemIn inst)) ⌝ }
     ensures { λ _. ⌜ now (plan .exit) ≡ chosenOnto (bestPlan (problemIn inst)) (now (plan .entry)) ⌝ }
 {
-    let items = inst.taskcount;
-    let levels = inst.levelcount;
-    let core = Core {
-        levels,
-        capacity: inst.span as usize,
-    };
     let mut corecosts = [0u64; MOST_SETS];
     let mut corekeys = [0u64; MOST_SETS];
-    fill_knapsacks(core, items, load, cost, &mut corecosts, &mut corekeys);
+    fill_core_table(inst, load, cost, &mut corecosts, &mut corekeys);
     let shape = Shape {
-        items,
+        items: inst.taskcount,
         cores: inst.cores as usize,
-        levels,
+        levels: inst.levelcount,
     };
     cheapest_plan(shape, refusal, must, &corecosts, &corekeys, plan)
 }
 
-// Writes the best plan to the front of the buffer, or nothing where there is none. A light site needs no table.
+// The best plan of a light site, which needs no table. Idle power is shared by the tasks of a core, so that where there is any
+// the cheapest choices of tasks alone say nothing.
+fn light_best(inst: Instance, load: &[u64], cost: &[u64], refusal: &[u64], must: &[bool]) -> Worth
+    requires { ⌜ Sound inst ⌝ }
+    requires { ⌜ OptionsOffered (problemIn inst) (taskCount (problemIn inst)) (now load) (now cost) (now refusal) (now must) ⌝ }
+    ensures { λ r. ⌜ (r .cost < noCost → BestKey (optionsOf (problemIn inst)) (taskCount (problemIn inst)) r) ⌝ }
+{
+    if 0 < inst.idle {
+        return Worth {
+            cost: NO_COST,
+            key: 0,
+        };
+    }
+    let capacity = inst.span as u64;
+    light_plan(
+        inst.taskcount,
+        inst.levelcount,
+        capacity,
+        load,
+        cost,
+        refusal,
+        must,
+    )
+}
+
+// Writes the best plan to the front of the buffer, or nothing where there is none.
 pub(crate) fn best_choices(inst: Instance, plan: &mut [u32]) -> Found
     requires { ⌜ Sound inst ⌝ }
     requires { ⌜ taskCount (problemIn inst) ≤ length (now plan) ⌝ }
@@ -65,19 +115,9 @@ pub(crate) fn best_choices(inst: Instance, plan: &mut [u32]) -> Found
     let mut refusal = [0; MOST_TASKS as usize];
     let mut must = [false; MOST_TASKS as usize];
     fill_options(inst, &mut load, &mut cost, &mut refusal, &mut must);
-    let items = inst.taskcount;
-    let capacity = inst.span as u64;
-    let light = light_plan(
-        items,
-        inst.levelcount,
-        capacity,
-        &load,
-        &cost,
-        &refusal,
-        &must,
-    );
+    let light = light_best(inst, &load, &cost, &refusal, &must);
     if light.cost < NO_COST {
-        write_plan(items, light.key, plan);
+        write_plan(inst.taskcount, light.key, plan);
         return Found::Cheapest(light.cost);
     }
     search_cores(inst, &load, &cost, &refusal, &must, plan)

@@ -7,26 +7,27 @@ use ranges::MAY_NOT_BE_REFUSED;
 use ranges::MOST_LEVELS;
 use ranges::MOST_TASKS;
 use values::STRIDE;
-ghost use Prim.Native.Nat.{_+_, _*_, _≤_, _<_};
+ghost use Prim.Native.Nat.{_+_, _-_, _*_, _≤_, _<_};
 ghost use mathlib.Core.Path.{_≡_};
 ghost use Rattle.instance.specs.Held.{Sound, problemIn};
 ghost use Rattle.instance.specs.Node.{taskAt, taskCount};
-ghost use Rattle.ranges.specs.Limits.{mostLevels, mostPower, mostSpan, mostWeight};
+ghost use Rattle.ranges.specs.Limits.{mostIdlePower, mostLevels, mostPower, mostSpan, mostWeight};
 ghost use Rattle.planner.specs.OfferedOptions.{LevelsOffered, OptionsOffered};
 
 // One for each task and level: task i at level l has place i * STRIDE + l.
 pub(crate) const OFFERS: usize = MOST_TASKS as usize * MOST_LEVELS as usize;
 
-// What a load costs at a level of this power, where a core takes it. A load that no core takes is never chosen, and its
-// cost need not fit 64 bits.
-fn cost_of(weight: u32, span: u32, load: u64, power: u32) -> u64
-    requires { ⌜ (weight ≤ mostWeight) × (span ≤ mostSpan) × (power ≤ mostPower) ⌝ }
-    ensures { λ r. ⌜ (load ≤ span → r ≡ weight * (load * power)) ⌝ }
+// What a load costs at a level of this power, alone on a core, where a core takes it. A load that no core takes is never
+// chosen, and its cost need not fit 64 bits.
+fn cost_of(weight: u32, span: u32, load: u64, power: u32, idle: u32) -> u64
+    requires { ⌜ (weight ≤ mostWeight) × (span ≤ mostSpan) × (power ≤ mostPower) × (idle ≤ mostIdlePower) ⌝ }
+    ensures { λ r. ⌜ (load ≤ span → r ≡ weight * (load * power + idle * (span - load))) ⌝ }
 {
-    if (span as u64) < load {
+    let all = span as u64;
+    if all < load {
         return 0;
     }
-    weight as u64 * (load * power as u64)
+    weight as u64 * (load * power as u64 + idle as u64 * (all - load))
 }
 
 // What refusing a task costs that misses so many jobs.
@@ -59,7 +60,13 @@ fn fill_levels(
         let asked = jobs as u64 * ticks as u64;
         let at = i * STRIDE + l;
         load[at] = asked;
-        cost[at] = cost_of(inst.weights.energy, inst.span, asked, level.power);
+        cost[at] = cost_of(
+            inst.weights.energy,
+            inst.span,
+            asked,
+            level.power,
+            inst.idle,
+        );
         l += 1;
     }
 }

@@ -23,7 +23,7 @@ sum-of-ones zero = refl
 sum-of-ones (suc n) = omega (arith, sum-of-ones n)
 
 module _ (p : Problem) (plan : List ℕ) (k : ℕ) (kept : KeptTasks) (columns : KeptColumns p plan k (taskCount p) kept) where
-  pub energy-over-kept : sumOfKept kept (energyOn p plan k) (kept .count) ≡ busyEnergy p plan k
+  energy-over-kept : sumOfKept kept (energyOn p plan k) (kept .count) ≡ busyEnergy p plan k
   unfolding busyEnergy
   energy-over-kept = sum-over-kept p plan k kept columns (energyOn p plan k) (λ i e. rw (unkept-load p plan k kept columns i e) (zero-mul _))
 

@@ -44,16 +44,28 @@ pub(crate) fn text_into_three(bytes: &[u8]) {
     print_words(&words);
 }
 
-fn print_sizes(cores: u32, levels: usize, tasks: usize, span: u32) {
-    let numbers = [cores as u64, levels as u64, tasks as u64, span as u64];
-    print_filled(b"cores # levels # tasks # span #\n", &numbers);
+fn print_sizes(cores: u32, idle: u32, levels: usize, tasks: usize, span: u32) {
+    let numbers = [
+        cores as u64,
+        idle as u64,
+        levels as u64,
+        tasks as u64,
+        span as u64,
+    ];
+    print_filled(b"cores # idle # levels # tasks # span #\n", &numbers);
 }
 
 fn print_instance(inst: Instance) {
-    print_sizes(inst.cores, inst.levelcount, inst.taskcount, inst.span);
+    print_sizes(
+        inst.cores,
+        inst.idle,
+        inst.levelcount,
+        inst.taskcount,
+        inst.span,
+    );
 }
 
-// The instance that a list of words is: cores, levels, tasks and span.
+// The instance that a list of words is: cores, idle power, levels, tasks and span.
 pub(crate) fn words(list: &[u32]) {
     let read = instance::read_instance(list);
     let verdict = read.verdict;

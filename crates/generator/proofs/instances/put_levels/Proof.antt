@@ -4,10 +4,10 @@ use Rattle.generator.proofs.instances.put_levels.Statement.{statement}
 use Rattle.generator.proofs.instances.put_levels.Tie as tie
 
 abbrev Inv-loop : tie.InvT-loop
-Inv-loop words₀ count state₀ at₀ speed₀ power₀ l₀ words state at speed power l = Unit {0}
+Inv-loop words₀ from count state₀ at₀ speed₀ power₀ l₀ words state at speed power l = Unit {0}
 
 abbrev μ-loop : tie.MeasureT-loop
-μ-loop words₀ count state₀ at₀ speed₀ power₀ l₀ words state at speed power l = count - l
+μ-loop words₀ from count state₀ at₀ speed₀ power₀ l₀ words state at speed power l = count - l
 
 loop-holds : tie.Need-loop-holds Inv-loop μ-loop
 loop-holds c = search needs

@@ -6,7 +6,7 @@ use borrow.Author.Needs.{needs}
 use Rattle.instance.specs.Held.{problemIn, held-levelcount, held-span}
 use Rattle.instance.specs.Node.{levelCount, taskAt}
 use Rattle.ranges.specs.Limits.{mostLevels, mostTasks}
-use Rattle.planner.specs.HeldOptions.{held-span-at-most, energy-weight-at-most, held-load, held-load-at-most, held-cost, level-power-at-most}
+use Rattle.planner.specs.HeldOptions.{held-span-at-most, energy-weight-at-most, idle-power-at-most, held-load, held-load-at-most, held-cost, level-power-at-most}
 use Rattle.planner.specs.OfferedOptions.{LevelsOffered, level-offered, task-offered}
 use Rattle.planner.specs.OptionsOf.{offerOf}
 use Rattle.planner.proofs.options.fill_levels.Statement.{statement}
@@ -81,7 +81,7 @@ element-write-load c = place-below (c .before .before)
 cost-of-requires : tie.Need-cost-of-requires Inv-loop μ-loop
 cost-of-requires c κs =
     let sound = c .before .before .before .before .before .pre .0 in
-    (energy-weight-at-most _ sound, held-span-at-most _ sound, level-power-at-most _ sound _ (level-below (c .before .before)))
+    (energy-weight-at-most _ sound, held-span-at-most _ sound, level-power-at-most _ sound _ (level-below (c .before .before)), idle-power-at-most _ sound)
 
 mul-cost : tie.Need-mul-cost Inv-loop μ-loop
 mul-cost c = omega (arith, place-below (c .before .before .before))

@@ -1,0 +1,5 @@
+pub mod AwakeCores
+pub mod AwakeLaws
+pub mod SetSizes
+pub mod ChargedTables
+pub mod ChargedLaws
