@@ -1,14 +1,14 @@
 /*
- * Times the proved code beside the plain C, and beside an older state of itself where bench/run was
- * given one, on the same sites in the same run.
+ * Times the proved code beside the plain C, beside an older state of itself where bench/run was
+ * given one, and with idle power beside the same sites without it, in the same run.
  *
  *   bench [REPETITIONS]
  *
  * Planning and checking are the archive's calls; reading is planning that is refused for an empty
- * table; tabling and the search by itself are called through entries made for this program. A time
- * is the median of the repetitions for one site, and of these the median over the sites of a
- * family, with the most of them in brackets. Ratios are taken in each repetition, and then in the
- * same way. Ends with 1 where two implementations answer differently.
+ * table; tabling is called through an entry made for this program. A time is the median of the
+ * repetitions for one site, and of these the median over the sites of a family, with the most of
+ * them in brackets. Ratios are taken in each repetition, and then in the same way. Ends with 1
+ * where two implementations answer differently.
  */
 #define _POSIX_C_SOURCE 200809L
 #include "instances.h"
@@ -22,90 +22,134 @@
 
 enum { MOST_REPETITIONS = 101 };
 
-enum operation { PLANNING, SEARCHING, READING, TABLING, CHECKING, OPERATIONS };
-static const char *const operation_names[OPERATIONS] = {"planning", "search alone", "reading",
-                                                        "tabling", "checking"};
+enum operation { PLANNING, PLANNING_LOW, PLANNING_HIGH, READING, TABLING, CHECKING, OPERATIONS };
+static const char *const operation_names[OPERATIONS] = {
+    "planning", "planning, low idle power", "planning, high idle power", "reading", "tabling",
+    "checking"};
 
-/* The time of each implementation, then the ratios of NOW. */
+/*
+ * The time of each implementation, then the ratios of NOW. Where planning has idle power the column
+ * of BEFORE is the same site planned without it, by NOW.
+ */
 enum { TO_BEFORE = IMPLEMENTATIONS, TO_PLAIN, COLUMNS };
 static const char *const column_names[COLUMNS] = {"before", "now", "plain C", "now : before",
                                                   "now : plain C"};
+static const char *const idle_column_names[COLUMNS] = {"without", "now", "plain C", "now : without",
+                                                       "now : plain C"};
 
 /* ---- Sites ---- */
 
 /* One site, and the plain C's answer to it. */
-static uint8_t text[TOWHEPAMU_MOST_TEXT_BYTES];
-static uint8_t plan[MOST_TASKS], table[TOWHEPAMU_MOST_TABLE_BYTES], spare[sizeof table];
-static uint32_t words[MOST_WORDS], choices[MOST_TASKS];
-static size_t text_len, word_count, slots;
-static towhepamu_planned answer;
-static reference_instance in;
-static timed_options options;
+typedef struct {
+    uint8_t text[TOWHEPAMU_MOST_TEXT_BYTES];
+    uint8_t plan[MOST_TASKS], table[TOWHEPAMU_MOST_TABLE_BYTES];
+    uint32_t words[MOST_WORDS], choices[MOST_TASKS];
+    size_t text_len, word_count, tasks, slots;
+    towhepamu_planned answer;
+} timed_site;
+
+/* The site at hand, without idle power and with. They all have a plan, or none has. */
+static timed_site sites[IDLES];
+static uint8_t spare_plan[MOST_TASKS], spare_table[TOWHEPAMU_MOST_TABLE_BYTES];
 
 static bool is_planned(void) {
-    return answer.refusal == TOWHEPAMU_ACCEPTED;
+    return sites[NO_IDLE].answer.refusal == TOWHEPAMU_ACCEPTED;
 }
 
-static void set_site(size_t family, size_t number) {
-    memset(plan, 0, sizeof plan);
-    memset(table, 0, sizeof table);
-    text_len = write_instance(family, number, text);
-    reference_words(text, text_len, words, MOST_WORDS, &word_count);
-    if (reference_read(words, word_count, &in).refusal != TOWHEPAMU_ACCEPTED) {
+static void set_site(size_t family, size_t number, enum idle idle) {
+    timed_site *site = &sites[idle];
+    reference_instance in;
+    *site = (timed_site){{0}, {0}, {0}, {0}, {0}, 0, 0, 0, 0, {0, 0, 0, 0, 0}};
+    site->text_len = write_instance(family, number, idle, site->text);
+    reference_words(site->text, site->text_len, site->words, MOST_WORDS, &site->word_count);
+    if (reference_read(site->words, site->word_count, &in).refusal != TOWHEPAMU_ACCEPTED) {
         fprintf(stderr, "bench: %s is no site\n", family_name(family));
         exit(2);
     }
-    answer = reference_plan(text, text_len, plan, MOST_TASKS, table, sizeof table);
-    slots = in.cores * in.span;
+    site->answer = reference_plan(site->text, site->text_len, site->plan, MOST_TASKS, site->table,
+                                  sizeof site->table);
+    site->tasks = in.tasks;
+    site->slots = in.cores * in.span;
     for (size_t i = 0; i < in.tasks; i++)
-        choices[i] = plan[i];
-    list_timed_options(&in, &options);
+        site->choices[i] = site->plan[i];
 }
 
-/* Planning, the search, tabling and checking have the plain C's answer. */
-static bool answers_so(const implementation *by) {
-    uint8_t own[MOST_TASKS] = {0};
-    uint32_t searched[MOST_TASKS] = {0};
-    memset(spare, 0, sizeof spare);
-    towhepamu_planned a = by->plan(text, text_len, own, MOST_TASKS, spare, sizeof spare);
-    if (a.refusal != answer.refusal || a.cost != answer.cost ||
-        memcmp(own, plan, sizeof plan) != 0 || memcmp(spare, table, sizeof table) != 0 ||
-        by->search(&in, &options, searched) != is_planned())
+static void plan_by(const implementation *by, const timed_site *site, size_t table_len) {
+    by->plan(site->text, site->text_len, spare_plan, MOST_TASKS, spare_table, table_len);
+}
+
+static void tabulate_by(const implementation *by, const timed_site *site) {
+    by->tabulate(site->words, site->word_count, site->choices, site->tasks, spare_table,
+                 sizeof spare_table);
+}
+
+static uint64_t check_by(const implementation *by, const timed_site *site) {
+    return by->check(site->text, site->text_len, site->plan, site->tasks, site->table, site->slots)
+        .refusal;
+}
+
+/* Planning, tabling and checking have the plain C's answer. */
+static bool answers_so(const implementation *by, const timed_site *site) {
+    memset(spare_plan, 0, sizeof spare_plan);
+    memset(spare_table, 0, sizeof spare_table);
+    towhepamu_planned answer = by->plan(site->text, site->text_len, spare_plan, MOST_TASKS,
+                                        spare_table, sizeof spare_table);
+    if (memcmp(&answer, &site->answer, sizeof answer) != 0 ||
+        memcmp(spare_plan, site->plan, sizeof spare_plan) != 0 ||
+        memcmp(spare_table, site->table, sizeof spare_table) != 0)
         return false;
     if (!is_planned())
         return true;
-    memset(spare, 0, sizeof spare);
-    by->tabulate(words, word_count, choices, in.tasks, spare, sizeof spare);
-    return memcmp(searched, choices, in.tasks * sizeof *choices) == 0 &&
-           memcmp(spare, table, sizeof table) == 0 &&
-           by->check(text, text_len, plan, in.tasks, table, slots).refusal == TOWHEPAMU_ACCEPTED;
+    memset(spare_table, 0, sizeof spare_table);
+    if (by->tabulate != NULL) {
+        tabulate_by(by, site);
+        if (memcmp(spare_table, site->table, sizeof spare_table) != 0)
+            return false;
+    }
+    return check_by(by, site) == TOWHEPAMU_ACCEPTED;
+}
+
+/* An older state is asked for sites without idle power only. */
+static bool all_answer_so(void) {
+    bool same = true;
+    for (size_t by = 0; by < IMPLEMENTATIONS; by++)
+        for (enum idle idle = 0; idle < (by == BEFORE ? LOW_IDLE : IDLES); idle++)
+            if (implementations[by].plan != NULL)
+                same = answers_so(&implementations[by], &sites[idle]) && same;
+    return same;
 }
 
 /* ---- Times, in microseconds of the processor: other programs on the machine do not count ---- */
 
-/* Before is timed where the search has a part; without a plan there is nothing to table. */
-static bool is_timed(enum operation o, size_t by) {
-    return (by != BEFORE || (implementations[BEFORE].plan != NULL && o <= SEARCHING)) &&
-           (is_planned() || o < TABLING);
+static bool has_idle_power(enum operation o) {
+    return o == PLANNING_LOW || o == PLANNING_HIGH;
 }
 
-static void make_call(enum operation o, const implementation *by) {
-    uint32_t searched[MOST_TASKS];
+/* Before is timed for planning; without a plan there is nothing to table. */
+static bool is_timed(enum operation o, size_t by) {
+    if (by == BEFORE && !has_idle_power(o))
+        return o == PLANNING && implementations[BEFORE].plan != NULL;
+    return is_planned() || o < TABLING;
+}
+
+static void make_call(enum operation o, size_t column) {
+    bool without = has_idle_power(o) && column == BEFORE;
+    const implementation *by = &implementations[without ? NOW : column];
+    const timed_site *site = &sites[NO_IDLE];
+    if (has_idle_power(o) && !without)
+        site = &sites[o == PLANNING_LOW ? LOW_IDLE : HIGH_IDLE];
     switch (o) {
-    case PLANNING:
-        by->plan(text, text_len, plan, MOST_TASKS, table, sizeof table);
-        break;
-    case SEARCHING:
-        by->search(&in, &options, searched);
-        break;
     case READING:
-        by->plan(text, text_len, plan, MOST_TASKS, table, 0);
+        plan_by(by, site, 0);
         break;
     case TABLING:
-        by->tabulate(words, word_count, choices, in.tasks, spare, sizeof spare);
+        tabulate_by(by, site);
+        break;
+    case CHECKING:
+        check_by(by, site);
         break;
     default:
-        by->check(text, text_len, plan, in.tasks, table, slots);
+        plan_by(by, site, sizeof spare_table);
     }
 }
 
@@ -121,7 +165,7 @@ static double time_of(enum operation o, size_t by, size_t times) {
         return NAN;
     double start = now();
     for (size_t n = 0; n < times; n++)
-        make_call(o, &implementations[by]);
+        make_call(o, by);
     return (now() - start) / (double)times;
 }
 
@@ -161,10 +205,9 @@ static bool time_family(size_t family, size_t repetitions) {
     double medians[COLUMNS];
     bool same = true;
     for (size_t n = 0; n < SITES_A_FAMILY; n++) {
-        set_site(family, n);
-        for (size_t by = 0; by < IMPLEMENTATIONS; by++)
-            if (implementations[by].plan != NULL)
-                same = answers_so(&implementations[by]) && same;
+        for (enum idle idle = 0; idle < IDLES; idle++)
+            set_site(family, n, idle);
+        same = all_answer_so() && same;
         for (enum operation o = 0; o < OPERATIONS; o++) {
             time_operation(o, repetitions, medians);
             for (size_t c = 0; c < COLUMNS; c++)
@@ -206,13 +249,15 @@ static void print_rows(enum operation first, enum operation last, bool with_befo
 }
 
 static void print_table(enum operation first, enum operation last) {
-    bool with_before = first == last && implementations[BEFORE].plan != NULL;
+    bool idle = has_idle_power(first);
+    bool with_before = idle || (first == last && implementations[BEFORE].plan != NULL);
+    const char *const *names = idle ? idle_column_names : column_names;
     size_t columns = 1;
     printf("\n| Sites |");
     for (enum operation o = first; o <= last; o++)
         for (size_t c = 0; c < COLUMNS; c++)
             if (is_shown(c, with_before)) {
-                printf(" %s, %s |", operation_names[o], column_names[c]);
+                printf(" %s, %s |", operation_names[o], names[c]);
                 columns++;
             }
     printf("\n|");
@@ -235,7 +280,8 @@ int main(int argc, char **argv) {
            "most of the sites in brackets.\n",
            repetitions, SITES_A_FAMILY);
     print_table(PLANNING, PLANNING);
-    print_table(SEARCHING, SEARCHING);
+    print_table(PLANNING_LOW, PLANNING_LOW);
+    print_table(PLANNING_HIGH, PLANNING_HIGH);
     print_table(READING, CHECKING);
     return same ? 0 : 1;
 }

@@ -184,15 +184,27 @@ const char *family_name(size_t family) {
     return family_list[family].name;
 }
 
-size_t write_instance(size_t family, size_t number, uint8_t *text) {
+const char *idle_name(enum idle idle) {
+    static const char *const names[IDLES] = {"none", "low", "high"};
+    return names[idle];
+}
+
+static uint32_t idle_power(const reference_instance *in, enum idle idle) {
+    return idle == NO_IDLE    ? 0
+           : idle == LOW_IDLE ? in->level[0].power / 2
+                              : 2 * top_level(in)->power;
+}
+
+size_t write_instance(size_t family, size_t number, enum idle idle, uint8_t *text) {
     generator g = {UINT64_C(0x9E3779B97F4A7C15) * (1 + 1000 * family + number)};
-    reference_instance in = {1, 1, 4, 0, 12, 4096, {{0, 0}}, {{0, 0, 0}}};
+    reference_instance in = {1, 1, 4, 0, 0, 12, 4096, {{0, 0}}, {{0, 0, 0}}};
     uint32_t words[MOST_INSTANCE_WORDS];
     if (family_list[family].levels == 5)
         use_xscale(&in);
     else
         use_eight_levels(&in, 2000);
     family_list[family].draw(&g, &in, family_list[family].first, family_list[family].second);
-    size_t count = list_words(&in, words);
+    in.idle_power = idle_power(&in, idle);
+    size_t count = list_words(&in, idle == NO_IDLE ? 3 : 4, words);
     return write_text(&g, words, count, false, text);
 }

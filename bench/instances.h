@@ -7,9 +7,14 @@
 
 enum { FAMILIES = 25, SITES_A_FAMILY = 12 };
 
+/* What idle power a family's sites are given: none, half the power of the lowest level, or twice
+   that of the highest. Otherwise they are the same sites. */
+enum idle { NO_IDLE, LOW_IDLE, HIGH_IDLE, IDLES };
+
 const char *family_name(size_t family);
+const char *idle_name(enum idle idle);
 
 /* Writes the site file of one instance of a family; returns its length. */
-size_t write_instance(size_t family, size_t number, uint8_t *text);
+size_t write_instance(size_t family, size_t number, enum idle idle, uint8_t *text);
 
 #endif

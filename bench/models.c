@@ -1,28 +1,57 @@
 /*
  * Writes the sites of the benchmark, as site files and as models for integer solvers.
  *
- *   models FOLDER
+ *   models FOLDER [none] [low] [high]
  *
- * FOLDER/f-n.site, FOLDER/f-n.lp (CPLEX format) and FOLDER/f-n.opb (pseudo-Boolean) for site n of
- * family f, both from 0; and a line for each family on standard output: f, how many sites, name.
+ * with the idle powers that are named, none where none is: FOLDER/p-f-n.site, FOLDER/p-f-n.lp
+ * (CPLEX format) and FOLDER/p-f-n.opb (pseudo-Boolean) for site n of family f, both from 0, with
+ * idle power p; and a line for each family on standard output: p-f, how many sites, name.
  *
  * The model: x_i_c_l is 1 where task i runs on core c at level l, r_i where it is refused; exactly
  * one of a task's is 1; a core's loads add up to at most the span. Cores are equal, so task i is
  * offered the first i cores alone: every plan can be renumbered so, at the same cost.
+ *
+ * With idle power a_c is 1 where core c is awake. It costs the idle energy of the whole span, and a
+ * task that runs costs its level's power less the idle power in each of its ticks. The loads of a
+ * core add up to at most the span where it is awake and to 0 where it is off; that a task runs on
+ * an awake core only is said of each task besides, which leaves solvers less to try.
  */
 #include "instances.h"
-#include "timed.h"
+#include "reference.h"
 #include <inttypes.h>
 #include <stdio.h>
 #include <stdlib.h>
+#include <string.h>
 
 static uint8_t text[TOWHEPAMU_MOST_TEXT_BYTES];
 static size_t text_len;
 static reference_instance in;
-static timed_options options;
 
 static size_t cores_offered(size_t task) {
     return task + 1 < in.cores ? task + 1 : in.cores;
+}
+
+/* How many cores are offered to some task. */
+static size_t cores_used(void) {
+    return in.cores < in.tasks ? in.cores : in.tasks;
+}
+
+static uint64_t load_of(size_t task, size_t level) {
+    return reference_jobs(&in, task) * reference_ticks(&in, task, level);
+}
+
+/* What a task at a level that fits adds to the cost of an awake core. */
+static int64_t cost_of(size_t task, size_t level) {
+    int64_t power = (int64_t)in.level[level].power - (int64_t)in.idle_power;
+    return (int64_t)(in.energy_weight * load_of(task, level)) * power;
+}
+
+static int64_t penalty_of(size_t task) {
+    return (int64_t)(in.penalty_weight * reference_jobs(&in, task) * in.task[task].penalty);
+}
+
+static int64_t awake_cost(void) {
+    return (int64_t)in.energy_weight * in.idle_power * in.span;
 }
 
 /* How a format writes a term and a variable: in LP by name, in OPB by a number from 1. */
@@ -47,81 +76,125 @@ static void print_refusal(model m, int64_t factor, size_t task) {
         fprintf(m.file, " %+" PRId64 " r_%zu\n", factor, task);
 }
 
+static void print_awake(model m, int64_t factor, size_t core) {
+    if (m.by_number)
+        fprintf(m.file, " %+" PRId64 " x%zu", factor,
+                (size_t)MOST_TASKS * MOST_CORES * MOST_LEVELS + MOST_TASKS + core + 1);
+    else
+        fprintf(m.file, " %+" PRId64 " a_%zu\n", factor, core);
+}
+
 /* Each choice of a task that fits a core by itself, and refusing it where that is allowed. */
 static void print_task(model m, size_t task, bool priced) {
     for (size_t c = 0; c < cores_offered(task); c++)
-        for (size_t l = 0; l < in.levels; l++) {
-            size_t at = task * MOST_LEVELS + l;
-            if (options.load[at] <= in.span)
-                print_choice(m, priced ? (int64_t)options.cost[at] : 1, task, c, l);
-        }
+        for (size_t l = 0; l < in.levels; l++)
+            if (load_of(task, l) <= in.span)
+                print_choice(m, priced ? cost_of(task, l) : 1, task, c, l);
     if (in.task[task].penalty != MUST)
-        print_refusal(m, priced ? (int64_t)options.refusal[task] : 1, task);
+        print_refusal(m, priced ? penalty_of(task) : 1, task);
 }
 
-/* OPB has no "at most", so there the loads are taken away from the span. */
+static void print_cost(model m) {
+    for (size_t i = 0; i < in.tasks; i++)
+        print_task(m, i, true);
+    for (size_t c = 0; in.idle_power > 0 && c < cores_used(); c++)
+        print_awake(m, awake_cost(), c);
+}
+
+/* A sum that is at most `most`. OPB has no "at most", so there all terms and `most` are negated. */
+static int64_t sign_of(model m) {
+    return m.by_number ? -1 : 1;
+}
+
+static void print_at_most(model m, uint32_t most) {
+    if (m.by_number)
+        fprintf(m.file, " >= %" PRId64 " ;\n", -(int64_t)most);
+    else
+        fprintf(m.file, " <= %" PRIu32 "\n", most);
+}
+
 static void print_core(model m, size_t core) {
-    int64_t sign = m.by_number ? -1 : 1;
     for (size_t i = 0; i < in.tasks; i++)
         for (size_t l = 0; l < in.levels; l++)
-            if (core < cores_offered(i) && options.load[i * MOST_LEVELS + l] <= in.span)
-                print_choice(m, sign * (int64_t)options.load[i * MOST_LEVELS + l], i, core, l);
+            if (core < cores_offered(i) && load_of(i, l) <= in.span)
+                print_choice(m, sign_of(m) * (int64_t)load_of(i, l), i, core, l);
+    if (in.idle_power > 0)
+        print_awake(m, -sign_of(m) * (int64_t)in.span, core);
+    print_at_most(m, in.idle_power > 0 ? 0 : in.span);
+}
+
+/* A task runs on that core only where it is awake. */
+static void print_runs_awake(model m, size_t task, size_t core) {
+    for (size_t l = 0; l < in.levels; l++)
+        if (load_of(task, l) <= in.span)
+            print_choice(m, sign_of(m), task, core, l);
+    print_awake(m, -sign_of(m), core);
+    print_at_most(m, 0);
 }
 
 static void print_lp(FILE *file) {
     model m = {file, false};
     fprintf(file, "Minimize\n cost:");
-    for (size_t i = 0; i < in.tasks; i++)
-        print_task(m, i, true);
+    print_cost(m);
     fprintf(file, "Subject To\n");
     for (size_t i = 0; i < in.tasks; i++) {
         fprintf(file, " task_%zu:", i);
         print_task(m, i, false);
         fprintf(file, " = 1\n");
     }
-    for (size_t c = 0; c < in.cores && c < in.tasks; c++) {
+    for (size_t c = 0; c < cores_used(); c++) {
         fprintf(file, " core_%zu:", c);
         print_core(m, c);
-        fprintf(file, " <= %" PRIu32 "\n", in.span);
     }
+    for (size_t i = 0; in.idle_power > 0 && i < in.tasks; i++)
+        for (size_t c = 0; c < cores_offered(i); c++) {
+            fprintf(file, " runs_%zu_%zu:", i, c);
+            print_runs_awake(m, i, c);
+        }
     fprintf(file, "Binaries\n");
     for (size_t i = 0; i < in.tasks; i++) {
         for (size_t c = 0; c < cores_offered(i); c++)
             for (size_t l = 0; l < in.levels; l++)
-                if (options.load[i * MOST_LEVELS + l] <= in.span)
+                if (load_of(i, l) <= in.span)
                     fprintf(file, " x_%zu_%zu_%zu\n", i, c, l);
         if (in.task[i].penalty != MUST)
             fprintf(file, " r_%zu\n", i);
     }
+    for (size_t c = 0; in.idle_power > 0 && c < cores_used(); c++)
+        fprintf(file, " a_%zu\n", c);
     fprintf(file, "End\n");
 }
 
 static void print_opb(FILE *file) {
     model m = {file, true};
-    fprintf(file, "* #variable= %d #constraint= %" PRIu32 "\nmin:",
-            MOST_TASKS * MOST_CORES * MOST_LEVELS + MOST_TASKS,
-            in.tasks + (in.cores < in.tasks ? in.cores : in.tasks));
-    for (size_t i = 0; i < in.tasks; i++)
-        print_task(m, i, true);
+    bool idle = in.idle_power > 0;
+    size_t variables = MOST_TASKS * MOST_CORES * MOST_LEVELS + MOST_TASKS + (idle ? MOST_CORES : 0);
+    size_t constraints = in.tasks + cores_used();
+    for (size_t i = 0; idle && i < in.tasks; i++)
+        constraints += cores_offered(i);
+    fprintf(file, "* #variable= %zu #constraint= %zu\nmin:", variables, constraints);
+    print_cost(m);
     fprintf(file, " ;\n");
     for (size_t i = 0; i < in.tasks; i++) {
         print_task(m, i, false);
         fprintf(file, " = 1 ;\n");
     }
-    for (size_t c = 0; c < in.cores && c < in.tasks; c++) {
+    for (size_t c = 0; c < cores_used(); c++)
         print_core(m, c);
-        fprintf(file, " >= -%" PRIu32 " ;\n", in.span);
-    }
+    for (size_t i = 0; idle && i < in.tasks; i++)
+        for (size_t c = 0; c < cores_offered(i); c++)
+            print_runs_awake(m, i, c);
 }
 
 static void print_site(FILE *file) {
     fwrite(text, 1, text_len, file);
 }
 
-static void write_file(const char *folder, size_t family, size_t number, const char *ending,
-                       void (*print)(FILE *)) {
+static void write_file(const char *folder, enum idle idle, size_t family, size_t number,
+                       const char *ending, void (*print)(FILE *)) {
     char name[4096];
-    snprintf(name, sizeof name, "%s/%zu-%zu.%s", folder, family, number, ending);
+    snprintf(name, sizeof name, "%s/%s-%zu-%zu.%s", folder, idle_name(idle), family, number,
+             ending);
     FILE *file = fopen(name, "w");
     if (file == NULL) {
         perror(name);
@@ -131,22 +204,34 @@ static void write_file(const char *folder, size_t family, size_t number, const c
     fclose(file);
 }
 
-int main(int argc, char **argv) {
-    if (argc != 2)
-        return 2;
+static void write_families(const char *folder, enum idle idle) {
     for (size_t family = 0; family < FAMILIES; family++) {
         for (size_t number = 0; number < SITES_A_FAMILY; number++) {
-            uint32_t words[MOST_WORDS];
-            size_t count = 0;
-            text_len = write_instance(family, number, text);
-            reference_words(text, text_len, words, MOST_WORDS, &count);
-            reference_read(words, count, &in);
-            list_timed_options(&in, &options);
-            write_file(argv[1], family, number, "site", print_site);
-            write_file(argv[1], family, number, "lp", print_lp);
-            write_file(argv[1], family, number, "opb", print_opb);
+            text_len = write_instance(family, number, idle, text);
+            reference_read_text(text, text_len, &in);
+            write_file(folder, idle, family, number, "site", print_site);
+            write_file(folder, idle, family, number, "lp", print_lp);
+            write_file(folder, idle, family, number, "opb", print_opb);
         }
-        printf("%zu %d %s\n", family, SITES_A_FAMILY, family_name(family));
+        printf("%s-%zu %d %s", idle_name(idle), family, SITES_A_FAMILY, family_name(family));
+        if (idle != NO_IDLE)
+            printf(", %s idle power", idle_name(idle));
+        puts("");
+    }
+}
+
+int main(int argc, char **argv) {
+    if (argc < 2)
+        return 2;
+    if (argc == 2)
+        write_families(argv[1], NO_IDLE);
+    for (int i = 2; i < argc; i++) {
+        enum idle idle = NO_IDLE;
+        while (idle < IDLES && strcmp(argv[i], idle_name(idle)) != 0)
+            idle++;
+        if (idle == IDLES)
+            return 2;
+        write_families(argv[1], idle);
     }
     return 0;
 }

@@ -47,6 +47,13 @@ size_t level_of(const planned_site *answer, size_t task) {
     return answer->plan[task] == 0 ? 0 : (answer->plan[task] - 1u) % answer->site.levels + 1;
 }
 
+bool is_awake(const planned_site *answer, size_t core) {
+    for (size_t i = 0; i < answer->site.tasks; i++)
+        if (core_of(answer, i) == core)
+            return true;
+    return false;
+}
+
 uint64_t ticks_of(const planned_site *answer, size_t task) {
     return site_ticks(&answer->site, task, level_of(answer, task) - 1);
 }

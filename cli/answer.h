@@ -22,6 +22,9 @@ bool plan_site(const char *name, planned_site *answer, towhepamu_checked *why);
 size_t core_of(const planned_site *answer, size_t task);
 size_t level_of(const planned_site *answer, size_t task);
 
+/* Whether a core, numbered from 1, keeps a task; else it is off. */
+bool is_awake(const planned_site *answer, size_t core);
+
 /* Ticks of each job of a kept task, numbered from 0, at its level. */
 uint64_t ticks_of(const planned_site *answer, size_t task);
 

@@ -176,11 +176,21 @@ static void print_lane(const planned_site *answer, size_t core, size_t tick, siz
 
 /* ---- Legend ---- */
 
+static size_t legend_lines(const planned_site *answer) {
+    return 1 + (answer->site.idle_power > 0) + answer->site.tasks;
+}
+
 static void print_legend(const planned_site *answer, size_t top) {
     printf("<text x=\"12\" y=\"%zu\">Under a core the jobs of its tasks: each from the triangle at "
            "its "
            "release to the bar at its due tick. Hatched slots are idle.</text>\n",
            top + 14);
+    if (answer->site.idle_power > 0) {
+        top += LEGEND;
+        printf("<text x=\"12\" y=\"%zu\">", top + 14);
+        print_idle_line(answer);
+        puts("</text>");
+    }
     for (size_t i = 0; i < answer->site.tasks; i++) {
         top += LEGEND;
         bool kept = answer->plan[i] != 0;
@@ -201,7 +211,7 @@ static void print_svg(const planned_site *answer) {
     for (size_t c = 1; c <= answer->site.cores; c++)
         lanes += lane_height(answer, c);
     print_head(answer, width < LEGEND_WIDTH ? LEGEND_WIDTH : width,
-               top + lanes + LEGEND * (answer->site.tasks + 1) + 12);
+               top + lanes + LEGEND * legend_lines(answer) + 12);
     print_axis(span, tick, top, top + lanes - GAP / 2);
     for (size_t c = 1; c <= answer->site.cores; c++) {
         print_lane(answer, c, tick, top + 4);

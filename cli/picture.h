@@ -1,4 +1,5 @@
-/* What both pictures, the SVG and that for a terminal, say of a task; and the latter. */
+/* What both pictures, the SVG and that for a terminal, say of tasks and idle ticks; and the latter.
+ */
 #ifndef PICTURE_H
 #define PICTURE_H
 
@@ -6,6 +7,9 @@
 
 /* "task 1: core 1, level 3, 4 ticks a job, period 10", without a line's end. */
 void print_task_line(const planned_site *answer, size_t task);
+
+/* "An idle tick draws 50; core 3 is off.", without a line's end; for a site with idle power. */
+void print_idle_line(const planned_site *answer);
 
 void print_text_picture(const planned_site *answer);
 

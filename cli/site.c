@@ -11,7 +11,7 @@ typedef struct {
 } section;
 
 static const section sections[] = {
-    {SETTINGS_COUNT, ENERGY_WEIGHT, CORES, true},
+    {SETTINGS_COUNT, ENERGY_WEIGHT, IDLE_POWER, true},
     {LEVELS_COUNT, SPEED, POWER, false},
     {TASKS_COUNT, PERIOD, PENALTY, false},
 };
@@ -19,10 +19,11 @@ static const section sections[] = {
 enum { SECTIONS = sizeof sections / sizeof sections[0] };
 
 static const site_field_words fields[] = {
-    [SETTINGS_COUNT] = {"count of settings", NULL, 3, 3},
+    [SETTINGS_COUNT] = {"count of settings", NULL, 3, 4},
     [ENERGY_WEIGHT] = {"energy weight", NULL, 1, 1000},
     [PENALTY_WEIGHT] = {"penalty weight", NULL, 1, 1000},
     [CORES] = {"number of cores", NULL, 1, TOWHEPAMU_MOST_CORES},
+    [IDLE_POWER] = {"idle power", NULL, 0, 65535},
     [LEVELS_COUNT] = {"count of levels", NULL, 1, TOWHEPAMU_MOST_LEVELS},
     [SPEED] = {"speed", "level", 1, 65535},
     [POWER] = {"power", "level", 1, 65535},
@@ -42,6 +43,8 @@ static uint32_t *kept_at(parsed_site *site, site_name name) {
         return &site->penalty_weight;
     case CORES:
         return &site->cores;
+    case IDLE_POWER:
+        return &site->idle_power;
     case LEVELS_COUNT:
         return &site->levels;
     case SPEED:
@@ -134,6 +137,7 @@ size_t site_count_before(const parsed_site *site, size_t index) {
 
 void site_fill_in(parsed_site *site, size_t span) {
     site->span = span;
+    site->idle_power = 0;
     for (size_t i = 0; i < site->count; i++) {
         uint32_t *kept = kept_at(site, site_name_of(site, i));
         if (kept != NULL)

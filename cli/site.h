@@ -18,6 +18,7 @@ typedef enum {
     ENERGY_WEIGHT,
     PENALTY_WEIGHT,
     CORES,
+    IDLE_POWER, /* 0 where the settings end before it */
     LEVELS_COUNT,
     SPEED,
     POWER,
@@ -64,7 +65,7 @@ typedef struct {
     size_t count;
     site_number numbers[SITE_MOST_NUMBERS];
     /* Only of an accepted site: */
-    uint32_t energy_weight, penalty_weight, cores, levels, tasks;
+    uint32_t energy_weight, penalty_weight, cores, idle_power, levels, tasks;
     size_t span;
     site_level level[TOWHEPAMU_MOST_LEVELS];
     site_task task[TOWHEPAMU_MOST_TASKS];

@@ -47,9 +47,53 @@ static uint64_t print_energy(const planned_site *answer) {
                ticks_of(answer, i), site->level[level_of(answer, i) - 1].power,
                energy_of(answer, i));
     }
-    print_sum("all energy", sum);
+    print_sum(site->idle_power == 0 ? "all energy" : "busy energy", sum);
     return sum;
 }
+
+/* ---- Idle power ---- */
+
+static uint64_t load_of(const planned_site *answer, size_t core) {
+    uint64_t load = 0;
+    for (size_t i = 0; i < answer->site.tasks; i++)
+        if (core_of(answer, i) == core)
+            load += site_jobs(&answer->site, i) * ticks_of(answer, i);
+    return load;
+}
+
+/* What a core draws in the ticks that its load leaves of the span. */
+static uint64_t idle_energy_of(const planned_site *answer, size_t core) {
+    return is_awake(answer, core)
+               ? (answer->site.span - load_of(answer, core)) * answer->site.idle_power
+               : 0;
+}
+
+/* All energy, where there is idle power. */
+static uint64_t print_idle_energy(const planned_site *answer, uint64_t busy) {
+    const parsed_site *site = &answer->site;
+    uint64_t sum = 0;
+    puts("\nenergy of the idle ticks, span - load, of each core that keeps a task: idle ticks x "
+         "idle "
+         "power");
+    printf("%6s%8s%9s%8s%15s%17s\n", "core", "span", "load", "idle", "idle power", "energy");
+    for (size_t c = 1; c <= site->cores; c++) {
+        uint64_t load = load_of(answer, c);
+        if (is_awake(answer, c))
+            printf("%6zu%8zu - %6" PRIu64 " = %5" PRIu64 " x %12" PRIu32 " = %14" PRIu64 "\n", c,
+                   site->span, load, site->span - load, site->idle_power,
+                   idle_energy_of(answer, c));
+        else
+            printf("%6zu     off: it keeps no task%30d\n", c, 0);
+        sum += idle_energy_of(answer, c);
+    }
+    print_sum("idle energy", sum);
+    printf("\nenergy: busy + idle\n  %-46s%14" PRIu64 "\n  %-46s%14" PRIu64 "\n", "busy energy",
+           busy, "idle energy", sum);
+    print_sum("all energy", busy + sum);
+    return busy + sum;
+}
+
+/* ---- Penalty, cores and cost ---- */
 
 static uint64_t print_penalty(const planned_site *answer) {
     const parsed_site *site = &answer->site;
@@ -68,7 +112,7 @@ static uint64_t print_penalty(const planned_site *answer) {
     return sum;
 }
 
-/* "8 + 10 = 18": a core's sum over its tasks; nothing for none. */
+/* "8 + 10 = 18": a core's sum over its tasks, with its idle energy at the end; nothing for none. */
 static uint64_t print_core_sum(const planned_site *answer, size_t core, const char *word,
                                bool energy) {
     uint64_t sum = 0;
@@ -83,6 +127,10 @@ static uint64_t print_core_sum(const planned_site *answer, size_t core, const ch
         printf("%s%" PRIu64, between, one);
         between = " + ";
     }
+    if (energy && *between != 0 && answer->site.idle_power > 0) {
+        printf(" + %" PRIu64, idle_energy_of(answer, core));
+        sum += idle_energy_of(answer, core);
+    }
     if (*between != 0)
         fputs(" = ", stdout);
     printf("%" PRIu64, sum);
@@ -94,14 +142,18 @@ static bool print_cores(const planned_site *answer, uint64_t *energy) {
     size_t span = answer->site.span;
     bool right = true;
     *energy = 0;
-    puts("\ncores: the load is the sum of jobs x ticks of its tasks");
+    printf("\ncores: the load is the sum of jobs x ticks of its tasks%s\n",
+           answer->site.idle_power == 0 ? "" : ", the energy theirs and that of its idle ticks");
     for (size_t c = 1; c <= answer->site.cores; c++) {
         size_t busy = 0;
         for (size_t t = 0; t < span; t++)
             busy += row_of(answer, c - 1)[t] != 0;
         printf("  core %zu\n", c);
         uint64_t load = print_core_sum(answer, c, "load", false);
-        printf(" of span %zu, %zu idle\n", span, span - busy);
+        if (answer->site.idle_power == 0 || is_awake(answer, c))
+            printf(" of span %zu, %zu idle\n", span, span - busy);
+        else
+            printf(" of span %zu, off\n", span);
         *energy += print_core_sum(answer, c, "energy", true);
         puts("");
         right = right && load == busy;
@@ -141,11 +193,16 @@ int run_sums(const arguments *given) {
     if (!plan_site(given->file[0], &answer, &why))
         return REFUSED;
     const parsed_site *site = &answer.site;
-    printf("%s: %s, %s, %s, span %zu\n\n", file_words(site->file),
-           amount_of(site->cores, "core").text, amount_of(site->levels, "level").text,
-           amount_of(site->tasks, "task").text, site->span);
+    printf("%s: %s, %s, %s, span %zu", file_words(site->file), amount_of(site->cores, "core").text,
+           amount_of(site->levels, "level").text, amount_of(site->tasks, "task").text, site->span);
+    if (site->idle_power > 0)
+        printf(", idle power %" PRIu32, site->idle_power);
+    puts("\n");
     print_ticks(&answer);
-    uint64_t energy = print_energy(&answer), penalty = print_penalty(&answer), of_cores;
+    uint64_t energy = print_energy(&answer), of_cores;
+    if (site->idle_power > 0)
+        energy = print_idle_energy(&answer, energy);
+    uint64_t penalty = print_penalty(&answer);
     bool loads = print_cores(&answer, &of_cores);
     uint64_t cost = print_cost(site, energy, penalty);
     print_rows(&answer);

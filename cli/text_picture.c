@@ -18,6 +18,23 @@ void print_task_line(const planned_site *answer, size_t task) {
            amount_of(site_jobs(site, task), "job").text);
 }
 
+void print_idle_line(const planned_site *answer) {
+    size_t cores = answer->site.cores, off = 0, told = 0;
+    for (size_t c = 1; c <= cores; c++)
+        off += !is_awake(answer, c);
+    printf("An idle tick draws %s", grouped(answer->site.idle_power).text);
+    for (size_t c = 1; c <= cores; c++)
+        if (!is_awake(answer, c)) {
+            told++;
+            printf("%s%zu",
+                   told == 1    ? off == 1 ? "; core " : "; cores "
+                   : told < off ? ", "
+                                : " and ",
+                   c);
+        }
+    fputs(off == 0 ? "." : off == 1 ? " is off." : " are off.", stdout);
+}
+
 /* A task's number as one character. */
 static char character_of(uint8_t task) {
     return ".123456789abc"[task];
@@ -66,6 +83,10 @@ void print_text_picture(const planned_site *answer) {
             print_lane(answer, c, first, end);
     }
     puts("\n. idle; [ a job's release, ] its last tick before it is due, | both in one tick");
+    if (answer->site.idle_power > 0) {
+        print_idle_line(answer);
+        puts("");
+    }
     for (size_t i = 0; i < answer->site.tasks; i++) {
         printf("%c ", character_of((uint8_t)(i + 1)));
         print_task_line(answer, i);

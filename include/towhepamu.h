@@ -8,10 +8,15 @@
  * lines of text.
  *
  * A site file is text, numbers in base ten parted by spaces and line feeds:
- *   3, energy weight 1 to 1,000, penalty weight 1 to 1,000, cores 1 to 4;
+ *   3 or 4, energy weight 1 to 1,000, penalty weight 1 to 1,000, cores 1 to 4; after a 4 also idle
+ *   power 0 to 65,535, which is 0 after a 3;
  *   how many levels, 1 to 8; for each its speed and its power, 1 to 65,535, both rising strictly;
  *   how many tasks, 0 to 12; for each its period in ticks, 1 to 4,096, its cycles a job, 1 to
  *   100,000,000, and its penalty a job, 1 to 1,000,000, or 4,294,967,295 if it may not be refused.
+ *
+ * The span is the least common multiple of the periods, 1 with no task. In it a kept task draws
+ * jobs x ticks x power of its level. A core that keeps a task draws idle power in each tick of the
+ * span that the jobs x ticks of its tasks leave; a core that keeps none is off and draws nothing.
  *
  * Link with libtowhepamu.a. A call keeps nothing and prints nothing; several threads may call at
  * once as long as they share no result buffer.
@@ -115,7 +120,7 @@ typedef struct {
 typedef struct {
     uint64_t refusal; /* an enum towhepamu_refusal; 0 where there is a plan */
     uint64_t place;   /* what the refusal says of it; 0 where there is a plan */
-    uint64_t energy;  /* of the kept tasks in one span, not weighted */
+    uint64_t energy;  /* of the kept tasks and of idle ticks in one span, not weighted */
     uint64_t penalty; /* of the refused tasks in one span, not weighted */
     uint64_t cost;    /* energy weight x energy + penalty weight x penalty */
 } towhepamu_planned;

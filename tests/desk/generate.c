@@ -29,6 +29,22 @@ static void draw_levels(generator *g, reference_instance *in) {
     }
 }
 
+static uint32_t draw_idle_power(generator *g, const reference_instance *in) {
+    uint32_t top = in->level[in->levels - 1].power, some = in->level[draw(g, in->levels)].power;
+    switch (draw(g, 5)) {
+    case 0:
+        return 0;
+    case 1:
+        return between(g, 1, 5);
+    case 2: /* a level then draws as much, or one more or less */
+        return clamp((uint64_t)some + draw(g, 3), 1, 65536) - 1;
+    case 3:
+        return clamp((uint64_t)top + between(g, 1, 2 * top), 1, 65535);
+    default:
+        return 65535 - (uint32_t)draw(g, 2);
+    }
+}
+
 static uint32_t draw_span(generator *g, uint32_t most) {
     static const uint32_t spans[] = {1,   2,   3,   4,    6,    8,    10,   12,   20,   24,
                                      30,  36,  60,  64,   96,   100,  120,  180,  240,  360,
@@ -53,10 +69,20 @@ static uint32_t draw_cycles(generator *g, uint64_t ticks, uint32_t speed) {
     return clamp(ticks * speed - (one_in(g, 2) ? 0 : draw(g, speed)), 1, 100000000);
 }
 
+/* What a job adds to the energy: on a core by itself, or on one that is awake anyway. */
+static uint64_t draw_energy(generator *g, const reference_instance *in, const reference_task *task,
+                            const reference_level *level) {
+    uint64_t ticks = (uint64_t)(task->cycles + level->speed - 1) / level->speed;
+    uint64_t busy = ticks * level->power, idle = in->idle_power;
+    if (one_in(g, 2))
+        return busy + (ticks < task->period ? idle * (task->period - ticks) : 0);
+    return busy > idle * ticks ? busy - idle * ticks : 0;
+}
+
 /* Often just what keeping the task costs at some level, give or take one. */
-static uint32_t draw_penalty(generator *g, const reference_instance *in, uint32_t cycles) {
-    const reference_level *level = &in->level[draw(g, in->levels)];
-    uint64_t energy = (uint64_t)(cycles + level->speed - 1) / level->speed * level->power;
+static uint32_t draw_penalty(generator *g, const reference_instance *in,
+                             const reference_task *task) {
+    uint64_t energy = draw_energy(g, in, task, &in->level[draw(g, in->levels)]);
     switch (draw(g, 6)) {
     case 0:
         return between(g, 1, 100);
@@ -81,7 +107,7 @@ static void draw_tasks(generator *g, reference_instance *in, uint32_t heavy) {
         uint64_t ticks = draw_between(g, 1, 1 + (uint64_t)task->period * heavy / 4);
         uint32_t speed = in->level[one_in(g, 2) ? in->levels - 1 : draw(g, in->levels)].speed;
         task->cycles = draw_cycles(g, ticks, speed);
-        task->penalty = draw(g, 4) < musts ? MUST : draw_penalty(g, in, task->cycles);
+        task->penalty = draw(g, 4) < musts ? MUST : draw_penalty(g, in, task);
     }
 }
 
@@ -98,7 +124,7 @@ static void draw_full_cores(generator *g, reference_instance *in) {
         uint32_t ticks = most == 0 ? 1 : one_in(g, 2) ? most : between(g, 1, most);
         *core -= most == 0 ? 0 : jobs * ticks;
         task->cycles = clamp((uint64_t)ticks * top, 1, 100000000);
-        task->penalty = one_in(g, 8) ? draw_penalty(g, in, task->cycles) : MUST;
+        task->penalty = one_in(g, 8) ? draw_penalty(g, in, task) : MUST;
     }
     if (in->tasks > 0 && one_in(g, 3)) {
         uint32_t *cycles = &in->task[draw(g, in->tasks)].cycles;
@@ -106,12 +132,14 @@ static void draw_full_cores(generator *g, reference_instance *in) {
     }
 }
 
-size_t list_words(const reference_instance *in, uint32_t *words) {
+size_t list_words(const reference_instance *in, uint32_t settings, uint32_t *words) {
     size_t n = 0;
-    words[n++] = 3;
+    words[n++] = settings;
     words[n++] = in->energy_weight;
     words[n++] = in->penalty_weight;
     words[n++] = in->cores;
+    if (settings == 4)
+        words[n++] = in->idle_power;
     words[n++] = in->levels;
     for (size_t l = 0; l < in->levels; l++) {
         words[n++] = in->level[l].speed;
@@ -136,11 +164,13 @@ size_t draw_site(generator *g, site_limits limits, uint32_t *words) {
     in.tasks = between(g, limits.least_tasks, limits.most_tasks);
     in.span = draw_span(g, limits.most_span);
     draw_levels(g, &in);
+    uint32_t settings = one_in(g, 3) ? 4 : 3;
+    in.idle_power = settings == 4 ? draw_idle_power(g, &in) : 0;
     if (one_in(g, 4))
         draw_full_cores(g, &in);
     else
         draw_tasks(g, &in, between(g, 1, 8));
-    return list_words(&in, words);
+    return list_words(&in, settings, words);
 }
 
 /* ---- Damage to words ---- */
@@ -161,11 +191,25 @@ static uint32_t draw_edge(generator *g) {
     return end + between(g, 0, 2) - 1;
 }
 
+/* Another count of settings, a fourth one that is wrong, or one too many or too few. */
+static void damage_settings(generator *g, uint32_t *words, size_t *count) {
+    if (one_in(g, 3))
+        words[0] = between(g, 1, 6);
+    else if (*count < 5)
+        words[0] = 4;
+    else if (words[0] == 4 && one_in(g, 2))
+        words[4] = one_in(g, 2) ? 65535 + between(g, 0, 2) : draw_edge(g);
+    else if (words[0] == 4)
+        memmove(words + 4, words + 5, (--*count - 4) * sizeof *words);
+    else
+        insert_word(words, count, 4, between(g, 0, 9));
+}
+
 void damage_words(generator *g, uint32_t *words, size_t *count) {
     if (*count == 0)
         return;
     size_t at = draw(g, *count);
-    switch (draw(g, 8)) {
+    switch (draw(g, 9)) {
     case 0:
         *count = at;
         break;
@@ -185,6 +229,9 @@ void damage_words(generator *g, uint32_t *words, size_t *count) {
         break;
     case 5:
         words[at] = between(g, 1, 4096); /* as a period, mostly too much for the span */
+        break;
+    case 6:
+        damage_settings(g, words, count);
         break;
     default:
         words[at] = draw_edge(g);

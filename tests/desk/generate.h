@@ -14,12 +14,14 @@ typedef struct {
 /*
  * The words of a site within the limits, which reads without refusal. It is drawn to be close to
  * the edges: ties between levels, cores and penalties, equal tasks, cores that are just full or
- * just over, tasks that fit nowhere.
+ * just over, tasks that fit nowhere. A third of them have four settings, with an idle power of 0,
+ * of a few units, about that of a level, or above every level's.
  */
 size_t draw_site(generator *g, site_limits limits, uint32_t *words);
 
-/* The words of a site; the span is not among them. */
-size_t list_words(const reference_instance *site, uint32_t *words);
+/* The words of a site; the span is not among them, and idle power only where there are four
+   settings, not three. */
+size_t list_words(const reference_instance *site, uint32_t settings, uint32_t *words);
 
 /* One wrong, missing or extra word, or a few; MOST_DRAWN_WORDS at most. */
 void damage_words(generator *g, uint32_t *words, size_t *count);

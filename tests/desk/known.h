@@ -1,4 +1,5 @@
-/* K1 to K13 of document 01, with what planning answers and the table that it draws. */
+/* K1 to K13 of document 01 and examples of idle power, with what planning answers and the table
+   that it draws. */
 #ifndef KNOWN_H
 #define KNOWN_H
 
@@ -42,6 +43,40 @@ static const known_case known_cases[] = {
      {0, 0, 0, 65, 65}, "00", NULL}, /* refused at equal cost: 4,096 idle slots */
     {"K13", "3 2 8 1" XSCALE "2 10 2400 5000 20 6000 3000", 2, 20,
      {0, 0, 7200, 0, 14400}, "33", "11112222221111222200"},
+
+    /* Idle power: two idle ticks; two awake cores with 8 and 5; weighted; an off core; a full core. */
+    {"K2, idle power 50", "4 1 1 1 50" XSCALE "2 10 2400 5000 20 6000 4294967295", 2, 20,
+     {0, 0, 7300, 0, 7300}, "33", "11112222221111222200"},
+    {"K3, idle power 50", "4 1 1 2 50" XSCALE "2 10 2400 5000 20 6000 3000", 2, 40,
+     {0, 0, 5240, 0, 5240}, "27", "1111110000111111000022222222222222200000"},
+    {"K13, idle power 50", "4 2 8 1 50" XSCALE "2 10 2400 5000 20 6000 3000", 2, 20,
+     {0, 0, 7300, 0, 14600}, "33", "11112222221111222200"},
+    {"K5 on two cores, idle power 50", "4 1 1 2 50" XSCALE "1 10 2400 4294967295", 1, 20,
+     {0, 0, 1220, 0, 1220}, "2", "11111100000000000000"},
+    {"K7, idle power 65,535", "4 1 1 1 65535" XSCALE "1 10 10000 4294967295", 1, 10,
+     {0, 0, 16000, 0, 16000}, "5", "1111111111"},
+    {"K6, idle power 65,535", "4 1 1 2 65535" XSCALE "0", 0, 2,
+     {0, 0, 0, 0, 0}, "", "00"},
+    /* One task more on a core that is awake anyway; with idle power 0 it is refused. */
+    {"one more", "4 1 1 1 100  1 100 50  2 10 300 4294967295 10 300 140", 2, 10,
+     {0, 0, 700, 0, 700}, "11", "1112220000"},
+    {"one more, idle power 0", "4 1 1 1 0  1 100 50  2 10 300 4294967295 10 300 140", 2, 10,
+     {0, 0, 150, 140, 290}, "10", "1110000000"},
+    {"one more, no idle power", "3 1 1 1  1 100 50  2 10 300 4294967295 10 300 140", 2, 10,
+     {0, 0, 150, 140, 290}, "10", "1110000000"},
+    /* The slower level leaves fewer idle ticks, and both levels draw less than an idle core. */
+    {"slower", "4 1 1 1 500  2 100 10 200 40  1 10 400 4294967295", 1, 10,
+     {0, 0, 3040, 0, 3040}, "1", "1111000000"},
+    {"K11, four settings", "4 1 1 1 0  1 1 1  2 4095 1 1 2 1 1", 0, 0,
+     {4, 12, 0, 0, 0}, "", ""},
+    {"idle power 65,536", "4 1 1 1 65536  1 1 1  0", 0, 0,
+     {3, 4, 0, 0, 0}, "", ""},
+    {"two settings", "2 1 1  1 1 1  0", 0, 0,
+     {3, 0, 0, 0, 0}, "", ""},
+    {"six settings", "6 1 1 1 0 0 0  1 1 1  0", 0, 0,
+     {3, 0, 0, 0, 0}, "", ""},
+    {"a fourth setting is missing", "4 1 1 1", 0, 0,
+     {2, 4, 0, 0, 0}, "", ""},
 };
 /* clang-format on */
 

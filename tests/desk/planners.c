@@ -7,23 +7,30 @@
  * Ordered by cost and then key, the least value is the plan that the paper asks for. Values of
  * tasks on different cores add up part by part, so the least value of a whole is the least sum of
  * its parts. A set of tasks is a bit mask.
+ *
+ * A core with a kept task begins with the idle energy of the whole span, and each task takes away
+ * that of its busy ticks. So a task may add less than nothing to a core's cost.
  */
 
 enum { MOST_SETS = 1 << MOST_TASKS, BASE = MOST_CORES * MOST_LEVELS + 1 };
 
 typedef struct {
-    uint64_t cost, key;
+    int64_t cost;
+    uint64_t key;
 } value;
 
+/* Costs from MOST_COST on stand for none: no plan has one, `none` less what twelve tasks take away
+   is still above it, and no sum of two overflows. */
+#define MOST_COST (INT64_C(1) << 60)
 static const value nothing = {0, 0};
-static const value none = {UINT64_C(1) << 62, 0}; /* above all costs; no sum of two overflows */
+static const value none = {INT64_C(1) << 61, 0};
 
 typedef struct {
     const reference_instance *in;
     uint64_t digit[MOST_TASKS];             /* what 1 as a task's choice adds to a key */
     uint64_t load[MOST_TASKS][MOST_LEVELS]; /* jobs x ticks */
-    value option[MOST_TASKS][MOST_LEVELS];  /* of a task kept at a level of core 1 */
-    value knapsack[MOST_SETS];                   /* the least of running just that set on core 1 */
+    value option[MOST_TASKS][MOST_LEVELS];  /* what a task at a level adds to an awake core 1 */
+    value knapsack[MOST_SETS];              /* the least of running just that set on core 1 */
     value best[MOST_SETS];                  /* the same on all cores so far */
 } search;
 
@@ -43,9 +50,11 @@ static void list_options(search *s) {
         for (size_t l = 0; l < s->in->levels; l++) {
             uint64_t load = reference_jobs(s->in, i) * reference_ticks(s->in, i, l);
             s->load[i][l] = load;
-            if (load <= s->in->span) /* else it is never used, and its cost might overflow */
+            if (load <= s->in->span) { /* else it is never used, and its cost might overflow */
+                int64_t more = (int64_t)s->in->level[l].power - (int64_t)s->in->idle_power;
                 s->option[i][l] =
-                    (value){s->in->energy_weight * load * s->in->level[l].power, (l + 1) * digit};
+                    (value){(int64_t)(s->in->energy_weight * load) * more, (l + 1) * digit};
+            }
         }
     }
 }
@@ -114,7 +123,8 @@ static value choose(const search *s) {
     uint64_t penalty;
     for (size_t set = 0; set < (size_t)1 << s->in->tasks; set++)
         if (penalty_without(s->in, set, &penalty))
-            keep_lesser(&least, plus(s->best[set], (value){s->in->penalty_weight * penalty, 0}));
+            keep_lesser(&least,
+                        plus(s->best[set], (value){(int64_t)(s->in->penalty_weight * penalty), 0}));
     return least;
 }
 
@@ -122,10 +132,12 @@ bool reference_best(const reference_instance *in, uint8_t plan[MOST_TASKS]) {
     search s;
     s.in = in;
     list_options(&s);
-    value within[MOST_SPAN + 1];
+    value within[MOST_SPAN + 1],
+        awake = {(int64_t)in->energy_weight * in->idle_power * in->span, 0};
     for (size_t w = 0; w <= in->span; w++)
-        within[w] = nothing;
+        within[w] = awake;
     fill_knapsacks(&s, in->tasks, 0, within);
+    s.knapsack[0] = nothing; /* a core without a task is off */
 
     for (size_t set = 0; set < (size_t)1 << in->tasks; set++)
         s.best[set] = s.knapsack[set];
@@ -135,7 +147,7 @@ bool reference_best(const reference_instance *in, uint8_t plan[MOST_TASKS]) {
     value least = choose(&s);
     for (size_t i = 0; i < in->tasks; i++)
         plan[i] = (uint8_t)(least.key / s.digit[i] % BASE);
-    return least.cost < none.cost;
+    return least.cost < MOST_COST;
 }
 
 /* ---- Every plan ----

@@ -81,9 +81,11 @@ static uint32_t greatest_common_divisor(uint32_t a, uint32_t b) {
 }
 
 static bool take_settings(cursor *from, reference_instance *in) {
-    uint32_t three;
-    return take(from, 3, 3, &three) && take(from, 1, 1000, &in->energy_weight) &&
-           take(from, 1, 1000, &in->penalty_weight) && take(from, 1, MOST_CORES, &in->cores);
+    uint32_t count;
+    in->idle_power = 0;
+    return take(from, 3, 4, &count) && take(from, 1, 1000, &in->energy_weight) &&
+           take(from, 1, 1000, &in->penalty_weight) && take(from, 1, MOST_CORES, &in->cores) &&
+           (count == 3 || take(from, 0, 65535, &in->idle_power));
 }
 
 static bool take_levels(cursor *from, reference_instance *in) {
@@ -168,17 +170,36 @@ static towhepamu_checked test_choices(const reference_instance *in, const uint8_
     return accepted;
 }
 
-/* Refusal 8, of a plan that passes 7. */
-static towhepamu_checked test_loads(const reference_instance *in, const uint8_t *plan) {
-    uint64_t load[MOST_CORES] = {0};
+/* Jobs x ticks of the tasks that a plan keeps on each core: 0 exactly where it keeps none, since a
+   job takes at least one tick. */
+static void add_loads(const reference_instance *in, const uint8_t *plan,
+                      uint64_t load[MOST_CORES]) {
+    for (size_t c = 0; c < MOST_CORES; c++)
+        load[c] = 0;
     for (size_t i = 0; i < in->tasks; i++)
         if (plan[i] != 0)
             load[core_of(in, plan[i])] +=
                 reference_jobs(in, i) * reference_ticks(in, i, level_of(in, plan[i]));
+}
+
+/* Refusal 8, of a plan that passes 7. */
+static towhepamu_checked test_loads(const reference_instance *in, const uint8_t *plan) {
+    uint64_t load[MOST_CORES];
+    add_loads(in, plan, load);
     for (size_t c = 0; c < in->cores; c++)
         if (load[c] > in->span)
             return refused(TOWHEPAMU_OVERLOAD, c + 1);
     return accepted;
+}
+
+/* What the cores with a kept task draw in their idle ticks; the others are off. */
+static uint64_t idle_energy(const reference_instance *in, const uint8_t *plan) {
+    uint64_t load[MOST_CORES], energy = 0;
+    add_loads(in, plan, load);
+    for (size_t c = 0; c < in->cores; c++)
+        if (load[c] > 0)
+            energy += in->idle_power * (in->span - load[c]);
+    return energy;
 }
 
 static towhepamu_checked test_plan(const reference_instance *in, const uint8_t *plan,
@@ -192,7 +213,7 @@ towhepamu_planned reference_price(const reference_instance *in, const uint8_t *p
     towhepamu_checked test = test_plan(in, plan, plan_len);
     if (test.refusal != TOWHEPAMU_ACCEPTED)
         return unplanned(test);
-    uint64_t energy = 0, penalty = 0;
+    uint64_t energy = idle_energy(in, plan), penalty = 0;
     for (size_t i = 0; i < in->tasks; i++) {
         if (plan[i] == 0) {
             penalty += reference_jobs(in, i) * in->task[i].penalty;

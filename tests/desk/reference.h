@@ -1,6 +1,6 @@
 /*
- * Document 01 in plain C, written from the paper alone: what the archive is compared with and timed
- * against. Choices and slots are bytes, as at the C interface.
+ * Documents 01 and 02 (a) in plain C, written from the papers alone: what the archive is compared
+ * with and timed against. Choices and slots are bytes, as at the C interface.
  */
 #ifndef REFERENCE_H
 #define REFERENCE_H
@@ -14,7 +14,7 @@ enum {
     MOST_TASKS = TOWHEPAMU_MOST_TASKS,
     MOST_SPAN = TOWHEPAMU_MOST_SPAN,
     MOST_WORDS = TOWHEPAMU_MOST_TEXT_BYTES / 2, /* of a text: a digit in every second byte */
-    MOST_INSTANCE_WORDS = 4 + (1 + 2 * MOST_LEVELS) + (1 + 3 * MOST_TASKS)
+    MOST_INSTANCE_WORDS = 5 + (1 + 2 * MOST_LEVELS) + (1 + 3 * MOST_TASKS)
 };
 
 /* The penalty of a task that may not be refused. */
@@ -29,7 +29,7 @@ typedef struct {
 } reference_task;
 
 typedef struct {
-    uint32_t energy_weight, penalty_weight, cores, levels, tasks, span;
+    uint32_t energy_weight, penalty_weight, cores, idle_power, levels, tasks, span;
     reference_level level[MOST_LEVELS];
     reference_task task[MOST_TASKS];
 } reference_instance;

@@ -1,16 +1,19 @@
 /*
- * The reference by itself: K1 to K13 and two of their listings, the ends of every range, its two
- * planners against each other, and its check against planned tables and every kind of single damage
- * to them.
+ * The reference by itself: K1 to K13, examples of idle power, two of their listings, the ends of
+ * every range, its two planners against each other, and its check against planned tables and every
+ * kind of single damage to them.
  */
 #include "generate.h"
 #include "known.h"
 #include <stdio.h>
 #include <string.h>
 
-enum { SMALL_SITES = 6000, MOST_PLANS = 30000 };
+enum { SMALL_SITES = 18000, MOST_PLANS = 30000 };
 
 static size_t tests, failures;
+
+/* Of the small sites with a plan: those with idle power, and those with more than every level. */
+static size_t with_idle_power, above_levels;
 
 static void expect(bool holds, const char *what, const char *which) {
     tests++;
@@ -30,7 +33,7 @@ static bool is(towhepamu_checked answer, uint64_t refusal, uint64_t place) {
     return answer.refusal == refusal && answer.place == place;
 }
 
-/* ---- K1 to K13 ---- */
+/* ---- K1 to K13, and examples of idle power ---- */
 
 typedef towhepamu_planned planner(const uint8_t *, size_t, uint8_t *, size_t, uint8_t *, size_t);
 
@@ -92,33 +95,39 @@ static void test_listings(void) {
 
 /* ---- Reading ---- */
 
-/* Each word at both ends of its range and one beyond; and the list cut off before it. */
-static void test_ranges(void) {
+/* Each word at both ends of its range and one beyond; and the list cut off before it. With three
+   settings all words after the third stand one place further to the front. */
+static void test_ranges(uint32_t settings) {
     static const struct {
         uint32_t word, least, most;
-    } site[] = {{3, 3, 3},    {1, 1, 1000},      {1, 1, 1000},    {1, 1, 4},       {2, 1, 8},
-                {10, 1, 19},  {10, 1, 19},       {20, 11, 65535}, {20, 11, 65535}, {1, 0, 12},
-                {8, 1, 4096}, {5, 1, 100000000}, {7, 1, 1000000}};
-    enum { WORDS = sizeof site / sizeof site[0] };
-    uint32_t words[WORDS];
+    } site[] = {{4, 3, 4},  {1, 1, 1000}, {1, 1, 1000},      {1, 1, 4},       {9, 0, 65535},
+                {2, 1, 8},  {10, 1, 19},  {10, 1, 19},       {20, 11, 65535}, {20, 11, 65535},
+                {1, 0, 12}, {8, 1, 4096}, {5, 1, 100000000}, {7, 1, 1000000}};
+    enum { MOST = sizeof site / sizeof site[0] };
+    uint32_t words[MOST];
     reference_instance in;
-    for (size_t i = 0; i < WORDS; i++)
-        words[i] = site[i].word;
-    for (size_t i = 0; i < WORDS; i++) {
+    size_t left_out = 4 - settings, count = MOST - left_out;
+    for (size_t i = 0; i < count; i++)
+        words[i] = site[i <= settings ? i : i + left_out].word;
+    words[0] = settings;
+    for (size_t i = 0; i < count; i++) {
+        size_t field = i <= settings ? i : i + left_out;
+        uint32_t right = words[i];
         /* A speed or power of level 1 may pass that of level 2, which then does not rise. */
-        size_t too_much_at = i == 5 || i == 6 ? i + 2 : i;
-        words[i] = site[i].least - 1; /* below 0: 4,294,967,295 */
-        expect(is(reference_read(words, WORDS, &in), 3, i), "below its range", "a word");
-        words[i] = site[i].least;
-        expect(!is(reference_read(words, WORDS, &in), 3, i), "the least", "a word");
-        words[i] = site[i].most;
-        expect(!is(reference_read(words, WORDS, &in), 3, i), "the most", "a word");
-        words[i] = site[i].most + 1;
-        expect(is(reference_read(words, WORDS, &in), 3, too_much_at), "above its range", "a word");
-        words[i] = site[i].word;
+        size_t too_much_at = field == 6 || field == 7 ? i + 2 : i;
+        words[i] = site[field].least - 1; /* below 0: 4,294,967,295 */
+        expect(is(reference_read(words, count, &in), 3, i), "below its range", "a word");
+        words[i] = site[field].least;
+        expect(!is(reference_read(words, count, &in), 3, i), "the least", "a word");
+        words[i] = site[field].most;
+        expect(!is(reference_read(words, count, &in), 3, i), "the most", "a word");
+        words[i] = site[field].most + 1;
+        expect(is(reference_read(words, count, &in), 3, too_much_at), "above its range", "a word");
+        words[i] = right;
         expect(is(reference_read(words, i, &in), 2, i), "missing", "a word");
     }
-    expect(is(reference_read(words, WORDS, &in), 0, 0), "reads", "the site");
+    expect(is(reference_read(words, count, &in), 0, 0), "reads", "the site");
+    expect(in.idle_power == (settings == 4 ? 9 : 0), "the idle power", "the site");
 }
 
 static void test_lists(void) {
@@ -168,28 +177,35 @@ static void test_text(void) {
 
 /* ---- Planning and checking ---- */
 
-/* Pricing and tabling given plans of K3, whose cores have 20 ticks each. */
+/* Pricing and tabling given plans of K3, whose cores have 20 ticks each; and what idle power 50
+   makes of their energy: 8 and 5 idle ticks on two cores, none on a core that is off. */
 static void test_given_plans(void) {
     static const struct {
         uint8_t plan[3];
         size_t plan_len;
-        uint64_t refusal, place;
-    } plans[] = {{{2, 7}, 2, 0, 0},   {{7, 2}, 2, 0, 0}, {{0, 0}, 2, 0, 0},
-                 {{1, 6}, 2, 8, 1},   {{2, 6}, 2, 8, 2}, {{11, 6}, 2, 7, 0},
-                 {{6, 255}, 2, 7, 1}, {{1, 6}, 1, 7, 1}, {{1, 6, 0}, 3, 7, 2}};
-    uint32_t words[MOST_WORDS];
+        uint64_t refusal, place, energy, idle;
+    } plans[] = {
+        {{2, 7}, 2, 0, 0, 4590, 650}, {{7, 2}, 2, 0, 0, 4590, 650}, {{0, 0}, 2, 0, 0, 0, 0},
+        {{2, 0}, 2, 0, 0, 2040, 400}, {{8, 8}, 2, 0, 0, 7200, 100}, {{0, 10}, 2, 0, 0, 9600, 700},
+        {{1, 6}, 2, 8, 1, 0, 0},      {{2, 6}, 2, 8, 2, 0, 0},      {{11, 6}, 2, 7, 0, 0, 0},
+        {{6, 255}, 2, 7, 1, 0, 0},    {{1, 6}, 1, 7, 1, 0, 0},      {{1, 6, 0}, 3, 7, 2, 0, 0}};
     uint8_t table[40];
-    size_t count = 0;
     reference_instance in;
     const char *text = known_cases[2].text;
-    reference_words((const uint8_t *)text, strlen(text), words, MOST_WORDS, &count);
-    reference_read(words, count, &in);
+    reference_read_text((const uint8_t *)text, strlen(text), &in);
     for (size_t i = 0; i < sizeof plans / sizeof plans[0]; i++) {
         const uint8_t *plan = plans[i].plan;
         size_t len = plans[i].plan_len;
+        in.idle_power = 0;
         towhepamu_planned price = reference_price(&in, plan, len);
-        expect(price.refusal == plans[i].refusal && price.place == plans[i].place, "the price",
-               "a given plan");
+        expect(price.refusal == plans[i].refusal && price.place == plans[i].place &&
+                   price.energy == plans[i].energy,
+               "the price", "a given plan");
+        in.idle_power = 50;
+        price = reference_price(&in, plan, len);
+        expect(price.refusal == plans[i].refusal && price.place == plans[i].place &&
+                   price.energy == plans[i].energy + plans[i].idle,
+               "the price with idle power", "a given plan");
         expect(is(reference_tabulate(&in, plan, len, table, 40), plans[i].refusal, plans[i].place),
                "the table", "a given plan");
         expect(is(reference_tabulate(&in, plan, len, table, 39), 6, 40), "a short table",
@@ -276,6 +292,8 @@ static bool test_small_site(generator *g) {
     if (!found)
         return false;
     expect(memcmp(plan, other, in.tasks) == 0, "both answer the same plan", "a site");
+    with_idle_power += in.idle_power > 0;
+    above_levels += in.idle_power > in.level[in.levels - 1].power;
     expect(reference_tabulate(&in, plan, in.tasks, table, sizeof table).refusal == 0, "is tabled",
            "a plan");
     expect(is(reference_check_table(&in, plan, in.tasks, table, in.cores * in.span), 0, 0),
@@ -292,13 +310,16 @@ int main(void) {
         test_known(&known_cases[k], reference_plan_exhaustive);
     }
     test_listings();
-    test_ranges();
+    test_ranges(3);
+    test_ranges(4);
     test_lists();
     test_text();
     test_given_plans();
     for (size_t n = 0; n < SMALL_SITES; n++)
         planned += test_small_site(&g);
-    printf("reference: %d small sites, %zu with a plan, the rest without\n", SMALL_SITES, planned);
+    printf("reference: %d small sites, %zu with a plan, of these %zu with idle power, %zu above "
+           "every level's\n",
+           SMALL_SITES, planned, with_idle_power, above_levels);
     printf("reference: %zu tests, %zu fail\n", tests, failures);
     return failures > 0;
 }

@@ -1,18 +1,22 @@
-"""pictures.py SITE LISTING SVG TEXT SUMS: the rows in each are those of the listing, and the sums add up."""
+"""pictures.py SITE LISTING SVG TEXT SUMS: the rows in each are those of the listing, and the sums add up to its cost."""
 import re
 import sys
 import xml.etree.ElementTree as tree
 
 site, listing, svg, text, sums = sys.argv[1:]
 numbers = [int(n) for n in open(site).read().split()]
-levels = numbers[4]
-tasks = numbers[5 + 2 * levels]
-periods = numbers[6 + 2 * levels::3]
+settings = numbers[0]
+idle_power = numbers[4] if settings > 3 else 0
+levels = numbers[settings + 1]
+tasks = numbers[settings + 2 + 2 * levels]
+periods = numbers[settings + 3 + 2 * levels::3]
 lines = [line.split() for line in open(listing)]
 span = int(lines[0][1])
 cost = [int(n) for n in lines[1][1:]]
 core_of = {int(w[1]): int(w[3]) for w in lines if w[0] == "task" and w[2] != "refused"}
 rows = {int(w[1]): [int(n) for n in w[2:]] for w in lines if w[0] == "core"}
+awake = {c for c in rows if c in core_of.values()}
+idle_energy = idle_power * sum(row.count(0) for c, row in rows.items() if c in awake)
 problems = []
 
 
@@ -64,6 +68,10 @@ def check_sums():
         must(eval(left.replace("x", "*")) == int(right), f"{left} = {right}")
     totals = [int(n) for n in re.findall(r"^  (?:all energy|all penalty|cost) +(\d+)$", words, re.M)]
     must(totals == cost, "the totals are the listing's")
+    idle = [int(n) for n in re.findall(r"^  idle energy +(\d+)$", words, re.M)]
+    must(idle == ([idle_energy] * 2 if idle_power else []), "the idle energy is that of the awake cores")
+    off = {int(n) for n in re.findall(r"^ +(\d+) +off: ", words, re.M)}
+    must(off == (set(rows) - awake if idle_power else set()), "the cores that are off")
     drawn = {}
     for part in re.split(r"^core ", words, flags=re.M)[1:]:
         drawn[int(part.split(",")[0])] = [int(n) for line in part.splitlines()[1:] for n in line.partition(":")[2].split()]
