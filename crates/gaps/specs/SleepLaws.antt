@@ -12,7 +12,7 @@ use Rattle.laws.specs.SumLaws.{sum-mono, sum-scaled}
 use Rattle.laws.specs.Truth.{and-is-true, not-true-is-false}
 use Rattle.gaps.specs.Gaps.{Repeats, SomeBusy, gapEndingAt, overGaps}
 use Rattle.gaps.specs.GapLaws.{counted-is-gap, gap-is-counted}
-use Rattle.gaps.specs.GapSumLaws.{idleSlots, gap-sizes-add-up}
+use Rattle.gaps.specs.GapSumLaws.{idleSlots, gap-sizes-add-up, no-gaps-without-busy-slot}
 use Rattle.gaps.specs.Sleeping.{gapEnergy, sleepsIn, energyIn, sleepIn, rowSlept, SleepChoice, chosenEnergy, chosenSleeps}
 use Rattle.gaps.specs.declared.SleepCosts.{SleepCosts}
 
@@ -95,3 +95,9 @@ module _ (costs : SleepCosts) (busy : ℕ → Bool) (L : ℕ) (repeats : Repeats
   pub energy-without-sleep : SomeBusy busy L → chosenEnergy costs busy L (λ t. false) ≡ costs .idle * idleSlots busy L
   unfolding chosenEnergy gapEnergy
   energy-without-sleep some = sum-scaled (costs .idle) (gapEndingAt busy L) L ∙ ap (λ (n : ℕ). costs .idle * n) (gap-sizes-add-up busy L repeats some)
+
+-- a row without a busy slot has no gap to draw in
+pub no-energy-of-idle-row : (costs : SleepCosts) (busy : ℕ → Bool) (L : ℕ) → ((t : ℕ) → t < L → busy t ≡ false) →
+    chosenEnergy costs busy L (λ t. false) ≡ 0
+unfolding chosenEnergy gapEnergy overGaps
+no-energy-of-idle-row costs busy L idle = no-gaps-without-busy-slot (λ gap. costs .idle * gap) (mul-zero (costs .idle)) busy L idle

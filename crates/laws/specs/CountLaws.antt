@@ -60,6 +60,17 @@ count-by-number slots n (suc x) =
     rw (sum-add (λ i. count (λ t. eqb (slots t) (suc i)) x) (λ i. cond (eqb (slots x) (suc i)) 1 0) n)
     (omega (arith, count-by-number slots n x, one-number (slots x) n))
 
+-- where some pass, one can be named
+pub some-counted : (p : ℕ → Bool) (n : ℕ) → 0 < count p n → (k : ℕ) × (k < n) × (p k ≡ true)
+unfolding count
+some-counted p zero above = absurd (omega arith)
+some-counted p (suc n) above = let earlier = some-counted p n in go (p n) refl earlier above
+  where
+    go : (b : Bool) → p n ≡ b → (0 < count p n → (k : ℕ) × (k < n) × (p k ≡ true)) → 0 < count p n + cond b 1 0 →
+        (k : ℕ) × (k < suc n) × (p k ≡ true)
+    go true e earlier above = (n, le-refl (suc n), e)
+    go false e earlier above = let found = earlier (omega arith) in (found .0, le-step (found .1), found .2)
+
 pub count-of-others : (p : ℕ → Bool) (n : ℕ) → count (λ x. not (p x)) n + count p n ≡ n
 unfolding count
 count-of-others p zero = refl

@@ -8,3 +8,4 @@ pub mod RowWalkLaws
 pub mod RowLaws
 pub mod HeldSleeps
 pub mod SwitchingLaws
+pub mod CoreGapLaws
