@@ -1,16 +1,17 @@
 -- No choice of gaps to sleep in draws less than `rowSlept` says, and one draws just that.
 use Prim.Native.Nat.{ℕ, zero, suc, _+_, _*_, _≤_, _<_}
 use mathlib.Core.Bool.{Bool, true, false, cond, _&&_}
+use mathlib.Core.Logic.{_↔_}
 use mathlib.Core.Path.{_≡_, refl, sym, ap, _∙_}
 use native.Mathlib.Nat.{mul-zero, le-refl, le-of-lt}
 use native.Mathlib.Omega.{arith}
-use borrow.Author.Tests.{leb-true, ltb-true, ltb-false, le-leb}
+use borrow.Author.Tests.{leb-true, ltb-true, ltb-false, le-leb, lt-ltb}
 use lib.Dec.{leb, ltb}
 use Rattle.laws.specs.CountLaws.{count-is-sum}
 use Rattle.laws.specs.Sums.{sum}
 use Rattle.laws.specs.SumLaws.{sum-mono, sum-scaled}
 use Rattle.laws.specs.Truth.{and-is-true, not-true-is-false}
-use Rattle.gaps.specs.Gaps.{Repeats, SomeBusy, gapEndingAt, overGaps}
+use Rattle.gaps.specs.Gaps.{Repeats, Gap, SomeBusy, gapEndingAt, overGaps}
 use Rattle.gaps.specs.GapLaws.{counted-is-gap, gap-is-counted}
 use Rattle.gaps.specs.GapSumLaws.{idleSlots, gap-sizes-add-up, no-gaps-without-busy-slot}
 use Rattle.gaps.specs.Sleeping.{gapEnergy, sleepsIn, energyIn, sleepIn, rowSlept, SleepChoice, chosenEnergy, chosenSleeps}
@@ -83,6 +84,15 @@ module _ (costs : SleepCosts) (busy : ℕ → Bool) (L : ℕ) (repeats : Repeats
             record { before = gap .0; size = gapEndingAt busy L t; is-gap = gap .1; not-shorter = worth .1 };
       }
 
+  pub worth-sleeping : (t : ℕ) {before size : ℕ} → Gap busy before size (L + t) →
+      (sleepsWhereWorth t ≡ true) ↔ ((costs .time ≤ size) × (costs .energy < costs .idle * size))
+  unfolding sleepsIn
+  worth-sleeping t {before} {size} gap =
+      rw (gap-is-counted repeats t gap) (
+        λ e. let both = and-is-true (leb (costs .time) size) _ .0 e in (leb-true _ _ (both .0), ltb-true _ _ (both .1)),
+        λ both. and-is-true (leb (costs .time) size) _ .1 (le-leb _ _ (both .0), lt-ltb _ _ (both .1)),
+      )
+
   pub its-energy : chosenEnergy costs busy L sleepsWhereWorth ≡ rowSlept costs busy L .energy
   unfolding rowSlept overGaps chosenEnergy energyIn
   its-energy = refl
@@ -101,3 +111,11 @@ pub no-energy-of-idle-row : (costs : SleepCosts) (busy : ℕ → Bool) (L : ℕ)
     chosenEnergy costs busy L (λ t. false) ≡ 0
 unfolding chosenEnergy gapEnergy overGaps
 no-energy-of-idle-row costs busy L idle = no-gaps-without-busy-slot (λ gap. costs .idle * gap) (mul-zero (costs .idle)) busy L idle
+
+pub idle-row-sleeps-not : (costs : SleepCosts) (busy : ℕ → Bool) (L : ℕ) → ((t : ℕ) → t < L → busy t ≡ false) →
+    (rowSlept costs busy L .energy ≡ 0) × (rowSlept costs busy L .sleeps ≡ 0)
+unfolding rowSlept
+idle-row-sleeps-not costs busy L idle = (
+  no-gaps-without-busy-slot (energyIn costs) (no-energy-in-no-gap costs) busy L idle,
+  no-gaps-without-busy-slot (sleepIn costs) (no-sleep-in-no-gap costs) busy L idle,
+)
