@@ -19,7 +19,7 @@ ghost use lib.ListN.{length, getD};
 ghost use Rattle.laws.specs.Search.{count};
 ghost use Rattle.instance.specs.Held.{Sound, problemIn};
 ghost use Rattle.plan_rules.specs.AllowedPlans.{AllowedPlan};
-ghost use Rattle.checks.specs.Checks.{slotsPass, jobsPass};
+ghost use Rattle.checks.specs.Checks.{check, slotsPass, jobsPass};
 ghost use Rattle.checks.specs.Outcomes.{checkOutcome, CheckingEnds};
 ghost use Rattle.checks.specs.HeldJobs.{jobsServed, taskServed};
 ghost use Rattle.checks.specs.HeldSlots.{isStray, slotsNamed};
@@ -176,6 +176,22 @@ fn jobs_pass(inst: Instance, plan: &[u32], table: &[Slot]) -> Verdict
     Verdict::Accepted
 }
 
+// The check of a table for an instance that was read.
+pub fn table_passes(inst: Instance, plan: &[u32], table: &[Slot]) -> Verdict
+    requires { ⌜ Sound inst ⌝ }
+    ensures { λ r. ⌜ r ≡ check (problemIn inst) (now (plan .entry)) (now (table .entry)) ⌝ }
+{
+    let choices = choices_pass(inst, plan);
+    let Verdict::Accepted = choices else {
+        return choices;
+    };
+    let slots = slots_pass(inst, plan, table);
+    let Verdict::Accepted = slots else {
+        return slots;
+    };
+    jobs_pass(inst, plan, table)
+}
+
 // Whether a table is one of the plan's for the instance: every kept job has its ticks between release and due tick, and
 // no other slot is taken.
 pub fn check_table(instance: &[u32], plan: &[u32], table: &[Slot]) -> Verdict
@@ -187,13 +203,5 @@ pub fn check_table(instance: &[u32], plan: &[u32], table: &[Slot]) -> Verdict
     let Verdict::Accepted = words else {
         return words;
     };
-    let choices = choices_pass(read.instance, plan);
-    let Verdict::Accepted = choices else {
-        return choices;
-    };
-    let slots = slots_pass(read.instance, plan, table);
-    let Verdict::Accepted = slots else {
-        return slots;
-    };
-    jobs_pass(read.instance, plan, table)
+    table_passes(read.instance, plan, table)
 }

@@ -2,3 +2,4 @@
 mod check;
 
 pub use check::check_table;
+pub use check::table_passes;

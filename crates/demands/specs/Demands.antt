@@ -27,7 +27,7 @@ use Rattle.text.specs.SpelledLaws.{AllWords, spelled-is-read-back}
 use Rattle.text.specs.Text.{wordsOf}
 use Rattle.instance.specs.Valid.{Valid, Writes}
 use Rattle.refusals.specs.declared.Refusal.{Refusal}
-use Rattle.refusals.specs.declared.Refusal.the-variants.{Text, WordCount, WordRange, SpanTooLong, NoPlan, ShortBuffer, GivenPlan, CoreOverloaded, GivenTable, JobSlots}
+use Rattle.refusals.specs.declared.Refusal.the-variants.{Text, WordCount, WordRange, SpanTooLong, NoPlan, ShortBuffer, GivenPlan, CoreOverloaded, GivenTable, JobSlots, SwitchingWord}
 use Rattle.refusals.specs.declared.Verdict.the-variants.{Accepted, Refused}
 use Rattle.text.specs.declared.TextRead.the-variants as TextRead
 use Rattle.drawings.specs.CheckTheorem.{check-accepts-exactly-drawings, check-accepts-exactly-drawn-tables}
@@ -57,9 +57,11 @@ use Rattle.planner.specs.Outcomes.{planOutcome}
 use Rattle.planner.specs.Planned.{NoDrawing, BestDrawing, Optimal}
 use Rattle.planner.specs.PlannedLaws.{planOutcome-is-planned}
 use Rattle.planner.specs.Planning.{bestPlan}
+use Rattle.sleep.specs.EndingLaws.{sleeping-ends}
+use Rattle.sleep.specs.Outcomes.{sleepOutcome, SleepingEnds}
 
 -- Demand 1. Every call comes to an end, whatever text, words, plan or table it is given. It does its work, or it returns the
--- number and the place of the refusal that document 01 has for that input, and then every buffer lent to it is as before.
+-- number and the place of the refusal that the papers have for that input, and then every buffer lent to it is as before.
 --
 -- Each call has the verdict of document 01's tests in their order: it returns one of the numbers that document 01 lists for it,
 -- or 0.
@@ -68,9 +70,11 @@ pub record RefusalsExact : Type 0 where
   pub numbers-and-places : (place : ℕ) →
       map (λ (r : Refusal). answerOf (Refused r))
       (Text place ∷ WordCount place ∷ WordRange place ∷ SpanTooLong place ∷ NoPlan
-      ∷ ShortBuffer place ∷ GivenPlan place ∷ CoreOverloaded place ∷ GivenTable place ∷ JobSlots place ∷ [])
+      ∷ ShortBuffer place ∷ GivenPlan place ∷ CoreOverloaded place ∷ GivenTable place ∷ JobSlots place
+      ∷ SwitchingWord place ∷ [])
       ≡ answer 1 place ∷ answer 2 place ∷ answer 3 place ∷ answer 4 place ∷ answer 5 0
-      ∷ answer 6 place ∷ answer 7 place ∷ answer 8 place ∷ answer 9 place ∷ answer 10 place ∷ []
+      ∷ answer 6 place ∷ answer 7 place ∷ answer 8 place ∷ answer 9 place ∷ answer 10 place
+      ∷ answer 11 place ∷ []
   pub no-other-refusals : (r : Refusal) → List·Memᴰ r (refusalsAt (placeOf r))
   -- "Turning text into words: 1, then 6."
   pub text : (text words : List ℕ) → let o = wordsOutcome text words in TextEnds text words (o .answer) (o .words)
@@ -86,6 +90,10 @@ pub record RefusalsExact : Type 0 where
   -- 2, 3, 4; then 6, "of several short ones, the plan's before the table's"; "5 comes last"
   pub planning : (words plan table : List ℕ) →
       let o = planOutcome words plan table in PlanningEnds words plan table (o .answer) (o .plan) (o .table)
+  -- document 02 (b): 2, 3, 4; then 11, "before 6"; then 6, "energies first"; then the check's own
+  pub sleeping : (words plan table : List ℕ) (energy time : ℕ) (energies sleeps : List ℕ) →
+      let o = sleepOutcome words plan table energy time energies sleeps in
+      SleepingEnds words plan table energy time energies sleeps (o .answer) (o .energies) (o .sleeps)
   -- none is turned down without need: words written out in base ten are taken from the text as they are, ..
   pub written-words-are-taken : (words : List ℕ) → AllWords words → length (spelled words) ≤ mostTextBytes →
       wordsOf (spelled words) ≡ accepted words
@@ -110,6 +118,7 @@ demand-1 =
       tabling = tabling-ends;
       checking = checking-ends;
       planning = planning-ends;
+      sleeping = sleeping-ends;
       written-words-are-taken = spelled-is-read-back;
       valid-instances-are-read = λ p words. valid-is-accepted;
       no-others-are-read = λ words p read. (accepted-is-valid words read, accepted-is-written words read);

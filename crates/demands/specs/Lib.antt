@@ -1,5 +1,6 @@
 pub mod ArithmeticLaws
 pub mod Demands
+pub mod SleepDemands
 pub mod TextCalls
 pub mod TextCallLaws
 pub mod TextEndingLaws

@@ -14,7 +14,7 @@ use Rattle.refusals.specs.Refusals.{Answer, numberOf, answerOf, Reading, room, 
 use Rattle.instance.specs.SiteFile.{problemOf}
 use Rattle.instance.specs.SiteFileLaws.{accepted-is-valid}
 use Rattle.refusals.specs.declared.Refusal.{Refusal}
-use Rattle.refusals.specs.declared.Refusal.the-variants.{Text, WordCount, WordRange, SpanTooLong, NoPlan, ShortBuffer, GivenPlan, CoreOverloaded, GivenTable, JobSlots}
+use Rattle.refusals.specs.declared.Refusal.the-variants.{Text, WordCount, WordRange, SpanTooLong, NoPlan, ShortBuffer, GivenPlan, CoreOverloaded, GivenTable, JobSlots, SwitchingWord}
 use Rattle.refusals.specs.declared.Verdict.{Verdict}
 use Rattle.refusals.specs.declared.Verdict.the-variants.{Accepted, Refused}
 use Rattle.text.specs.OutcomeLaws.{text-refuses-1}
@@ -107,6 +107,7 @@ number-5-is-no-plan (GivenPlan place) e = absurd (omega arith)
 number-5-is-no-plan (CoreOverloaded place) e = absurd (omega arith)
 number-5-is-no-plan (GivenTable place) e = absurd (omega arith)
 number-5-is-no-plan (JobSlots place) e = absurd (omega arith)
+number-5-is-no-plan (SwitchingWord place) e = absurd (omega arith)
 
 returns-5 : (given : Priced) → plannedOf given .refusal ≡ 5 → given ≡ Priced.Refused NoPlan
 returns-5 (Priced.Cost price) e = absurd (omega arith)

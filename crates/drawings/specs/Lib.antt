@@ -3,6 +3,7 @@ pub mod ExactSlotLaws
 pub mod DrawingLaws
 pub mod ServedRows
 pub mod ServedRowLaws
+pub mod BusySlotLaws
 pub mod CheckTheorem
 pub mod FitLaws
 pub mod TableRowLaws

@@ -1,20 +1,27 @@
 -- Laws of counts.
 use Prim.Native.Nat.{ℕ, zero, suc, _+_, _*_, _≤_, _<_, zero-le}
-use mathlib.Core.Bool.{Bool, true, false, cond}
-use mathlib.Core.Path.{_≡_, refl}
-use native.Mathlib.Nat.{le-step, le-refl, le-dest, add-zero, add-suc, mul-le-mul-right}
+use mathlib.Core.Bool.{Bool, true, false, cond, not}
+use mathlib.Core.Logic.{_⊎_, inl, inr}
+use mathlib.Core.Path.{_≡_, refl, _∙_}
+use native.Mathlib.Nat.{le-step, le-refl, le-dest, add-zero, add-suc, mul-le-mul-right, suc-mul, zero-mul}
 use native.Mathlib.Omega.{arith}
 use lib.Dec.{eqb}
-use borrow.Author.Tests.{eqb-true, ne-eqb}
+use borrow.Author.Tests.{eqb-true, eq-eqb, ne-eqb}
 use Rattle.laws.specs.Search.{count}
 use Rattle.laws.specs.Sums.{sum}
 use Rattle.laws.specs.SumLaws.{sum-add, sum-zero}
+use Rattle.laws.specs.SumOrderLaws.{sum-of-one-term}
 
 -- the first a, then the next b
 pub count-split : (p : ℕ → Bool) (a b : ℕ) → count p (a + b) ≡ count p a + count (λ x. p (a + x)) b
 unfolding count
 count-split p a zero = rw (add-zero a) (omega arith)
 count-split p a (suc b) = rw add-suc (omega (arith, count-split p a b))
+
+pub count-is-sum : (p : ℕ → Bool) (n : ℕ) → count p n ≡ sum (λ x. cond (p x) 1 0) n
+unfolding count sum
+count-is-sum p zero = refl
+count-is-sum p (suc n) = omega (arith, count-is-sum p n)
 
 pub count-mono : (p : ℕ → Bool) (m n : ℕ) → m ≤ n → count p m ≤ count p n
 count-mono p m n l = let rest = le-dest l in rw (← rest .1) (rw count-split (omega arith))
@@ -52,3 +59,55 @@ count-by-number slots n zero = omega (arith, sum-zero (λ i. 0) n (λ i l. refl)
 count-by-number slots n (suc x) =
     rw (sum-add (λ i. count (λ t. eqb (slots t) (suc i)) x) (λ i. cond (eqb (slots x) (suc i)) 1 0) n)
     (omega (arith, count-by-number slots n x, one-number (slots x) n))
+
+-- where some pass, one can be named
+pub some-counted : (p : ℕ → Bool) (n : ℕ) → 0 < count p n → (k : ℕ) × (k < n) × (p k ≡ true)
+unfolding count
+some-counted p zero above = absurd (omega arith)
+some-counted p (suc n) above = let earlier = some-counted p n in go (p n) refl earlier above
+  where
+    go : (b : Bool) → p n ≡ b → (0 < count p n → (k : ℕ) × (k < n) × (p k ≡ true)) → 0 < count p n + cond b 1 0 →
+        (k : ℕ) × (k < suc n) × (p k ≡ true)
+    go true e earlier above = (n, le-refl (suc n), e)
+    go false e earlier above = let found = earlier (omega arith) in (found .0, le-step (found .1), found .2)
+
+pub count-of-others : (p : ℕ → Bool) (n : ℕ) → count (λ x. not (p x)) n + count p n ≡ n
+unfolding count
+count-of-others p zero = refl
+count-of-others p (suc n) = go (p n) (count-of-others p n)
+  where
+    go : (b : Bool) → count (λ x. not (p x)) n + count p n ≡ n → (count (λ x. not (p x)) n + cond (not b) 1 0) + (count p n + cond b 1 0) ≡ suc n
+    go true before = omega arith
+    go false before = omega arith
+
+-- m periods, each with c
+pub count-of-periods : (q : ℕ → Bool) (p c m : ℕ) → ((j : ℕ) → j < m → count (λ x. q (j * p + x)) p ≡ c) → count q (m * p) ≡ m * c
+unfolding count
+count-of-periods q p c zero each = rw (zero-mul p) (omega arith)
+count-of-periods q p c (suc m) each =
+    let before = count-of-periods q p c m (λ j l. each j (le-step l)) in
+    rw suc-mul (omega (arith, count-split q (m * p) p, before, each m (le-refl (suc m))))
+
+-- a slot that holds one of the numbers 1 to n
+pub record Numbered (n v : ℕ) : Type 0 where
+  pub index : ℕ
+  pub within : index < n
+  pub is-next : v ≡ suc index
+
+numbered-once : (n v : ℕ) → (v ≡ 0) ⊎ Numbered n v → sum (λ i. cond (eqb v (suc i)) 1 0) n ≡ cond (not (eqb v 0)) 1 0
+numbered-once n v (inl none) =
+    rw (eq-eqb v 0 none) (sum-zero (λ i. cond (eqb v (suc i)) 1 0) n (λ i l. rw (ne-eqb v (suc i) (λ e. omega arith)) refl))
+numbered-once n v (inr some) =
+    sum-of-one-term (λ i. cond (eqb v (suc i)) 1 0) n (some .index) (some .within)
+    (λ j l other. rw (ne-eqb v (suc j) (λ e. other (omega (arith, some .is-next)))) refl)
+    ∙ rw (eq-eqb v (suc (some .index)) (some .is-next), ne-eqb v 0 (λ e. omega (arith, some .is-next))) refl
+
+-- the slots that hold a number, counted number by number
+pub count-of-numbered : (slots : ℕ → ℕ) (n x : ℕ) → ((t : ℕ) → t < x → (slots t ≡ 0) ⊎ Numbered n (slots t)) →
+    sum (λ i. count (λ t. eqb (slots t) (suc i)) x) n ≡ count (λ t. not (eqb (slots t) 0)) x
+unfolding count
+count-of-numbered slots n zero each = sum-zero (λ i. 0) n (λ i l. refl)
+count-of-numbered slots n (suc x) each =
+    let before = count-of-numbered slots n x (λ t l. each t (le-step l)) in
+    rw (sum-add (λ i. count (λ t. eqb (slots t) (suc i)) x) (λ i. cond (eqb (slots x) (suc i)) 1 0) n)
+    (omega (arith, before, numbered-once n (slots x) (each x (le-refl (suc x)))))

@@ -1,7 +1,7 @@
 -- Laws of finite sums.
 use Prim.Native.Nat.{ℕ, zero, suc, _+_, _*_, _≤_, _<_}
 use mathlib.Core.Path.{_≡_, refl}
-use native.Mathlib.Nat.{le-step, le-refl}
+use native.Mathlib.Nat.{le-step, le-refl, add-zero, add-suc}
 use native.Mathlib.Omega.{arith}
 use Rattle.laws.specs.Below.{below-suc}
 use Rattle.laws.specs.Sums.{sum}
@@ -52,3 +52,9 @@ pub sum-scaled : (c : ℕ) (f : ℕ → ℕ) (n : ℕ) → sum (λ i. c * f i) n
 unfolding sum
 sum-scaled c f zero = omega arith
 sum-scaled c f (suc n) = omega (arith, sum-scaled c f n)
+
+-- the first a, then the next b
+pub sum-split : (f : ℕ → ℕ) (a b : ℕ) → sum f (a + b) ≡ sum f a + sum (λ i. f (a + i)) b
+unfolding sum
+sum-split f a zero = rw add-zero (omega arith)
+sum-split f a (suc b) = rw add-suc (omega (arith, sum-split f a b))

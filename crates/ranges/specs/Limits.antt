@@ -1,4 +1,4 @@
--- The numbers of the papers, each once: of document 01's section 'Site file', of document 02 (a), and the largest span.
+-- The numbers of the papers, each once: of document 01's section 'Site file', of document 02 (a) and (b), and the largest span.
 use Prim.Native.Nat.{ℕ}
 
 -- "As text it is at most 4,096 bytes"
@@ -57,3 +57,10 @@ mayNotBeRefused = 4294967295
 -- "Span L: .. at most 4,096"
 abbrev pub mostSpan : ℕ
 mostSpan = 4096
+
+-- (b) "a switching energy (0 to 1,000,000) and a switching time (0 to 4,096 ticks)"
+abbrev pub mostSwitchingEnergy : ℕ
+mostSwitchingEnergy = 1000000
+
+abbrev pub mostSwitchingTime : ℕ
+mostSwitchingTime = 4096

@@ -1,5 +1,5 @@
 // The numbers of the papers that inputs are tested against, each once: the ranges of document 01's section 'Site file', and of
-// document 02 (a), and the largest span. And what follows from them.
+// document 02 (a) and (b), and the largest span. And what follows from them.
 
 pub const MOST_TEXT_BYTES: u32 = 4_096;
 
@@ -33,6 +33,10 @@ pub const MOST_PENALTY: u32 = 1_000_000;
 pub const MAY_NOT_BE_REFUSED: u32 = 4_294_967_295;
 
 pub const MOST_SPAN: u32 = 4_096;
+
+pub const MOST_SWITCHING_ENERGY: u32 = 1_000_000;
+
+pub const MOST_SWITCHING_TIME: u32 = 4_096;
 
 // The slots of the largest table.
 pub const MOST_TABLE: u32 = MOST_CORES * MOST_SPAN;

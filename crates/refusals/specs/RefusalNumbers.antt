@@ -1,4 +1,4 @@
--- Document 01's number and place of each refusal, and which of them a test can return.
+-- The papers' number and place of each refusal, and which of them a test can return.
 use Prim.Native.Nat.{ℕ, zero, suc, min, _<_}
 use mathlib.Core.Bool.{Bool, true, false, cond}
 use mathlib.Core.List.{List, [], _∷_, _++_, map, List·Memᴰ, List·Memᴰ·head, List·Memᴰ·tail, Memᴰ·append-left, Memᴰ·append-right}
@@ -9,14 +9,15 @@ use lib.ListN.{length, getD}
 use Rattle.laws.specs.Search.{first}
 use Rattle.refusals.specs.Refusals.{Reading, numberOf, placeOf, refusalsAt, answer, answerOf, room, _andThen_}
 use Rattle.refusals.specs.declared.Refusal.{Refusal}
-use Rattle.refusals.specs.declared.Refusal.the-variants.{Text, WordCount, WordRange, SpanTooLong, NoPlan, ShortBuffer, GivenPlan, CoreOverloaded, GivenTable, JobSlots}
+use Rattle.refusals.specs.declared.Refusal.the-variants.{Text, WordCount, WordRange, SpanTooLong, NoPlan, ShortBuffer, GivenPlan, CoreOverloaded, GivenTable, JobSlots, SwitchingWord}
 use Rattle.refusals.specs.declared.Verdict.{Verdict}
 use Rattle.refusals.specs.declared.Verdict.the-variants.{Accepted, Refused}
 
 pub numbers-and-places : (place : ℕ) →
     map (λ (r : Refusal). answerOf (Refused r)) (refusalsAt place)
     ≡ answer 1 place ∷ answer 2 place ∷ answer 3 place ∷ answer 4 place ∷ answer 5 0
-    ∷ answer 6 place ∷ answer 7 place ∷ answer 8 place ∷ answer 9 place ∷ answer 10 place ∷ []
+    ∷ answer 6 place ∷ answer 7 place ∷ answer 8 place ∷ answer 9 place ∷ answer 10 place
+    ∷ answer 11 place ∷ []
 numbers-and-places place = refl
 
 is-at : (rs : List Refusal) (k : ℕ) → k < length rs → List·Memᴰ (getD rs k NoPlan) rs
@@ -35,6 +36,7 @@ every-refusal-is-listed (GivenPlan place) = is-at (refusalsAt place) 6 (omega ar
 every-refusal-is-listed (CoreOverloaded place) = is-at (refusalsAt place) 7 (omega arith)
 every-refusal-is-listed (GivenTable place) = is-at (refusalsAt place) 8 (omega arith)
 every-refusal-is-listed (JobSlots place) = is-at (refusalsAt place) 9 (omega arith)
+every-refusal-is-listed (SwitchingWord place) = is-at (refusalsAt place) 10 (omega arith)
 
 pub number-above-zero : (r : Refusal) → 0 < numberOf r
 number-above-zero (Text place) = omega arith
@@ -47,6 +49,7 @@ number-above-zero (GivenPlan place) = omega arith
 number-above-zero (CoreOverloaded place) = omega arith
 number-above-zero (GivenTable place) = omega arith
 number-above-zero (JobSlots place) = omega arith
+number-above-zero (SwitchingWord place) = omega arith
 
 -- a verdict that is a refusal with one of these numbers, if it is one
 pub data RefusesOnly (numbers : List ℕ) : Verdict → Type 0 where
@@ -70,7 +73,7 @@ both-refuse (refuses m) next = refuses m
 
 -- the tests that refusals hang on
 module _ {numbers : List ℕ} (r : Refusal) (listed : List·Memᴰ (numberOf r) numbers) where
-  refuses-unless : (t : Bool) (next : Verdict) → RefusesOnly numbers next → RefusesOnly numbers (cond t next (Refused r))
+  pub refuses-unless : (t : Bool) (next : Verdict) → RefusesOnly numbers next → RefusesOnly numbers (cond t next (Refused r))
   refuses-unless true next h = h
   refuses-unless false next h = refuses listed
 

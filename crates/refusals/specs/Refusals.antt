@@ -1,11 +1,12 @@
--- The paper's section 'Refused input': the number of each refusal, and the place returned with it.
+-- Document 01's section 'Refused input', and the numbers that document 02 adds: the number of each refusal, and the place
+-- returned with it.
 use Prim.Native.Nat.{ℕ}
 use mathlib.Core.Bool.{cond}
 use mathlib.Core.List.{List, [], _∷_}
 use lib.Dec.{leb}
 use lib.ListN.{length}
 use Rattle.refusals.specs.declared.Refusal.{Refusal}
-use Rattle.refusals.specs.declared.Refusal.the-variants.{Text, WordCount, WordRange, SpanTooLong, NoPlan, ShortBuffer, GivenPlan, CoreOverloaded, GivenTable, JobSlots}
+use Rattle.refusals.specs.declared.Refusal.the-variants.{Text, WordCount, WordRange, SpanTooLong, NoPlan, ShortBuffer, GivenPlan, CoreOverloaded, GivenTable, JobSlots, SwitchingWord}
 use Rattle.refusals.specs.declared.Verdict.{Verdict}
 use Rattle.refusals.specs.declared.Verdict.the-variants.{Accepted, Refused}
 
@@ -30,6 +31,8 @@ numberOf (CoreOverloaded place) = 8
 numberOf (GivenTable place) = 9
 -- "a job has more or fewer slots than its ticks between release and due tick"
 numberOf (JobSlots place) = 10
+-- (b) "11, a switching word out of range, place 0 or 1"
+numberOf (SwitchingWord place) = 11
 
 abbrev pub placeOf : Refusal → ℕ
 placeOf (Text place) = place
@@ -42,12 +45,14 @@ placeOf (GivenPlan place) = place
 placeOf (CoreOverloaded place) = place
 placeOf (GivenTable place) = place
 placeOf (JobSlots place) = place
+placeOf (SwitchingWord place) = place
 
 -- every case of a refusal, with one place for all that have one
 abbrev pub refusalsAt : ℕ → List Refusal
 refusalsAt place =
     Text place ∷ WordCount place ∷ WordRange place ∷ SpanTooLong place ∷ NoPlan
-    ∷ ShortBuffer place ∷ GivenPlan place ∷ CoreOverloaded place ∷ GivenTable place ∷ JobSlots place ∷ []
+    ∷ ShortBuffer place ∷ GivenPlan place ∷ CoreOverloaded place ∷ GivenTable place ∷ JobSlots place
+    ∷ SwitchingWord place ∷ []
 
 -- the columns "Returned" and "Place returned with it"
 pub record Answer : Type 0 where

@@ -14,7 +14,7 @@ use Rattle.refusals.specs.declared.Refusal.{Refusal}
 use Rattle.refusals.specs.declared.Verdict.{Verdict}
 use Rattle.refusals.specs.declared.Verdict.the-variants.{Accepted, Refused}
 
-refused-not-accepted : (r : Refusal) → Refused r ≡ Accepted → ⊥
+pub refused-not-accepted : (r : Refusal) → Refused r ≡ Accepted → ⊥
 refused-not-accepted r e = let z : _≡_ {A = ℕ} 0 1 = cc in omega arith
 
 pub andThen-accepts : (a b : Verdict) → (a andThen b ≡ Accepted) ↔ ((a ≡ Accepted) × (b ≡ Accepted))

@@ -1,8 +1,9 @@
-// The refusals of document 01, each with its number and its place, and the verdict of a test.
+// The refusals of the papers, each with its number and its place, and the verdict of a test.
 ghost use mathlib.Core.Path.{_≡_};
 ghost use Rattle.refusals.specs.Refusals.{numberOf, placeOf};
 
-// Why an input is turned down, a case for each row of the paper's table of refusals, with its place.
+// Why an input is turned down, a case for each row of document 01's table of refusals and each number of document 02, with its
+// place.
 pub enum Refusal {
     Text(usize),
     WordCount(usize),
@@ -14,6 +15,7 @@ pub enum Refusal {
     CoreOverloaded(usize),
     GivenTable(usize),
     JobSlots(usize),
+    SwitchingWord(usize),
 }
 
 pub enum Verdict {
@@ -36,6 +38,7 @@ pub fn refusal_number(refusal: Refusal) -> u64
         Refusal::CoreOverloaded(_) => return 8,
         Refusal::GivenTable(_) => return 9,
         Refusal::JobSlots(_) => return 10,
+        Refusal::SwitchingWord(_) => return 11,
     }
 }
 
@@ -52,7 +55,8 @@ pub fn refusal_place(refusal: Refusal) -> u64
         | Refusal::GivenPlan(place)
         | Refusal::CoreOverloaded(place)
         | Refusal::GivenTable(place)
-        | Refusal::JobSlots(place) => return place as u64,
+        | Refusal::JobSlots(place)
+        | Refusal::SwitchingWord(place) => return place as u64,
         Refusal::NoPlan => return 0,
     }
 }

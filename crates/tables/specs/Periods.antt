@@ -24,7 +24,7 @@ module _ (p : Problem) (periodic : Periodic p) where
   pub period-positive : (i : ℕ) → i < taskCount p → 0 < taskAt p i .period
   period-positive i h = pos-of-dvd-of-pos (periodic .period-divides-span i h) (periodic .span-positive)
 
-  jobs-fill-span : (i : ℕ) → i < taskCount p → jobs p i * taskAt p i .period ≡ span p
+  pub jobs-fill-span : (i : ℕ) → i < taskCount p → jobs p i * taskAt p i .period ≡ span p
   unfolding jobs
   jobs-fill-span i h = div-mul-cancel (taskAt p i .period) (periodic .period-divides-span i h)
 

@@ -2,6 +2,8 @@
 use crate::numbers::MOST_NUMBERS;
 use crate::numbers::words_of;
 use crate::plans;
+use crate::sleeping;
+use ranges::Slot;
 
 pub(crate) fn run(kind: u8, site: &[u8], given: &[u8]) {
     let mut words = [0; MOST_NUMBERS];
@@ -37,20 +39,34 @@ fn run_kind(kind: u8, words: &[u32], given: &[u32]) {
             plans::table(words, given[0], &given[1..]);
         }
         if kind == b'C' {
-            run_check(words, given[0], &given[1..]);
+            run_table(words, &given[0..0], given[0], &given[1..]);
+        }
+    }
+    if kind == b'G' {
+        if 5 <= given.len() {
+            run_table(words, &given[0..4], given[4], &given[5..]);
         }
     }
 }
 
 // The first so many numbers are a plan, those after it a table.
-fn run_check(words: &[u32], choices: u32, given: &[u32]) {
+fn run_table(words: &[u32], front: &[u32], choices: u32, given: &[u32]) {
     let n = choices as usize;
     if n <= given.len() {
-        check_slots(words, &given[0..n], &given[n..]);
+        run_slots(words, front, &given[0..n], &given[n..]);
     }
 }
 
-fn check_slots(words: &[u32], plan: &[u32], table: &[u32]) {
+// The table is checked, or its gaps are reckoned, where the line begins with numbers for that.
+fn run_given(words: &[u32], front: &[u32], plan: &[u32], table: &[Slot]) {
+    if front.len() == 0 {
+        plans::check(words, plan, table);
+    } else {
+        sleeping::reckon(words, front, plan, table);
+    }
+}
+
+fn run_slots(words: &[u32], front: &[u32], plan: &[u32], table: &[u32]) {
     let mut slots = [0; MOST_NUMBERS];
     let n = table.len();
     if MOST_NUMBERS < n {
@@ -58,8 +74,8 @@ fn check_slots(words: &[u32], plan: &[u32], table: &[u32]) {
     }
     let mut i = 0;
     while i < n {
-        slots[i] = (table[i] % 256) as ranges::Slot;
+        slots[i] = (table[i] % 256) as Slot;
         i += 1;
     }
-    plans::check(words, plan, &slots[0..n]);
+    run_given(words, front, plan, &slots[0..n]);
 }

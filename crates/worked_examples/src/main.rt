@@ -9,6 +9,7 @@ mod plans;
 mod reading;
 mod runs;
 mod show;
+mod sleeping;
 mod small;
 mod texts;
 

@@ -22,7 +22,7 @@ pub(crate) fn price(words: &[u32], plan: &[u32]) {
     }
 }
 
-fn print_verdict(verdict: Verdict, accepted: &[u8]) {
+pub(crate) fn print_verdict(verdict: Verdict, accepted: &[u8]) {
     match verdict {
         Verdict::Accepted => print(accepted),
         Verdict::Refused(r) => show::refusal(r),

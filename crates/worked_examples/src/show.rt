@@ -21,6 +21,18 @@ pub(crate) fn words(words: &[u32]) {
     }
 }
 
+fn print_amount(amount: u64) {
+    print_field(b" ", amount);
+}
+
+pub(crate) fn amounts(amounts: &[u64]) {
+    let mut i = 0;
+    while i < amounts.len() {
+        print_amount(amounts[i]);
+        i += 1;
+    }
+}
+
 fn print_slot(slot: Slot) {
     print_field(b" ", slot as u64);
 }

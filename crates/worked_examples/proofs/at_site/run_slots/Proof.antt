@@ -2,14 +2,14 @@ use mathlib.Core.Path.{_≡_}
 use lib.ListN.{length}
 use borrow.Author.Needs.{needs}
 use Prim.Native.Nat.{_≤_, _-_}
-use Rattle.worked_examples.proofs.at_site.check_slots.Statement.{statement}
-use Rattle.worked_examples.proofs.at_site.check_slots.Tie as tie
+use Rattle.worked_examples.proofs.at_site.run_slots.Statement.{statement}
+use Rattle.worked_examples.proofs.at_site.run_slots.Tie as tie
 
 abbrev Inv-loop : tie.InvT-loop
-Inv-loop words plan table slots₀ n i₀ slots i = (i ≤ n) × (length slots ≡ 64)
+Inv-loop words front plan table slots₀ n i₀ slots i = (i ≤ n) × (length slots ≡ 64)
 
 abbrev μ-loop : tie.MeasureT-loop
-μ-loop words plan table slots₀ n i₀ slots i = n - i
+μ-loop words front plan table slots₀ n i₀ slots i = n - i
 
 returns : tie.Need-returns Inv-loop μ-loop
 returns c = search needs
@@ -38,23 +38,23 @@ loop-less c = search needs
 loop-again : tie.Need-loop-again Inv-loop μ-loop
 loop-again c = search needs
 
-sub-check : tie.Need-sub-check Inv-loop μ-loop
-sub-check c = search needs
+sub-run-given : tie.Need-sub-run-given Inv-loop μ-loop
+sub-run-given c = search needs
 
-part-check-start : tie.Need-part-check-start Inv-loop μ-loop
-part-check-start c = search needs
+part-run-given-start : tie.Need-part-run-given-start Inv-loop μ-loop
+part-run-given-start c = search needs
 
-part-check-end : tie.Need-part-check-end Inv-loop μ-loop
-part-check-end c = search needs
+part-run-given-end : tie.Need-part-run-given-end Inv-loop μ-loop
+part-run-given-end c = search needs
 
-check-requires : tie.Need-check-requires Inv-loop μ-loop
-check-requires c κs = search needs
+run-given-requires : tie.Need-run-given-requires Inv-loop μ-loop
+run-given-requires c κs = search needs
 
 returns-2 : tie.Need-returns-2 Inv-loop μ-loop
 returns-2 c = search needs
 
-pub check-slots-spec : {M : Type 1} → statement M
-check-slots-spec =
+pub run-slots-spec : {M : Type 1} → statement M
+run-slots-spec =
     tie.close
     (tie.spec
     Inv-loop
@@ -68,8 +68,8 @@ check-slots-spec =
     add-i
     loop-less
     loop-again
-    sub-check
-    part-check-start
-    part-check-end
-    check-requires
+    sub-run-given
+    part-run-given-start
+    part-run-given-end
+    run-given-requires
     returns-2)

@@ -1,0 +1,11 @@
+pub mod Rows
+pub mod RowWalks
+pub mod CoreSleeps
+pub mod Outcomes
+pub mod EndingLaws
+pub mod OutcomeLaws
+pub mod RowWalkLaws
+pub mod RowLaws
+pub mod HeldSleeps
+pub mod SwitchingLaws
+pub mod CoreGapLaws
