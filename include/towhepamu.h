@@ -4,8 +4,9 @@
  * A site file says which cores and clock levels a node has and which tasks wait for them. Reading
  * tells whether a text is one. Planning decides which task runs on which core at which level and
  * which is refused, at the least cost, and draws the slot table of every core. Checking tells
- * whether a given plan and table serve every job. Listing writes the best plan and its table as
- * lines of text.
+ * whether a given plan and table serve every job. Reckoning sleeps tells what the gaps of such a
+ * table are worth where a core may be switched off in them. Listing writes the best plan and its
+ * table as lines of text.
  *
  * A site file is text, numbers in base ten parted by spaces and line feeds:
  *   3 or 4, energy weight 1 to 1,000, penalty weight 1 to 1,000, cores 1 to 4; after a 4 also idle
@@ -51,6 +52,10 @@ extern "C" {
 /* Four cores of 4,096 slots: a table buffer of this length is never too short. */
 #define TOWHEPAMU_MOST_TABLE_BYTES (4 * 4096)
 
+/* The most energy that switching a core off and on again may take, and the most ticks. */
+#define TOWHEPAMU_MOST_SWITCHING_ENERGY 1000000
+#define TOWHEPAMU_MOST_SWITCHING_TIME 4096
+
 /* No site has a longer listing, in bytes: a listing's buffer must have this length. */
 #define TOWHEPAMU_MOST_LISTING_BYTES 51200
 
@@ -84,7 +89,8 @@ enum towhepamu_refusal {
     /* No plan keeps every task that may not be refused with all cores fitting. Place: 0. */
     TOWHEPAMU_NO_PLAN = 5,
 
-    /* A lent result buffer is too short. Place: the length that it needs, in bytes. */
+    /* A lent result buffer is too short. Place: the length that it needs: in bytes, but for the two
+       lists of towhepamu_sleep in entries. */
     TOWHEPAMU_BUFFER = 6,
 
     /* The given plan has another length than there are tasks; or a choice is above cores x levels,
@@ -103,7 +109,11 @@ enum towhepamu_refusal {
 
     /* A job has more or fewer slots than its ticks between its release and its due tick. Place: the
        number of the lowest such task, from 1. */
-    TOWHEPAMU_JOB = 10
+    TOWHEPAMU_JOB = 10,
+
+    /* A switching word out of range. Place: 0 for an energy above 1,000,000, 1 for a time above
+       4,096. */
+    TOWHEPAMU_SWITCHING = 11
 };
 
 /* What reading answers. Where it refuses, tasks, levels, cores and span are 0. */
@@ -125,7 +135,7 @@ typedef struct {
     uint64_t cost;    /* energy weight x energy + penalty weight x penalty */
 } towhepamu_planned;
 
-/* What checking answers. */
+/* What checking answers, and reckoning sleeps. */
 typedef struct {
     uint64_t refusal; /* an enum towhepamu_refusal; 0 where plan and table pass */
     uint64_t place;   /* what the refusal says of it; 0 where plan and table pass */
@@ -144,7 +154,8 @@ typedef struct {
  * byte a slot, the span's slots of core 1 first, then those of core 2 and so on: the task that runs
  * in that tick, from 1, or 0 for an idle tick.
  *
- * Every pointer points to as many bytes as its length says and is not null, even where that is 0.
+ * Every pointer points to as many bytes, or entries of a list, as its length says, is aligned for
+ * them and is not null, even where that length is 0.
  * A result buffer overlaps no other buffer of the call.
  */
 
@@ -179,6 +190,27 @@ towhepamu_planned towhepamu_plan(const uint8_t *text, size_t text_len, uint8_t *
  */
 towhepamu_checked towhepamu_check(const uint8_t *text, size_t text_len, const uint8_t *plan,
                                   size_t plan_len, const uint8_t *table, size_t table_len);
+
+/*
+ * Reckons, for a given plan and table that pass the check, the least idle energy of each core in
+ * one span and how often it then sleeps, where switching a core off and on again takes
+ * `switching_energy` and `switching_time` ticks. A gap is a longest run of idle slots of a core,
+ * joined across the end of the span, because the row repeats. A core sleeps in a gap exactly when
+ * the gap is no shorter than the switching time and idle power x its length exceeds the switching
+ * energy; it then draws the switching energy there, else idle power x length. An off core has 0 and
+ * 0. The energies are not weighted.
+ *
+ * Tested in this order: TEXT; then, number by number, WORDS, RANGE and SPAN; SWITCHING, the energy
+ * before the time; BUFFER, that of `energies` before that of `sleeps`, each of which needs an entry
+ * for each core; CHOICES and SLOTS, each with the length first; JOB. A refused call stores nothing
+ * in `energies` and `sleeps`. An accepted one stores one entry for each core in both, from the
+ * front, core 1 first. Into all other entries nothing is stored, not even what stands there.
+ */
+towhepamu_checked towhepamu_sleep(const uint8_t *text, size_t text_len, const uint8_t *plan,
+                                  size_t plan_len, const uint8_t *table, size_t table_len,
+                                  uint32_t switching_energy, uint32_t switching_time,
+                                  uint64_t *energies, size_t energies_len, uint32_t *sleeps,
+                                  size_t sleeps_len);
 
 /*
  * Lists the plan of the site of `text`, as lines of text that each end with a line feed, in this

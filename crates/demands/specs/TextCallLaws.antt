@@ -34,9 +34,11 @@ use Rattle.planner.specs.Endings.{planFound}
 use Rattle.planner.specs.Outcomes.{planOutcome}
 use Rattle.planner.specs.Planned.{Optimal}
 use Rattle.planner.specs.Planning.{bestPlan}
-use Rattle.towhepamu.specs.CallOutcomes.{plannedOf, checkedOf, textPlanOutcome, textPlanOutcomeOf, textCheckOutcome, textCheckOutcomeOf}
+use Rattle.sleep.specs.EndingLaws.{sleeping-ends}
+use Rattle.sleep.specs.Outcomes.{sleepTests}
+use Rattle.towhepamu.specs.CallOutcomes.{plannedOf, checkedOf, textPlanOutcome, textPlanOutcomeOf, textCheckOutcome, textCheckOutcomeOf, textSleepOutcome, textSleepOutcomeOf}
 use Rattle.listings.specs.Listing.{listingOfPlan, listingOfProblem, listingOfWords, listingOf}
-use Rattle.demands.specs.TextCalls.{WritesProblem, TextPlanningEnds, TextCheckingEnds, answerPlanned, answerChecked, OptimalNumbers, Prints}
+use Rattle.demands.specs.TextCalls.{WritesProblem, TextPlanningEnds, TextCheckingEnds, TextSleepingEnds, answerPlanned, answerChecked, OptimalNumbers, Prints}
 
 -- a call that may return one number more
 one-more-number : {n : ℕ} {numbers : List ℕ} {buffers : List Lent} {a : Answer} →
@@ -84,6 +86,28 @@ text-checking-ends text plan table = go (text-refuses-1 text)
         (textCheckOutcomeOf reading plan table)
     go (read words) = may-return (checking-ends words plan table)
     go (unread m) = turns-down (Memᴰ·append-left (2 ∷ 3 ∷ 4 ∷ 7 ∷ 9 ∷ 10 ∷ []) m) tt
+
+pub text-sleeping-ends : (text plan table : List ℕ) (energy time : ℕ) (energies sleeps : List ℕ) →
+    let o = textSleepOutcome text plan table energy time energies sleeps in
+    TextSleepingEnds text plan table energy time energies sleeps (o .answer) (o .energies) (o .sleeps)
+unfolding textSleepOutcome
+text-sleeping-ends text plan table energy time energies sleeps = go (text-refuses-1 text)
+  where
+    cores : Reading (List ℕ) → ℕ
+    cores reading = neededFor (λ words. neededFor (λ p. p .cores) (problemOf words)) reading
+
+    tests : Problem → Verdict
+    tests p = sleepTests p plan table energy time energies sleeps
+
+    go : {reading : Reading (List ℕ)} → UnreadOnly (1 ∷ []) reading →
+        let o = textSleepOutcomeOf reading plan table energy time energies sleeps in
+        Ends
+        (readThen reading (λ words. readThen (problemOf words) tests))
+        (1 ∷ 2 ∷ 3 ∷ 4 ∷ 11 ∷ 6 ∷ 7 ∷ 9 ∷ 10 ∷ [])
+        (lent (cores reading) energies (o .energies) ∷ lent (cores reading) sleeps (o .sleeps) ∷ [])
+        (o .answer)
+    go (read words) = may-return (sleeping-ends words plan table energy time energies sleeps)
+    go (unread m) = turns-down (Memᴰ·append-left (2 ∷ 3 ∷ 4 ∷ 11 ∷ 6 ∷ 7 ∷ 9 ∷ 10 ∷ []) m) (unchanged, (unchanged, tt))
 
 -- the numbers that the C entries return are those of the verdict
 

@@ -1,5 +1,5 @@
--- What is promised of the calls that are given text: reading, planning, the check and the listing from C, and what is printed. "In any other call that
--- is given text, 1 comes before all the rest."
+-- What is promised of the calls that are given text: reading, planning, the check, the reckoning of sleeps and the listing from C, and
+-- what is printed. "In any other call that is given text, 1 comes before all the rest."
 use Prim.Native.Nat.{ℕ}
 use mathlib.Core.List.{List, [], _∷_}
 use mathlib.Core.Logic.{_↔_}
@@ -23,6 +23,7 @@ use Rattle.prices.specs.declared.amounts.Priced.the-variants as Priced
 use Rattle.planner.specs.Endings.{planFound}
 use Rattle.planner.specs.Planned.{NoDrawing, BestDrawing}
 use Rattle.planner.specs.Planning.{bestPlan}
+use Rattle.sleep.specs.Outcomes.{sleepTests}
 use Rattle.towhepamu.specs.CallOutcomes.{plannedOf}
 use Rattle.towhepamu.specs.declared.answers.Checked.{Checked}
 use Rattle.towhepamu.specs.declared.answers.Listed.{Listed}
@@ -71,6 +72,17 @@ TextCheckingEnds text plan table =
     (textThen text (λ p. choicesPass p plan andThen slotsPass p plan table andThen jobsPass p plan table))
     (1 ∷ 2 ∷ 3 ∷ 4 ∷ 7 ∷ 9 ∷ 10 ∷ [])
     []
+
+-- 1; 2, 3, 4; then 11; then 6, the energies' before the sleeps'; then 7, 9 and 10
+abbrev pub TextSleepingEnds : (text plan table : List ℕ) → (energy time : ℕ) → (energies sleeps : List ℕ) →
+    Verdict → (energiesAfter sleepsAfter : List ℕ) → Type 0
+TextSleepingEnds text plan table energy time energies sleeps given energiesAfter sleepsAfter =
+    let cores = neededForText (λ p. p .cores) text in
+    Ends
+    (textThen text (λ p. sleepTests p plan table energy time energies sleeps))
+    (1 ∷ 2 ∷ 3 ∷ 4 ∷ 11 ∷ 6 ∷ 7 ∷ 9 ∷ 10 ∷ [])
+    (lent cores energies energiesAfter ∷ lent cores sleeps sleepsAfter ∷ [])
+    given
 
 -- 1; 2, 3, 4; then 6, for which the longest listing of all counts; then 5
 abbrev pub TextListingEnds : List ℕ → List ℕ → PlanListed → List ℕ → Type 0

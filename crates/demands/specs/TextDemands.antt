@@ -1,6 +1,6 @@
--- The demands of the calls that are given text: `towhepamu_read`, `towhepamu_plan`, `towhepamu_check` and `towhepamu_list`,
--- which a program in C calls, and `list_site`, whose bytes the listing program prints. Their contracts equate what they return
--- and write with the outcomes named here.
+-- The demands of the calls that are given text: `towhepamu_read`, `towhepamu_plan`, `towhepamu_check`, `towhepamu_sleep` and
+-- `towhepamu_list`, which a program in C calls, and `list_site`, whose bytes the listing program prints. Their contracts equate
+-- what they return and write with the outcomes named here.
 use Prim.Native.Nat.{ℕ, _≤_}
 use mathlib.Core.List.{List}
 use mathlib.Core.Logic.{_↔_}
@@ -12,15 +12,15 @@ use Rattle.drawings.specs.Drawings.{Drawing}
 use Rattle.prices.specs.Outcomes.{priceVerdict}
 use Rattle.tables.specs.Tables.{tableSize}
 use Rattle.demands.specs.Demands.{demand-3}
-use Rattle.towhepamu.specs.CallOutcomes.{siteOf, plannedOf, checkedOf, listedOf, textReadOutcome, textPlanOutcome, textCheckOutcome}
+use Rattle.towhepamu.specs.CallOutcomes.{siteOf, plannedOf, checkedOf, listedOf, textReadOutcome, textPlanOutcome, textCheckOutcome, textSleepOutcome}
 use Rattle.listings.specs.Listing.{listingOf}
 use Rattle.listings.specs.Outcomes.{listOutcome, listVerdict}
-use Rattle.demands.specs.TextCallLaws.{text-planning-ends, text-checking-ends, planning-returns, checking-returns, optimal-numbers, listing-prints, planned-as-words, checked-as-words, passes-iff}
-use Rattle.demands.specs.TextCalls.{WritesProblem, readVerdict, TextReadingEnds, TextPlanningEnds, TextCheckingEnds, TextListingEnds, answerSite, answerPlanned, answerChecked, answerListed, OptimalNumbers, Prints}
+use Rattle.demands.specs.TextCallLaws.{text-planning-ends, text-checking-ends, text-sleeping-ends, planning-returns, checking-returns, optimal-numbers, listing-prints, planned-as-words, checked-as-words, passes-iff}
+use Rattle.demands.specs.TextCalls.{WritesProblem, readVerdict, TextReadingEnds, TextPlanningEnds, TextCheckingEnds, TextSleepingEnds, TextListingEnds, answerSite, answerPlanned, answerChecked, answerListed, OptimalNumbers, Prints}
 use Rattle.demands.specs.TextEndingLaws.{text-reading-ends, text-listing-ends, reading-returns, listing-returns}
 
 -- Demand 1. Whatever text, plan and table it is given, each of these calls does its work or returns the number and place of
--- the first refusal that document 01 has for that input, 1 before all the rest; and then every lent buffer is as before.
+-- the first refusal that the papers have for that input, 1 before all the rest; and then every lent buffer is as before.
 pub record TextRefusalsExact : Type 0 where
   -- reading from C: 1; 2, 3, 4
   pub reading : (text : List ℕ) → TextReadingEnds text (readVerdict (textReadOutcome text))
@@ -36,6 +36,12 @@ pub record TextRefusalsExact : Type 0 where
   pub checking : (text plan table : List ℕ) → TextCheckingEnds text plan table (textCheckOutcome text plan table)
   pub checking-numbers : (text plan table : List ℕ) →
       let v = textCheckOutcome text plan table in answerChecked (checkedOf v) ≡ answerOf v
+  -- the reckoning of sleeps from C: 1; 2, 3, 4; 11; 6; 7; 9; 10
+  pub sleeping : (text plan table : List ℕ) (energy time : ℕ) (energies sleeps : List ℕ) →
+      let o = textSleepOutcome text plan table energy time energies sleeps in
+      TextSleepingEnds text plan table energy time energies sleeps (o .answer) (o .energies) (o .sleeps)
+  pub sleeping-numbers : (text plan table : List ℕ) (energy time : ℕ) (energies sleeps : List ℕ) →
+      let v = textSleepOutcome text plan table energy time energies sleeps .answer in answerChecked (checkedOf v) ≡ answerOf v
   -- the listing from C: 1; 2, 3, 4; 6; 5
   pub listing : (text out : List ℕ) → let o = listOutcome text out in TextListingEnds text out (o .answer) (o .out)
   pub listing-numbers : (text out : List ℕ) →
@@ -52,6 +58,9 @@ demand-1-of-text =
       planning-numbers = λ text plan table. planning-returns (textPlanOutcome text plan table .answer);
       checking = text-checking-ends;
       checking-numbers = λ text plan table. checking-returns (textCheckOutcome text plan table);
+      sleeping = text-sleeping-ends;
+      sleeping-numbers = λ text plan table energy time energies sleeps.
+          checking-returns (textSleepOutcome text plan table energy time energies sleeps .answer);
       listing = text-listing-ends;
       listing-numbers = λ text out. listing-returns (listOutcome text out .answer);
       printing = listing-prints;

@@ -10,6 +10,7 @@ use Rattle.instance.specs.SiteFile.{problemOf}
 use Rattle.refusals.specs.declared.Verdict.{Verdict}
 use Rattle.refusals.specs.declared.Verdict.the-variants.{Accepted, Refused}
 use Rattle.checks.specs.Outcomes.{checkOutcome}
+use Rattle.sleep.specs.Outcomes.{SleepOutcome, sleepOutcome}
 use Rattle.prices.specs.declared.amounts.Priced.{Priced}
 use Rattle.prices.specs.declared.amounts.Priced.the-variants as Priced
 use Rattle.planner.specs.Outcomes.{PlanOutcome, planRefused, planOutcome}
@@ -62,3 +63,13 @@ textCheckOutcomeOf (accepted words) plan table = checkOutcome words plan table
 
 unfoldable pub textCheckOutcome : List ℕ → List ℕ → List ℕ → Verdict
 textCheckOutcome text plan table = textCheckOutcomeOf (wordsOf text) plan table
+
+abbrev pub textSleepOutcomeOf : Reading (List ℕ) → (plan table : List ℕ) → (energy time : ℕ) → (energies sleeps : List ℕ) → SleepOutcome
+textSleepOutcomeOf (refused r) plan table energy time energies sleeps =
+    record { answer = Refused r; energies = energies; sleeps = sleeps }
+textSleepOutcomeOf (accepted words) plan table energy time energies sleeps =
+    sleepOutcome words plan table energy time energies sleeps
+
+unfoldable pub textSleepOutcome : (text plan table : List ℕ) → (energy time : ℕ) → (energies sleeps : List ℕ) → SleepOutcome
+textSleepOutcome text plan table energy time energies sleeps =
+    textSleepOutcomeOf (wordsOf text) plan table energy time energies sleeps

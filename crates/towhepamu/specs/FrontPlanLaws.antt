@@ -1,8 +1,9 @@
--- An instance has at most 12 tasks, so no more than the front of a given plan matters to the check.
+-- An instance has at most 12 tasks, so no more than the front of a given plan matters to the check, nor to the reckoning
+-- of sleeps, which takes a plan to the check alone.
 use Prim.Native.Nat.{ℕ, min, _<_}
 use mathlib.Core.Bool.{Bool, true, false}
 use mathlib.Core.List.{List}
-use mathlib.Core.Path.{_≡_, refl, sym}
+use mathlib.Core.Path.{_≡_, refl, sym, ap}
 use native.Mathlib.Omega.{arith}
 use borrow.Author.Tests.{leb-true, leb-false}
 use lib.Dec.{leb}
@@ -11,15 +12,18 @@ use lib.Seq.{take-all, take-at, length-take-le}
 use Rattle.laws.specs.Lists.{onto}
 use Rattle.ranges.specs.Limits.{mostTasks}
 use Rattle.instance.specs.Node.{Problem, taskCount}
-use Rattle.refusals.specs.Refusals.{Reading, refused, accepted}
+use Rattle.refusals.specs.Refusals.{Reading, refused, accepted, _andThen_}
 use Rattle.instance.specs.SiteFile.{problemOf}
 use Rattle.instance.specs.SiteFileLaws.{accepted-is-valid}
 use Rattle.refusals.specs.declared.Refusal.the-variants.{GivenPlan}
+use Rattle.refusals.specs.declared.Verdict.{Verdict}
 use Rattle.refusals.specs.declared.Verdict.the-variants.{Refused}
 use Rattle.checks.specs.Checks.{check}
 use Rattle.checks.specs.Outcomes.{checkOutcomeOf, checkOutcome}
 use Rattle.plan_rules.specs.Plans.{choicesPass}
 use Rattle.refusals.specs.VerdictLaws.{longer-is-refused}
+use Rattle.sleep.specs.CoreSleeps.{switchingPasses, leastEnergies, sleepCounts}
+use Rattle.sleep.specs.Outcomes.{Gives, roomForBoth, sleepWhere, sleepOutcomeOf, sleepOutcome}
 
 longer-plan-is-refused : (p : Problem) (plan : List ℕ) → taskCount p < length plan →
     choicesPass p plan ≡ Refused (GivenPlan (taskCount p))
@@ -63,3 +67,23 @@ module _ (plan : List ℕ) (k m : ℕ) (cut : m ≡ min (length plan) k) where
       checkOutcome words (take m choices) table ≡ checkOutcome words plan table
   copied-plan-is-checked words table blank choices long copied =
       rw (front-of-copy blank choices copied) (checkOutcome-of-front words table long)
+
+  module _ (words table : List ℕ) (energy time : ℕ) (energies sleeps : List ℕ) (long : mostTasks < k) where
+    sleepOutcome-of-front : sleepOutcome words (take m plan) table energy time energies sleeps ≡ sleepOutcome words plan table energy time energies sleeps
+    unfolding sleepOutcome
+    sleepOutcome-of-front = go (problemOf words) refl
+      where
+        go : (reading : Reading Problem) → problemOf words ≡ reading →
+            sleepOutcomeOf reading (take m plan) table energy time energies sleeps ≡ sleepOutcomeOf reading plan table energy time energies sleeps
+        go (refused r) e = refl
+        go (accepted p) e =
+            ap (λ (v : Verdict). sleepWhere (switchingPasses energy time andThen roomForBoth p energies sleeps andThen v)
+            (leastEnergies p table energy time) (sleepCounts p table energy time) energies sleeps)
+            (check-of-front p table (omega (arith, accepted-is-valid words e .task-count)))
+
+    pub copied-plan-gives-sleeps : (blank choices : List ℕ) → choices ≡ onto (take m plan) blank →
+        {answer : Verdict} {energiesAfter sleepsAfter : List ℕ} →
+        Gives answer energiesAfter sleepsAfter (sleepOutcome words (take m choices) table energy time energies sleeps) →
+        Gives answer energiesAfter sleepsAfter (sleepOutcome words plan table energy time energies sleeps)
+    copied-plan-gives-sleeps blank choices copied given =
+        rw (← sleepOutcome-of-front, ← front-of-copy blank choices copied) given

@@ -1,10 +1,11 @@
-// Reading, planning, checking and listing for a program in C, over the bytes of a text: a choice is one byte there, and so is a slot.
+// Reading, planning, checking, reckoning sleeps and listing for a program in C, over the bytes of a text: a choice is one byte there, and so is a slot.
 mod answers;
 mod checking;
 mod choices;
 mod listing;
 mod planning;
 mod reading;
+mod sleeping;
 
 pub use answers::Checked;
 pub use answers::Listed;
@@ -14,3 +15,4 @@ pub use checking::towhepamu_check;
 pub use listing::towhepamu_list;
 pub use planning::towhepamu_plan;
 pub use reading::towhepamu_read;
+pub use sleeping::towhepamu_sleep;
