@@ -49,9 +49,8 @@ static void test_known(const known_sleep *known) {
     }
     for (size_t c = 0; c < LENT; c++)
         expect(energies[c] == 7 && sleeps[c] == 7, "as before", known->name);
-    towhepamu_checked answer =
-        reference_sleep(text, len, plan, tasks, table, slots, known->energy, known->time, energies,
-                        LENT, sleeps, LENT);
+    towhepamu_checked answer = reference_sleep(text, len, plan, tasks, table, slots, known->energy,
+                                               known->time, energies, LENT, sleeps, LENT);
     expect(answer.refusal == known->answer.refusal && answer.place == known->answer.place,
            "the answer", known->name);
     for (size_t c = 0; c < LENT; c++) {

@@ -1,7 +1,7 @@
 /*
- * Sleeping in the archive against the reference, on sites, plans and tables drawn from a fixed seed:
- * rows by earliest due tick, rows in another order that pass the check, and damaged ones. The same
- * answers, the same entries in the lent lists, and not a byte touched around them.
+ * Sleeping in the archive against the reference, on sites, plans and tables drawn from a fixed
+ * seed: rows by earliest due tick, rows in another order that pass the check, and damaged ones. The
+ * same answers, the same entries in the lent lists, and not a byte touched around them.
  */
 #define _DEFAULT_SOURCE
 #include "drawings.h"
@@ -62,10 +62,10 @@ static void compare(generator *g, const drawing *given, uint32_t energy, uint32_
     towhepamu_checked expected =
         reference_sleep(text.bytes, text.len, plan.bytes, plan.len, table.bytes, table.len, energy,
                         time, least, energies_len, times, sleeps_len);
-    towhepamu_checked answer = towhepamu_sleep(
-        text.bytes, text.len, plan.bytes, plan.len, table.bytes, table.len, energy, time,
-        (uint64_t *)(void *)energies.bytes, energies_len, (uint32_t *)(void *)sleeps.bytes,
-        sleeps_len);
+    towhepamu_checked answer =
+        towhepamu_sleep(text.bytes, text.len, plan.bytes, plan.len, table.bytes, table.len, energy,
+                        time, (uint64_t *)(void *)energies.bytes, energies_len,
+                        (uint32_t *)(void *)sleeps.bytes, sleeps_len);
     size_t written = expected.refusal == TOWHEPAMU_ACCEPTED ? in.cores : 0;
     compared++;
     seen[expected.refusal]++;
@@ -160,9 +160,10 @@ static void compare_text(generator *g, const uint8_t *bytes, size_t len) {
     if (reads && one_in(g, 2))
         reference_plan(text.bytes, text.len, sound.plan, in.tasks, sound.table, sound.table_len);
     compare_drawing(g, &sound, &sound);
-    bool passes = reads && reference_check_table(&in, sound.plan, in.tasks, sound.table,
-                                                 sound.table_len)
-                                   .refusal == TOWHEPAMU_ACCEPTED;
+    bool passes =
+        reads &&
+        reference_check_table(&in, sound.plan, in.tasks, sound.table, sound.table_len).refusal ==
+            TOWHEPAMU_ACCEPTED;
     for (size_t n = 0; passes && n < 2; n++) {
         shuffle(g, &sound, n == 1);
         compare_drawing(g, &sound, &sound);
@@ -220,8 +221,9 @@ int main(void) {
         printf("%s %zu: %zu", i == 0 ? " refusal" : ",", possible[i], seen[possible[i]]);
         whole = whole && seen[possible[i]] > 0;
     }
-    printf("\ndesk: sleep: gaps slept through %zu, across the end %zu, of the switching energy %zu; "
-           "%zu compared, %zu differ\n",
-           slept_through, across_the_end, equal_energies, compared, differ);
+    printf(
+        "\ndesk: sleep: gaps slept through %zu, across the end %zu, of the switching energy %zu; "
+        "%zu compared, %zu differ\n",
+        slept_through, across_the_end, equal_energies, compared, differ);
     return differ > 0 || !whole;
 }

@@ -21,7 +21,8 @@ enum { SITES = 3000, SLACK = 40, HALF = 1 << 17, PLANNING_REFUSALS = 6 };
 /* Of each buffer, where the bytes that can be written end and those that can only be read begin. */
 static uint8_t *text_edge, *plan_edge, *table_edge, *out_edge, *energies_edge, *sleeps_edge;
 
-static size_t text_len, tasks, slots, cores; /* of the site at hand; any where its text is refused */
+static size_t text_len, tasks, slots,
+    cores; /* of the site at hand; any where its text is refused */
 static size_t differ, planned[PLANNING_REFUSALS + 1], listed[PLANNING_REFUSALS + 1], checked,
     was_read, slept;
 static char call[200];
