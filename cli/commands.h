@@ -12,12 +12,14 @@ typedef struct {
     const char *file[MOST_FILES]; /* the site first */
     const char *plan, *table;     /* of `plan`: where to write them, or NULL */
     bool text;                    /* of `picture`: for a terminal */
+    const char *energy, *time;    /* of `sleep`: the switching words, as given, or NULL */
 } arguments;
 
 int run_plan(const arguments *given);
 int run_check(const arguments *given);
 int run_compare(const arguments *given);
 int run_sums(const arguments *given);
+int run_sleep(const arguments *given);
 int run_picture(const arguments *given);
 
 #endif

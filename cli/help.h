@@ -11,6 +11,7 @@
     "  towhepamu compare SITE FILE                        compare a node with its plan\n"          \
     "  towhepamu sums SITE                                lay out the sums to add up by hand\n"    \
     "  towhepamu picture [--text] SITE                    draw the slot table\n"                   \
+    "  towhepamu sleep SITE --energy E --time T [..]      what sleeping through gaps saves\n"      \
     "\n"                                                                                           \
     "  towhepamu SUBCOMMAND --help, towhepamu --version\n"                                         \
     "\n"                                                                                           \
@@ -67,5 +68,19 @@
     "Draws the slot table of a site: an SVG on standard output, a lane for each core.\n"           \
     "  --text   characters for a terminal, sixty ticks a line\n"                                   \
     "Ends with 0, 1 where the site is refused, 2 where a file cannot be used.\n"
+
+#define HELP_SLEEP                                                                                 \
+    "towhepamu sleep SITE --energy E --time T\n"                                                   \
+    "towhepamu sleep SITE --energy E --time T PLAN TABLE\n"                                        \
+    "towhepamu sleep SITE --energy E --time T FILE\n"                                              \
+    "\n"                                                                                           \
+    "Lays out the gaps of each core, in which it sleeps, its least idle energy and its sleeps: "   \
+    "of\n"                                                                                         \
+    "the site's own plan and table, or of given ones, as check takes them.\n"                      \
+    "  --energy E   what switching a core off and on again draws, 0 to 1,000,000\n"                \
+    "  --time T     how many ticks a gap must have at least, 0 to 4,096\n"                         \
+    "Ends with 0, 1 where the site, E, T, plan or table is refused, 2 where a file cannot be "     \
+    "used\n"                                                                                       \
+    "or the sums are not the library's.\n"
 
 #endif

@@ -18,7 +18,7 @@ typedef struct {
 static const command commands[] = {
     {"plan", HELP_PLAN, 1, 1, run_plan},          {"check", HELP_CHECK, 2, 3, run_check},
     {"compare", HELP_COMPARE, 2, 2, run_compare}, {"sums", HELP_SUMS, 1, 1, run_sums},
-    {"picture", HELP_PICTURE, 1, 1, run_picture},
+    {"picture", HELP_PICTURE, 1, 1, run_picture}, {"sleep", HELP_SLEEP, 1, 3, run_sleep},
 };
 
 static bool is_help(const char *word) {
@@ -30,30 +30,44 @@ static _Noreturn void give_up_on(const char *problem, const char *word, const ch
             *name == 0 ? "" : " ");
 }
 
-/* Where an option of `plan` writes its file, or NULL for another option. */
-static const char **file_option(const command *of, const char *word, arguments *given) {
-    if (of->run != run_plan)
-        return NULL;
-    if (strcmp(word, "--plan") == 0)
+/* Where the word that follows an option is kept, or NULL for an option that none follows. */
+static const char **kept_at(const command *of, const char *word, arguments *given) {
+    if (of->run == run_plan && strcmp(word, "--plan") == 0)
         return &given->plan;
-    return strcmp(word, "--table") == 0 ? &given->table : NULL;
+    if (of->run == run_plan && strcmp(word, "--table") == 0)
+        return &given->table;
+    if (of->run == run_sleep && strcmp(word, "--energy") == 0)
+        return &given->energy;
+    if (of->run == run_sleep && strcmp(word, "--time") == 0)
+        return &given->time;
+    return NULL;
+}
+
+static bool is_number(const char *word) {
+    return *word != 0 && word[strspn(word, "0123456789")] == 0;
+}
+
+/* Whether a word may follow an option: a number in `sleep`, a file's name in `plan`. */
+static bool may_follow(const command *of, const char *word) {
+    return word != NULL && (of->run == run_sleep ? is_number(word) : strcmp(word, "-") != 0);
 }
 
 /* Takes the word at `*at`, and the next one where it belongs to it. */
 static void take_option(const command *of, char **words, arguments *given, size_t *at) {
     const char *word = words[*at];
-    const char **file = file_option(of, word, given);
+    const char **kept = kept_at(of, word, given);
     if (of->run == run_picture && strcmp(word, "--text") == 0) {
         given->text = true;
         return;
     }
-    if (file == NULL)
+    if (kept == NULL)
         give_up_on("no such option: ", word, of->name);
-    if (words[*at + 1] == NULL || strcmp(words[*at + 1], "-") == 0)
-        give_up_on("a file's name must follow ", word, of->name);
-    if (*file != NULL)
+    if (!may_follow(of, words[*at + 1]))
+        give_up_on(of->run == run_sleep ? "a number must follow " : "a file's name must follow ",
+                   word, of->name);
+    if (*kept != NULL)
         give_up_on("given twice: ", word, of->name);
-    *file = words[++*at];
+    *kept = words[++*at];
 }
 
 /* The arguments after the subcommand; false where its help is asked for. */
@@ -73,6 +87,8 @@ static bool take_arguments(const command *of, char **words, arguments *given) {
     }
     if (given->files < of->least)
         give_up_on("a file is missing", "", of->name);
+    if (of->run == run_sleep && (given->energy == NULL || given->time == NULL))
+        give_up_on("missing: ", given->energy == NULL ? "--energy" : "--time", of->name);
     return true;
 }
 

@@ -1,6 +1,6 @@
 /*
- * Documents 01 and 02 (a) in plain C, written from the papers alone: what the archive is compared
- * with and timed against. Choices and slots are bytes, as at the C interface.
+ * Documents 01 and 02 (a), (b) in plain C, written from the papers alone: what the archive is
+ * compared with and timed against. Choices and slots are bytes, as at the C interface.
  */
 #ifndef REFERENCE_H
 #define REFERENCE_H
@@ -14,6 +14,7 @@ enum {
     MOST_TASKS = TOWHEPAMU_MOST_TASKS,
     MOST_SPAN = TOWHEPAMU_MOST_SPAN,
     MOST_WORDS = TOWHEPAMU_MOST_TEXT_BYTES / 2, /* of a text: a digit in every second byte */
+    MOST_GAPS = MOST_SPAN / 2,                  /* of a row: each has a busy slot behind it */
     MOST_INSTANCE_WORDS = 5 + (1 + 2 * MOST_LEVELS) + (1 + 3 * MOST_TASKS)
 };
 
@@ -76,5 +77,29 @@ towhepamu_checked reference_check(const uint8_t *text, size_t text_len, const ui
 /* towhepamu_read and towhepamu_list (listings.c). */
 towhepamu_site reference_site(const uint8_t *text, size_t text_len);
 towhepamu_listed reference_list(const uint8_t *text, size_t text_len, uint8_t *out, size_t out_len);
+
+/* The gaps of a row, which repeats: each once, by its first tick and how many slots it has. None of
+   a row without a busy slot. */
+typedef struct {
+    size_t first, size;
+} reference_gap;
+
+size_t reference_gaps(const uint8_t *row, size_t span, reference_gap *gaps);
+
+/* The least idle energy of a row and its sleeps. */
+typedef struct {
+    uint64_t energy;
+    uint32_t sleeps;
+} reference_slept;
+
+reference_slept reference_sleep_row(const uint8_t *row, size_t span, uint32_t idle_power,
+                                    uint32_t switching_energy, uint32_t switching_time);
+
+/* towhepamu_sleep: refusals 1, 2, 3, 4, 11, 6, 7, 9, 10 (sleeping.c, as the two above). */
+towhepamu_checked reference_sleep(const uint8_t *text, size_t text_len, const uint8_t *plan,
+                                  size_t plan_len, const uint8_t *table, size_t table_len,
+                                  uint32_t switching_energy, uint32_t switching_time,
+                                  uint64_t *energies, size_t energies_len, uint32_t *sleeps,
+                                  size_t sleeps_len);
 
 #endif

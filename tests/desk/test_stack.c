@@ -15,6 +15,8 @@ enum { ROOM = 16 << 20, FILL = 0xA5, SITES = 12 };
 
 static uint8_t text[TOWHEPAMU_MOST_TEXT_BYTES], plan[TOWHEPAMU_MOST_TASKS];
 static uint8_t table[TOWHEPAMU_MOST_TABLE_BYTES], out[TOWHEPAMU_MOST_LISTING_BYTES];
+static uint64_t energies[MOST_CORES];
+static uint32_t sleeps[MOST_CORES];
 static size_t text_len, tasks, slots;
 static uint8_t *from; /* where the stack stood before the call */
 
@@ -43,6 +45,14 @@ static void *list_text(void *unused) {
     (void)unused;
     from = __builtin_frame_address(0);
     towhepamu_list(text, text_len, out, sizeof out);
+    return NULL;
+}
+
+static void *sleep_text(void *unused) {
+    (void)unused;
+    from = __builtin_frame_address(0);
+    towhepamu_sleep(text, text_len, plan, tasks, table, slots, 0, 0, energies, MOST_CORES, sleeps,
+                    MOST_CORES);
     return NULL;
 }
 
@@ -82,7 +92,8 @@ int main(void) {
     } calls[] = {{"reading", read_text},
                  {"planning", plan_text},
                  {"checking", check_text},
-                 {"listing", list_text}};
+                 {"listing", list_text},
+                 {"sleeping", sleep_text}};
     enum { CALLS = sizeof calls / sizeof calls[0] };
     generator g = {20010911};
     uint32_t words[MOST_DRAWN_WORDS];

@@ -2,8 +2,8 @@
  * Which bytes of the lent buffers a call stores into. A byte that is stored as it was shows in no
  * comparison, so here the bytes that a call must leave alone lie on pages that cannot be written:
  * all of them where it refuses, reads or checks; where it plans, those behind the plan's choices
- * and behind the table's slots; where it lists, those behind the listing. A store there ends the
- * test.
+ * and behind the table's slots; where it lists, those behind the listing; where it reckons sleeps,
+ * those behind each list's entry of the last core. A store there ends the test.
  */
 #define _DEFAULT_SOURCE
 #include "generate.h"
@@ -19,11 +19,12 @@
 enum { SITES = 3000, SLACK = 40, HALF = 1 << 17, PLANNING_REFUSALS = 6 };
 
 /* Of each buffer, where the bytes that can be written end and those that can only be read begin. */
-static uint8_t *text_edge, *plan_edge, *table_edge, *out_edge;
+static uint8_t *text_edge, *plan_edge, *table_edge, *out_edge, *energies_edge, *sleeps_edge;
 
-static size_t text_len, tasks, slots; /* of the site at hand; any where its text is refused */
+static size_t text_len, tasks, slots,
+    cores; /* of the site at hand; any where its text is refused */
 static size_t differ, planned[PLANNING_REFUSALS + 1], listed[PLANNING_REFUSALS + 1], checked,
-    was_read;
+    was_read, slept;
 static char call[200];
 
 static void fail(int unused) {
@@ -102,6 +103,29 @@ static void list_site(size_t out_len) {
            memcmp(out, bytes, expected.length) == 0);
 }
 
+/* The site's own plan and table, or where it has none the plan that refuses every task. */
+static void sleep_site(size_t energies_len, size_t sleeps_len) {
+    static uint8_t plan[MOST_TASKS], table[TOWHEPAMU_MOST_TABLE_BYTES];
+    const uint8_t *text = text_edge - text_len;
+    uint64_t least[MOST_CORES], *energies = (void *)energies_edge;
+    uint32_t times[MOST_CORES], *sleeps = (void *)sleeps_edge;
+    memset(plan, 0, sizeof plan);
+    memset(table, 0, sizeof table);
+    reference_plan(text, text_len, plan, sizeof plan, table, sizeof table);
+    towhepamu_checked expected = reference_sleep(text, text_len, plan, tasks, table, slots, 9, 2,
+                                                 least, energies_len, times, sleeps_len);
+    size_t written = expected.refusal == TOWHEPAMU_ACCEPTED ? cores : 0;
+    energies -= written;
+    sleeps -= written;
+    name_call("sleeping", tasks, slots);
+    towhepamu_checked answer = towhepamu_sleep(text, text_len, plan, tasks, table, slots, 9, 2,
+                                               energies, energies_len, sleeps, sleeps_len);
+    slept += written > 0;
+    expect(memcmp(&answer, &expected, sizeof answer) == 0 &&
+           memcmp(energies, least, written * sizeof least[0]) == 0 &&
+           memcmp(sleeps, times, written * sizeof times[0]) == 0);
+}
+
 /* ---- One text ---- */
 
 static void read_text(void) {
@@ -109,6 +133,7 @@ static void read_text(void) {
     bool reads =
         reference_read_text(text_edge - text_len, text_len, &in).refusal == TOWHEPAMU_ACCEPTED;
     tasks = reads ? in.tasks : 3;
+    cores = reads ? in.cores : 1;
     slots = reads ? in.cores * in.span : 60;
 }
 
@@ -124,6 +149,10 @@ static void try_text(const uint8_t *bytes, size_t len) {
     read_site();
     list_site(TOWHEPAMU_MOST_LISTING_BYTES);
     list_site(TOWHEPAMU_MOST_LISTING_BYTES - 1);
+    sleep_site(cores, cores);
+    sleep_site(cores + SLACK, cores + SLACK);
+    sleep_site(cores - 1, cores);
+    sleep_site(cores, cores - 1);
 }
 
 /* ---- All texts ---- */
@@ -157,14 +186,16 @@ int main(void) {
     plan_edge = make_edge();
     table_edge = make_edge();
     out_edge = make_edge();
+    energies_edge = make_edge();
+    sleeps_edge = make_edge();
     signal(SIGSEGV, fail);
     for (size_t k = 0; k < KNOWN_CASES; k++)
         try_text((const uint8_t *)known_cases[k].text, strlen(known_cases[k].text));
     for (size_t n = 0; n < SITES; n++)
         try_site(&g);
 
-    printf("stores: %zu checked, %zu read", checked, was_read);
+    printf("stores: %zu checked, %zu read, sleeps of %zu", checked, was_read, slept);
     bool all_planned = print_seen("planned", planned), all_listed = print_seen("listed", listed);
     printf("; %zu differ\n", differ);
-    return differ > 0 || !all_planned || !all_listed;
+    return differ > 0 || slept == 0 || !all_planned || !all_listed;
 }

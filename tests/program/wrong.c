@@ -12,11 +12,21 @@ towhepamu_planned __real_towhepamu_plan(const uint8_t *text, size_t text_len, ui
                                         size_t plan_len, uint8_t *table, size_t table_len);
 towhepamu_listed __real_towhepamu_list(const uint8_t *text, size_t text_len, uint8_t *out,
                                        size_t out_len);
+towhepamu_checked __real_towhepamu_sleep(const uint8_t *text, size_t text_len, const uint8_t *plan,
+                                         size_t plan_len, const uint8_t *table, size_t table_len,
+                                         uint32_t switching_energy, uint32_t switching_time,
+                                         uint64_t *energies, size_t energies_len, uint32_t *sleeps,
+                                         size_t sleeps_len);
 towhepamu_site __wrap_towhepamu_read(const uint8_t *text, size_t text_len);
 towhepamu_planned __wrap_towhepamu_plan(const uint8_t *text, size_t text_len, uint8_t *plan,
                                         size_t plan_len, uint8_t *table, size_t table_len);
 towhepamu_listed __wrap_towhepamu_list(const uint8_t *text, size_t text_len, uint8_t *out,
                                        size_t out_len);
+towhepamu_checked __wrap_towhepamu_sleep(const uint8_t *text, size_t text_len, const uint8_t *plan,
+                                         size_t plan_len, const uint8_t *table, size_t table_len,
+                                         uint32_t switching_energy, uint32_t switching_time,
+                                         uint64_t *energies, size_t energies_len, uint32_t *sleeps,
+                                         size_t sleeps_len);
 
 static bool is_wrong(const char *what) {
     const char *wrong = getenv("WRONG");
@@ -47,4 +57,19 @@ towhepamu_listed __wrap_towhepamu_list(const uint8_t *text, size_t text_len, uin
     if (is_wrong("listing"))
         listed = (towhepamu_listed){TOWHEPAMU_BUFFER, out_len + 1, 0};
     return listed;
+}
+
+towhepamu_checked __wrap_towhepamu_sleep(const uint8_t *text, size_t text_len, const uint8_t *plan,
+                                         size_t plan_len, const uint8_t *table, size_t table_len,
+                                         uint32_t switching_energy, uint32_t switching_time,
+                                         uint64_t *energies, size_t energies_len, uint32_t *sleeps,
+                                         size_t sleeps_len) {
+    towhepamu_checked answer =
+        __real_towhepamu_sleep(text, text_len, plan, plan_len, table, table_len, switching_energy,
+                               switching_time, energies, energies_len, sleeps, sleeps_len);
+    energies[0] += is_wrong("idle");
+    sleeps[0] += is_wrong("sleeps");
+    if (is_wrong("refusal"))
+        answer = (towhepamu_checked){TOWHEPAMU_JOB, 1};
+    return answer;
 }
