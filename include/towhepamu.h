@@ -59,9 +59,9 @@ extern "C" {
 /* No site has a longer listing, in bytes: a listing's buffer must have this length. */
 #define TOWHEPAMU_MOST_LISTING_BYTES 51200
 
-/* The stack that a call must find free, in bytes. Measured: reading 12,280, planning 1,031,136,
-   checking 11,608, listing 1,048,064 (tests/desk/test_stack.c, which fails where a call takes more
-   than is promised). */
+/* The stack that a call must find free, in bytes. Measured: reading 12,280, planning 998,400,
+   checking 11,400, listing 1,015,328, sleeping 11,464 (tests/desk/test_stack.c, which fails where a
+   call takes more than is promised). */
 #define TOWHEPAMU_STACK_BYTES (1536 * 1024)
 
 /* Why a call was refused, and what `place` then says. */
