@@ -16,11 +16,14 @@ ghost use Rattle.knapsack_tables.specs.Branches.{BranchFilled, BranchFit
 ghost use Rattle.knapsack_tables.specs.TabledKnapsacks.{KnapsacksFilled, KnapsacksFit};
 ghost use Rattle.choice_lists.specs.Listed.{pointWidth};
 
-// Room for the lists of the first items' choices. Two items have at most 81 choices: making room for more would take longer than
-// the search.
-const POINTS: usize = 12288 * WIDTH;
-
+// Room for the lists of the first items' choices: of two items, which have at most 81 choices, of ten, and of more. Making
+// room takes time, and pays the more the more often a list is read, 2^(n - 6) times for n items. With the most room the lists of
+// six items fit even where most loads have a choice that none beats, as they do where idle power is above the power of every level.
 const FEW_POINTS: usize = 81 * WIDTH;
+
+const SOME_POINTS: usize = 12288 * WIDTH;
+
+const MANY_POINTS: usize = 18432 * WIDTH;
 
 // Sets that agree on their last `places` items, the part of their number that these make up being `index`. The other
 // items are `ahead`, the first of them, `listed` in number, with lists of their choices; `bit` and `digit` are the weights
@@ -199,6 +202,11 @@ pub fn fill_knapsacks(
         fill_with(core, n, load, cost, &mut points, costs, keys);
         return;
     }
-    let mut points = [0u64; POINTS];
+    if n <= 10 {
+        let mut points = [0u64; SOME_POINTS];
+        fill_with(core, n, load, cost, &mut points, costs, keys);
+        return;
+    }
+    let mut points = [0u64; MANY_POINTS];
     fill_with(core, n, load, cost, &mut points, costs, keys);
 }

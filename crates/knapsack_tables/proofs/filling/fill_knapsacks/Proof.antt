@@ -31,7 +31,7 @@ slice-aggregate-fill-with-2 c =
 
 fill-with-requires-2 : tie.Need-fill-with-requires-2
 fill-with-requires-2 c κs =
-    (c .before .before .before .before .before .before .before .before .pre, some-room 36864 (omega arith))
+    (c .before .before .before .before .before .before .before .before .before .pre, some-room 36864 (omega arith))
 
 same-length-3 : tie.Need-same-length-3
 same-length-3 c =
@@ -43,6 +43,26 @@ same-length-4 c =
 
 returns-2 : tie.Need-returns-2
 returns-2 c =
+    search needs
+
+slice-aggregate-fill-with-3 : tie.Need-slice-aggregate-fill-with-3
+slice-aggregate-fill-with-3 c =
+    search needs
+
+fill-with-requires-3 : tie.Need-fill-with-requires-3
+fill-with-requires-3 c κs =
+    (c .before .before .before .before .before .before .before .before .before .pre, some-room 55296 (omega arith))
+
+same-length-5 : tie.Need-same-length-5
+same-length-5 c =
+    search needs
+
+same-length-6 : tie.Need-same-length-6
+same-length-6 c =
+    search needs
+
+returns-3 : tie.Need-returns-3
+returns-3 c =
     search needs
 
 pub fill-knapsacks-spec : {M : Type 1} → statement M
@@ -58,4 +78,9 @@ fill-knapsacks-spec =
     fill-with-requires-2
     same-length-3
     same-length-4
-    returns-2)
+    returns-2
+    slice-aggregate-fill-with-3
+    fill-with-requires-3
+    same-length-5
+    same-length-6
+    returns-3)
