@@ -22,7 +22,7 @@ use Rattle.assignment.specs.SetLaws.{setNumber-below, numbered}
 use Rattle.assignment.specs.Partition.{leastSplit, moved}
 use Rattle.assignment.specs.SplitLaws.{part-length, leastSplit-parts}
 use Rattle.assignment.specs.Entries.{entryAt}
-use Rattle.partition.specs.Splits.{sumAt, leastFrom, LoweredFrom, SumsReady, SplitsReady}
+use Rattle.partition.specs.Splits.{allSets, sumAt, leastFrom, LoweredFrom, SumsReady, SplitsReady}
 use Rattle.partition.specs.Moves.{MovesReady, MovedBelow}
 use Rattle.partition.specs.MoveLaws.{weight-below}
 use Rattle.partition.specs.Tables.{SmallTable, mostSets, room-for-sets}
@@ -75,7 +75,7 @@ module _ {n shift : ℕ} {tops topKeys costs keys : List ℕ} (ready : CoreReady
         }
 
     pub splits-ready : {next nextKeys : List ℕ} → mostSets ≤ length next → mostSets ≤ length nextKeys →
-        SplitsReady (2 ^ n) 0 0 0 tops movedKeys costs keys next nextKeys
+        SplitsReady (allSets n) tops movedKeys costs keys next nextKeys
     splits-ready room key-room =
         let few = room-for-sets (ready .few-items) in
         record {
@@ -117,7 +117,7 @@ module _ {n shift : ℕ} {tops topKeys costs keys : List ℕ} (ready : CoreReady
 
     module _ {blank blankKeys next nextKeys costs' keys' : List ℕ}
         (nothing : (x : ℕ) → x < 2 ^ n → getD blank x 0 ≡ noCost) (no-key : (x : ℕ) → x < 2 ^ n → getD blankKeys x 0 ≡ 0)
-        (lowered : LoweredFrom n 0 0 0 (sumAt tops movedKeys costs keys) blank blankKeys next nextKeys)
+        (lowered : LoweredFrom n (allSets n) (sumAt tops movedKeys costs keys) blank blankKeys next nextKeys)
         (copied : costs' ≡ onto (listOf (λ x. getD next x 0) (2 ^ n)) costs)
         (keys-copied : keys' ≡ onto (listOf (λ x. getD nextKeys x 0) (2 ^ n)) keys) where
       cost-at : (x : ℕ) → x < 2 ^ n → getD costs' x 0 ≡ getD next x 0

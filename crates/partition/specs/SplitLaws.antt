@@ -13,8 +13,9 @@ use Rattle.assignment.specs.ValueLaws.{lesser-assoc}
 use Rattle.assignment.specs.Sets.{setNumber}
 use Rattle.assignment.specs.SetLaws.{setNumber-below}
 use Rattle.assignment.specs.Partition.{leastSplit}
-use Rattle.partition.specs.Splits.{leastFrom, LoweredFrom, PowerOfTwo, SumsFit, SplitsReady}
+use Rattle.partition.specs.Splits.{inNeither, inTop, inRest, leastFrom, LoweredFrom, PowerOfTwo, SumsFit, SplitsReady}
 use Rattle.assignment.specs.Entries.{entryAt, NoDearer, Kept, Lowered}
+use Rattle.partition.specs.declared.splits.Split.{Split}
 
 module _ (sum : ℕ → ℕ → Value) (t r : ℕ) where
   pub leastFrom-nothing : leastFrom 0 sum t r [] ≡ sum t r
@@ -46,10 +47,10 @@ unfolding entryAt
 kept-entry kept = rw (kept .cost, kept .key)
 
 -- the one set that adds no item
-pub lowered-at-one : {s t r : ℕ} {sum : ℕ → ℕ → Value} {c k c' k' : List ℕ} → Lowered s (sum t r) c k c' k' →
-    LoweredFrom 0 s t r sum c k c' k'
+pub lowered-at-one : {split : Split} {sum : ℕ → ℕ → Value} {c k c' k' : List ℕ} → Lowered (split .s) (sum (split .t) (split .r)) c k c' k' →
+    LoweredFrom 0 split sum c k c' k'
 unfolding setNumber
-lowered-at-one {s} {t} {r} {sum} {c} {k} {c'} {k'} lowered =
+lowered-at-one {split} {sum} {c} {k} {c'} {k'} lowered =
     record {
       there = at-one;
       elsewhere = λ x outside. lowered .elsewhere x (other x outside);
@@ -57,37 +58,38 @@ lowered-at-one {s} {t} {r} {sum} {c} {k} {c'} {k'} lowered =
     }
   where
     at-one : (S : List Bool) → length S ≡ 0 →
-        entryAt c' k' (s + 0) ≡ lesser (entryAt c k (s + 0)) (leastFrom 0 sum t r S)
-    at-one [] empty = rw (add-zero s, leastFrom-nothing sum t r) (lowered .there)
+        entryAt c' k' (split .s + 0) ≡ lesser (entryAt c k (split .s + 0)) (leastFrom 0 sum (split .t) (split .r) S)
+    at-one [] empty = rw (add-zero (split .s), leastFrom-nothing sum (split .t) (split .r)) (lowered .there)
     at-one (b ∷ S) empty = absurd (omega arith)
 
-    other : (x : ℕ) → (x < s) ⊎ (s + 2 ^ 0 ≤ x) → x ≢ s
+    other : (x : ℕ) → (x < split .s) ⊎ (split .s + 2 ^ 0 ≤ x) → x ≢ split .s
     other x (inl h) = omega arith
     other x (inr h) = omega arith
 
 -- one item more: half of the sets are without it
-module _ {k s t r : ℕ} {sum : ℕ → ℕ → Value} {c0 k0 c1 k1 c2 k2 c3 k3 : List ℕ} (half : ℕ) (is-half : half ≡ 2 ^ k)
-    (neither : LoweredFrom k s t r sum c0 k0 c1 k1)
-    (in-top : LoweredFrom k (s + half) (t + half) r sum c1 k1 c2 k2)
-    (in-rest : LoweredFrom k (s + half) t (r + half) sum c2 k2 c3 k3) where
+module _ {k : ℕ} (split : Split) {sum : ℕ → ℕ → Value} {c0 k0 c1 k1 c2 k2 c3 k3 : List ℕ} (is-half : split .size / 2 ≡ 2 ^ k)
+    (neither : LoweredFrom k (inNeither split) sum c0 k0 c1 k1)
+    (in-top : LoweredFrom k (inTop split) sum c1 k1 c2 k2)
+    (in-rest : LoweredFrom k (inRest split) sum c2 k2 c3 k3) where
   without : (S : List Bool) → length S ≡ k →
-      entryAt c3 k3 (s + setNumber k S) ≡ lesser (entryAt c0 k0 (s + setNumber k S)) (leastFrom k sum t r S)
+      entryAt c3 k3 (split .s + setNumber k S)
+      ≡ lesser (entryAt c0 k0 (split .s + setNumber k S)) (leastFrom k sum (split .t) (split .r) S)
   without S of-items =
       let below = setNumber-below k S in
-      kept-entry (in-rest .elsewhere (s + setNumber k S) (inl (omega arith)))
-      ∙ kept-entry (in-top .elsewhere (s + setNumber k S) (inl (omega arith)))
+      kept-entry (in-rest .elsewhere (split .s + setNumber k S) (inl (omega arith)))
+      ∙ kept-entry (in-top .elsewhere (split .s + setNumber k S) (inl (omega arith)))
       ∙ neither .there S of-items
 
   with-it : (S : List Bool) → length S ≡ k →
-      entryAt c3 k3 (s + half + setNumber k S)
-      ≡ lesser (entryAt c0 k0 (s + half + setNumber k S))
-      (lesser (leastFrom k sum (t + half) r S) (leastFrom k sum t (r + half) S))
+      entryAt c3 k3 (split .s + split .size / 2 + setNumber k S)
+      ≡ lesser (entryAt c0 k0 (split .s + split .size / 2 + setNumber k S))
+      (lesser (leastFrom k sum (split .t + split .size / 2) (split .r) S) (leastFrom k sum (split .t) (split .r + split .size / 2) S))
   with-it S of-items =
-      let at = s + half + setNumber k S in
+      let at = split .s + split .size / 2 + setNumber k S in
       let untouched : entryAt c1 k1 at ≡ entryAt c0 k0 at = kept-entry (neither .elsewhere at (inr (omega arith))) in
       in-rest .there S of-items ∙ rw (in-top .there S of-items, untouched, lesser-assoc)
 
-  pub lowered-one-more : LoweredFrom (suc k) s t r sum c0 k0 c3 k3
+  pub lowered-one-more : LoweredFrom (suc k) split sum c0 k0 c3 k3
   unfolding setNumber
   lowered-one-more =
       record {
@@ -97,14 +99,14 @@ module _ {k s t r : ℕ} {sum : ℕ → ℕ → Value} {c0 k0 c1 k1 c2 k2 c3 k3 
       }
     where
       there : (S : List Bool) → length S ≡ suc k →
-          entryAt c3 k3 (s + setNumber (suc k) S)
-          ≡ lesser (entryAt c0 k0 (s + setNumber (suc k) S)) (leastFrom (suc k) sum t r S)
+          entryAt c3 k3 (split .s + setNumber (suc k) S)
+          ≡ lesser (entryAt c0 k0 (split .s + setNumber (suc k) S)) (leastFrom (suc k) sum (split .t) (split .r) S)
       there [] of-items = absurd (omega arith)
-      there (false ∷ S) of-items = rw (zero-add, leastFrom-neither sum t r k S) (without S (omega arith))
+      there (false ∷ S) of-items = rw (zero-add, leastFrom-neither sum (split .t) (split .r) k S) (without S (omega arith))
       there (true ∷ S) of-items =
-          rw (← add-assoc, leastFrom-either sum t r k S, ← is-half) (with-it S (omega arith))
+          rw (← add-assoc, leastFrom-either sum (split .t) (split .r) k S, ← is-half) (with-it S (omega arith))
 
-      elsewhere : (x : ℕ) → (x < s) ⊎ (s + 2 ^ suc k ≤ x) → Kept c0 k0 c3 k3 x
+      elsewhere : (x : ℕ) → (x < split .s) ⊎ (split .s + 2 ^ suc k ≤ x) → Kept c0 k0 c3 k3 x
       elsewhere x (inl h) =
           let a = neither .elsewhere x (inl h) in
           let b = in-top .elsewhere x (inl (omega arith)) in
@@ -151,18 +153,19 @@ half-fits {size} {t} {r} {t'} {r'} {tops} {rests} fit from-t to-t from-r to-r =
         let at-r : r + (r' - r + y) ≡ r' + y = omega arith in
         rw (at-t, at-r) at (fit .sums-fit (t' - t + x) (r' - r + y) (omega arith) (omega arith))
 
-module _ {size s t r : ℕ} {tops topKeys rests restKeys costs keys : List ℕ}
-    (ready : SplitsReady size s t r tops topKeys rests restKeys costs keys) (more : size ≢ 1) where
-  some-sets : 0 < size
+module _ {split : Split} {tops topKeys rests restKeys costs keys : List ℕ}
+    (ready : SplitsReady split tops topKeys rests restKeys costs keys) (more : split .size ≢ 1) where
+  some-sets : 0 < split .size
   some-sets = let all = ready .sets .is-power in omega (arith, pow-pos (ready .sets .exponent))
 
-  pub half-below : size / 2 < size
+  pub half-below : split .size / 2 < split .size
   half-below = let some = some-sets in omega arith
 
-  pub half-ready : {costs' keys' : List ℕ} (s' t' r' : ℕ) → (s ≤ s') × (s' + size / 2 ≤ s + size) →
-      (t ≤ t') × (t' + size / 2 ≤ t + size) → (r ≤ r') × (r' + size / 2 ≤ r + size) →
+  half-ready : {costs' keys' : List ℕ} (s' t' r' : ℕ) → (split .s ≤ s') × (s' + split .size / 2 ≤ split .s + split .size) →
+      (split .t ≤ t') × (t' + split .size / 2 ≤ split .t + split .size) →
+      (split .r ≤ r') × (r' + split .size / 2 ≤ split .r + split .size) →
       length costs' ≡ length costs → length keys' ≡ length keys →
-      SplitsReady (size / 2) s' t' r' tops topKeys rests restKeys costs' keys'
+      SplitsReady record { size = split .size / 2; s = s'; t = t'; r = r' } tops topKeys rests restKeys costs' keys'
   half-ready s' t' r' (from-s, to-s) (from-t, to-t) (from-r, to-r) same-costs same-keys =
       let (j, e, half) = half-is-power (ready .sets .exponent) (ready .sets .is-power) more in
       record {
@@ -172,3 +175,16 @@ module _ {size s t r : ℕ} {tops topKeys rests restKeys costs keys : List ℕ}
         costs-long = omega (arith, ready .costs-long);
         keys-long = omega (arith, ready .keys-long);
       }
+
+  module _ {costs' keys' : List ℕ} (same-costs : length costs' ≡ length costs) (same-keys : length keys' ≡ length keys) where
+    pub neither-ready : SplitsReady (inNeither split) tops topKeys rests restKeys costs' keys'
+    neither-ready =
+        half-ready _ _ _ (omega arith, omega arith) (omega arith, omega arith) (omega arith, omega arith) same-costs same-keys
+
+    pub top-ready : SplitsReady (inTop split) tops topKeys rests restKeys costs' keys'
+    top-ready =
+        half-ready _ _ _ (omega arith, omega arith) (omega arith, omega arith) (omega arith, omega arith) same-costs same-keys
+
+    pub rest-ready : SplitsReady (inRest split) tops topKeys rests restKeys costs' keys'
+    rest-ready =
+        half-ready _ _ _ (omega arith, omega arith) (omega arith, omega arith) (omega arith, omega arith) same-costs same-keys

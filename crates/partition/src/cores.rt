@@ -1,4 +1,5 @@
 // The least values of all sets on several cores, one core after the other.
+use crate::splits::Split;
 use crate::splits::lower_splits;
 use values::KEY_BASE;
 use values::MOST_SETS;
@@ -75,12 +76,14 @@ fn add_core(
     move_keys(items, shift, corekeys, &mut moved);
     let mut next = [NO_COST; MOST_SETS];
     let mut nextkeys = [0u64; MOST_SETS];
-    let all = sets_of(items);
+    let all = Split {
+        size: sets_of(items),
+        s: 0,
+        t: 0,
+        r: 0,
+    };
     lower_splits(
         all,
-        0,
-        0,
-        0,
         corecosts,
         &moved,
         costs,

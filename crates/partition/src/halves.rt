@@ -10,10 +10,15 @@ ghost use Rattle.assignment.specs.Refusing.{every};
 ghost use Rattle.partition.specs.HalvesTables.{OneReady, HalvesReady, keptBest, leastOverHalves};
 ghost use Rattle.values.specs.Worths.{worthOf};
 
-// The upper cores take some items, with choices larger by `shift`, and of all others the lower cores keep what is best.
+// The items, and by how much choices on the upper cores are larger.
+pub struct Halves {
+    pub items: usize,
+    pub shift: u64,
+}
+
+// The upper cores take some items, and of all others the lower cores keep what is best.
 pub fn least_over_halves(
-    items: usize,
-    shift: u64,
+    halves: Halves,
     tops: &[u64],
     topkeys: &[u64],
     refusal: &[u64],
@@ -21,13 +26,13 @@ pub fn least_over_halves(
     costs: &mut [u64],
     keys: &mut [u64],
 ) -> Worth
-    requires { ⌜ HalvesReady items shift (now tops) (now topkeys) (now refusal) (now must) (now costs) (now keys) ⌝ }
-    ensures { λ r. ⌜ worthOf r ≡ leastOverHalves items shift (now (tops .entry)) (now (topkeys .entry))
+    requires { ⌜ HalvesReady (halves .items) (halves .shift) (now tops) (now topkeys) (now refusal) (now must) (now costs) (now keys) ⌝ }
+    ensures { λ r. ⌜ worthOf r ≡ leastOverHalves (halves .items) (halves .shift) (now (tops .entry)) (now (topkeys .entry))
         (now (refusal .entry)) (now (must .entry)) (now (costs .entry)) (now (keys .entry)) ⌝ }
 {
     let mut moved = [0u64; MOST_SETS];
-    move_keys(items, shift, topkeys, &mut moved);
-    let all = sets_of(items);
+    move_keys(halves.items, halves.shift, topkeys, &mut moved);
+    let all = sets_of(halves.items);
     refuse(all, 0, 0, refusal, must, costs, keys);
     least_parted(all, 0, 0, tops, &moved, costs, keys)
 }

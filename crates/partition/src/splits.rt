@@ -3,32 +3,60 @@
 use values::lower;
 ghost use mathlib.Core.Path.{_≡_};
 ghost use Prim.Native.Nat.{ℕ, _^_};
-ghost use Rattle.partition.specs.Splits.{sumAt, LoweredFrom, SplitsReady};
+ghost use Rattle.partition.specs.Splits.{inNeither, inTop, inRest, sumAt, LoweredFrom, PlacesFit, SplitsReady};
 
-// Lowers the entry of the set s to the sum of those of t, of the one table, and r, of the other.
-fn lower_one(
-    s: usize,
-    t: usize,
-    r: usize,
-    tops: &[u64],
-    topkeys: &[u64],
-    rests: &[u64],
-    restkeys: &[u64],
-    costs: &mut [u64],
-    keys: &mut [u64],
-)
-    requires { ⌜ SplitsReady 1 s t r (now tops) (now topkeys) (now rests) (now restkeys) (now costs) (now keys) ⌝ }
-    ensures { λ _. ⌜ LoweredFrom 0 s t r (sumAt (now (tops .entry)) (now (topkeys .entry)) (now (rests .entry)) (now (restkeys .entry)))
-        (now (costs .entry)) (now (keys .entry)) (now (costs .exit)) (now (keys .exit)) ⌝ }
-{
-    lower(s, tops[t] + rests[r], topkeys[t] + restkeys[r], costs, keys);
+// The sets that add some of the last items to the set s, `size` in number. The parts of each add some of those items to the sets
+// t, of the one table, and r, of the other. The set s has the items of both: adding them up at each split would take longer.
+pub(crate) struct Split {
+    pub(crate) size: usize,
+    pub(crate) s: usize,
+    pub(crate) t: usize,
+    pub(crate) r: usize,
 }
 
-// The same for one item more, which is in none of the sets, in s and t, or in s and r.
-fn lower_pair(
-    s: usize,
-    t: usize,
-    r: usize,
+// The half of these sets that is without the next item.
+fn in_neither(split: Split) -> Split
+    ensures { λ h. ⌜ h ≡ inNeither split ⌝ }
+{
+    Split {
+        size: split.size / 2,
+        s: split.s,
+        t: split.t,
+        r: split.r,
+    }
+}
+
+// The half that has it, with it in the one part.
+fn in_top(split: Split) -> Split
+    requires { ⌜ PlacesFit split ⌝ }
+    ensures { λ h. ⌜ h ≡ inTop split ⌝ }
+{
+    let half = split.size / 2;
+    Split {
+        size: half,
+        s: split.s + half,
+        t: split.t + half,
+        r: split.r,
+    }
+}
+
+// The same half, with it in the other part.
+fn in_rest(split: Split) -> Split
+    requires { ⌜ PlacesFit split ⌝ }
+    ensures { λ h. ⌜ h ≡ inRest split ⌝ }
+{
+    let half = split.size / 2;
+    Split {
+        size: half,
+        s: split.s + half,
+        t: split.t,
+        r: split.r + half,
+    }
+}
+
+// Lowers the entry of one set to the sum of those of its parts.
+fn lower_one(
+    split: Split,
     tops: &[u64],
     topkeys: &[u64],
     rests: &[u64],
@@ -36,20 +64,53 @@ fn lower_pair(
     costs: &mut [u64],
     keys: &mut [u64],
 )
-    requires { ⌜ SplitsReady 2 s t r (now tops) (now topkeys) (now rests) (now restkeys) (now costs) (now keys) ⌝ }
-    ensures { λ _. ⌜ LoweredFrom 1 s t r (sumAt (now (tops .entry)) (now (topkeys .entry)) (now (rests .entry)) (now (restkeys .entry)))
+    requires { ⌜ split .size ≡ 1 ⌝ }
+    requires { ⌜ SplitsReady split (now tops) (now topkeys) (now rests) (now restkeys) (now costs) (now keys) ⌝ }
+    ensures { λ _. ⌜ LoweredFrom 0 split (sumAt (now (tops .entry)) (now (topkeys .entry)) (now (rests .entry)) (now (restkeys .entry)))
         (now (costs .entry)) (now (keys .entry)) (now (costs .exit)) (now (keys .exit)) ⌝ }
 {
-    lower_one(s, t, r, tops, topkeys, rests, restkeys, costs, keys);
-    lower_one(s + 1, t + 1, r, tops, topkeys, rests, restkeys, costs, keys);
-    lower_one(s + 1, t, r + 1, tops, topkeys, rests, restkeys, costs, keys);
+    let t = split.t;
+    let r = split.r;
+    lower(
+        split.s,
+        tops[t] + rests[r],
+        topkeys[t] + restkeys[r],
+        costs,
+        keys,
+    );
+}
+
+// The same for one item more: a set is without it, or has it in one of its parts.
+fn lower_pair(
+    split: Split,
+    tops: &[u64],
+    topkeys: &[u64],
+    rests: &[u64],
+    restkeys: &[u64],
+    costs: &mut [u64],
+    keys: &mut [u64],
+)
+    requires { ⌜ split .size ≡ 2 ⌝ }
+    requires { ⌜ SplitsReady split (now tops) (now topkeys) (now rests) (now restkeys) (now costs) (now keys) ⌝ }
+    ensures { λ _. ⌜ LoweredFrom 1 split (sumAt (now (tops .entry)) (now (topkeys .entry)) (now (rests .entry)) (now (restkeys .entry)))
+        (now (costs .entry)) (now (keys .entry)) (now (costs .exit)) (now (keys .exit)) ⌝ }
+{
+    lower_one(
+        in_neither(split),
+        tops,
+        topkeys,
+        rests,
+        restkeys,
+        costs,
+        keys,
+    );
+    lower_one(in_top(split), tops, topkeys, rests, restkeys, costs, keys);
+    lower_one(in_rest(split), tops, topkeys, rests, restkeys, costs, keys);
 }
 
 // The same for two items more.
 fn lower_four(
-    s: usize,
-    t: usize,
-    r: usize,
+    split: Split,
     tops: &[u64],
     topkeys: &[u64],
     rests: &[u64],
@@ -57,23 +118,27 @@ fn lower_four(
     costs: &mut [u64],
     keys: &mut [u64],
 )
-    requires { ⌜ SplitsReady 4 s t r (now tops) (now topkeys) (now rests) (now restkeys) (now costs) (now keys) ⌝ }
-    ensures { λ _. ⌜ LoweredFrom 2 s t r (sumAt (now (tops .entry)) (now (topkeys .entry)) (now (rests .entry)) (now (restkeys .entry)))
+    requires { ⌜ split .size ≡ 4 ⌝ }
+    requires { ⌜ SplitsReady split (now tops) (now topkeys) (now rests) (now restkeys) (now costs) (now keys) ⌝ }
+    ensures { λ _. ⌜ LoweredFrom 2 split (sumAt (now (tops .entry)) (now (topkeys .entry)) (now (rests .entry)) (now (restkeys .entry)))
         (now (costs .entry)) (now (keys .entry)) (now (costs .exit)) (now (keys .exit)) ⌝ }
 {
-    lower_pair(s, t, r, tops, topkeys, rests, restkeys, costs, keys);
-    lower_pair(s + 2, t + 2, r, tops, topkeys, rests, restkeys, costs, keys);
-    lower_pair(s + 2, t, r + 2, tops, topkeys, rests, restkeys, costs, keys);
+    lower_pair(
+        in_neither(split),
+        tops,
+        topkeys,
+        rests,
+        restkeys,
+        costs,
+        keys,
+    );
+    lower_pair(in_top(split), tops, topkeys, rests, restkeys, costs, keys);
+    lower_pair(in_rest(split), tops, topkeys, rests, restkeys, costs, keys);
 }
 
-// Lowers the entries of all sets that add some of the last items to the set s, each to its splits, whose parts add some of
-// those items to the sets t and r: t of the one table, r of the other. `size` is the number of these sets. The last two items
-// are written out, which saves most of the calls.
+// Lowers the entries of all these sets, each to its splits. The last two items are written out, which saves most of the calls.
 pub(crate) fn lower_splits(
-    size: usize,
-    s: usize,
-    t: usize,
-    r: usize,
+    split: Split,
     tops: &[u64],
     topkeys: &[u64],
     rests: &[u64],
@@ -81,30 +146,25 @@ pub(crate) fn lower_splits(
     costs: &mut [u64],
     keys: &mut [u64],
 )
-    requires { ⌜ SplitsReady size s t r (now tops) (now topkeys) (now rests) (now restkeys) (now costs) (now keys) ⌝ }
-    ensures { λ _. ⌜ ((k : ℕ) → size ≡ 2 ^ k →
-        LoweredFrom k s t r (sumAt (now (tops .entry)) (now (topkeys .entry)) (now (rests .entry)) (now (restkeys .entry)))
+    requires { ⌜ SplitsReady split (now tops) (now topkeys) (now rests) (now restkeys) (now costs) (now keys) ⌝ }
+    ensures { λ _. ⌜ ((k : ℕ) → split .size ≡ 2 ^ k →
+        LoweredFrom k split (sumAt (now (tops .entry)) (now (topkeys .entry)) (now (rests .entry)) (now (restkeys .entry)))
         (now (costs .entry)) (now (keys .entry)) (now (costs .exit)) (now (keys .exit))) ⌝ }
 {
-    if size == 4 {
-        lower_four(s, t, r, tops, topkeys, rests, restkeys, costs, keys);
+    if split.size == 4 {
+        lower_four(split, tops, topkeys, rests, restkeys, costs, keys);
         return;
     }
-    if size == 2 {
-        lower_pair(s, t, r, tops, topkeys, rests, restkeys, costs, keys);
+    if split.size == 2 {
+        lower_pair(split, tops, topkeys, rests, restkeys, costs, keys);
         return;
     }
-    if size == 1 {
-        lower_one(s, t, r, tops, topkeys, rests, restkeys, costs, keys);
+    if split.size == 1 {
+        lower_one(split, tops, topkeys, rests, restkeys, costs, keys);
         return;
     }
-    let half = size / 2;
-    lower_splits(half, s, t, r, tops, topkeys, rests, restkeys, costs, keys);
     lower_splits(
-        half,
-        s + half,
-        t + half,
-        r,
+        in_neither(split),
         tops,
         topkeys,
         rests,
@@ -112,16 +172,6 @@ pub(crate) fn lower_splits(
         costs,
         keys,
     );
-    lower_splits(
-        half,
-        s + half,
-        t,
-        r + half,
-        tops,
-        topkeys,
-        rests,
-        restkeys,
-        costs,
-        keys,
-    );
+    lower_splits(in_top(split), tops, topkeys, rests, restkeys, costs, keys);
+    lower_splits(in_rest(split), tops, topkeys, rests, restkeys, costs, keys);
 }

@@ -1,5 +1,6 @@
 // What the best plan of all is worth.
 use crate::Shape;
+use partition::Halves;
 use partition::fill_best;
 use partition::least_on_one;
 use partition::least_over_halves;
@@ -41,10 +42,10 @@ pub(crate) fn least_of_table(
         return least_on_one(n, refusal, must, &mut costs, &mut keys);
     }
     let shift = (below * shape.levels) as u64;
+    let halves = Halves { items: n, shift };
     if above == 1 {
         return least_over_halves(
-            n,
-            shift,
+            halves,
             corecosts,
             corekeys,
             refusal,
@@ -56,8 +57,7 @@ pub(crate) fn least_of_table(
     let tops = costs;
     let topkeys = keys;
     least_over_halves(
-        n,
-        shift,
+        halves,
         &tops,
         &topkeys,
         refusal,

@@ -41,7 +41,7 @@ slice-aggregate-copy-entries c = search needs
 copy-entries-requires : tie.Need-copy-entries-requires
 copy-entries-requires c κs =
     let ready = c .before .before .before .before .before .before .before .before .before .before .before .before .before .before .before .before .before .before .pre in
-    let kept = c .before .before .before .before .lower-splits .kept .1 .1 .1 .1 .1 .1 .1 .1 in
+    let kept = c .before .before .before .before .lower-splits .kept .1 .1 .1 .1 .1 in
     let room = room-for-sets (ready .few-items) in
     (ready .few-items, (omega (arith, kept .0), ready .rest-table .costs-for-all))
 
@@ -51,7 +51,7 @@ slice-aggregate-copy-entries-2 c = search needs
 copy-entries-requires-2 : tie.Need-copy-entries-requires-2
 copy-entries-requires-2 c κs =
     let ready = c .before .before .before .before .before .before .before .before .before .before .before .before .before .before .before .before .before .before .before .before .before .before .before .pre in
-    let kept = c .before .before .before .before .before .before .before .before .before .lower-splits .kept .1 .1 .1 .1 .1 .1 .1 .1 in
+    let kept = c .before .before .before .before .before .before .before .before .before .lower-splits .kept .1 .1 .1 .1 .1 in
     let room = room-for-sets (ready .few-items) in
     (ready .few-items, (omega (arith, kept .1 .0), ready .rest-table .keys-for-all))
 
@@ -68,7 +68,7 @@ returns c =
     let room = room-for-sets (ready .few-items) in
     core-added ready (omega (arith, moved .kept .1 .1 .1 .0)) (moved .ensures)
     (λ x h. getD-replicate mostSets x noCost 0 (lt-of-lt-of-le h room)) (λ x h. getD-replicate mostSets x 0 0 (lt-of-lt-of-le h room))
-    (c .before .before .before .before .before .before .before .before .before .before .before .before .lower-splits .ensures (c .before .before .before .before .before .before .before .before .before .before .before .before .before .before .before .before .before .before .before .before .before .before .before .before .before .before .args .items) (c .before .before .before .before .before .before .before .before .before .before .before .before .before .before .before .before .before .before .sets-of .ensures))
+    (rw (c .before .before .before .before .before .before .before .before .before .before .before .before .before .before .before .before .before .before .sets-of .ensures) at (c .before .before .before .before .before .before .before .before .before .before .before .before .lower-splits .ensures (c .before .before .before .before .before .before .before .before .before .before .before .before .before .before .before .before .before .before .before .before .before .before .before .before .before .before .args .items) (c .before .before .before .before .before .before .before .before .before .before .before .before .before .before .before .before .before .before .sets-of .ensures)))
     (c .before .before .before .before .before .before .before .copy-entries .ensures) (c .before .before .copy-entries2 .ensures)
 
 pub add-core-spec : {M : Type 1} → statement M

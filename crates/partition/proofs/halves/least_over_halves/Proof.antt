@@ -44,7 +44,7 @@ same-length-2 c = search needs
 returns : tie.Need-returns
 returns c =
     let ready = c .before .before .before .before .before .before .before .before .before .before .before .before .before .before .before .before .before .before .before .before .before .pre in
-    let n = c .before .before .before .before .before .before .before .before .before .before .before .before .before .before .before .before .before .before .before .before .before .args .items in
+    let n = c .before .before .before .before .before .before .before .before .before .before .before .before .before .before .before .before .before .before .before .before .before .args .halves .items in
     let moved = c .before .before .before .before .before .before .before .before .before .before .before .before .before .move-keys in
     let refused = c .before .before .before .before .before .before .before .before .refuse in
     let kept = refused .kept .1 .1 .1 .1 .1 in

@@ -19,7 +19,7 @@ shared-slice-read-lower-2 : tie.Need-shared-slice-read-lower-2
 shared-slice-read-lower-2 c = search needs
 
 add-lower : tie.Need-add-lower
-add-lower c = record { fits = first-sums-fit (c .before .before .before .before .before .before .before .before .pre .sets) (c .before .before .before .before .before .before .before .before .pre .costs-fit) }
+add-lower c = record { fits = first-sums-fit (c .before .before .before .before .before .before .before .before .pre .1 .sets) (c .before .before .before .before .before .before .before .before .pre .1 .costs-fit) }
 
 mul-lower-3 : tie.Need-mul-lower-3
 mul-lower-3 c = search needs
@@ -34,7 +34,7 @@ shared-slice-read-lower-4 : tie.Need-shared-slice-read-lower-4
 shared-slice-read-lower-4 c = search needs
 
 add-lower-2 : tie.Need-add-lower-2
-add-lower-2 c = record { fits = first-sums-fit (c .before .before .before .before .before .before .before .before .before .before .pre .sets) (c .before .before .before .before .before .before .before .before .before .before .pre .keys-fit) }
+add-lower-2 c = record { fits = first-sums-fit (c .before .before .before .before .before .before .before .before .before .before .pre .1 .sets) (c .before .before .before .before .before .before .before .before .before .before .pre .1 .keys-fit) }
 
 lower-requires : tie.Need-lower-requires
 lower-requires c κs = search needs
@@ -50,7 +50,7 @@ unfolding sumAt
 returns c =
     let a = c .before .before .before .before .before .before .before .before .before .before .before .before .before .before .before .before .before .args in
     let sum = sumAt (now (a .tops)) (now (a .topkeys)) (now (a .rests)) (now (a .restkeys)) in
-    lowered-at-one {t = a .t} {r = a .r} {sum = sum} (c .before .before .before .before .lower .ensures)
+    lowered-at-one {sum = sum} (c .before .before .before .before .lower .ensures)
 
 pub lower-one-spec : {M : Type 1} → statement M
 lower-one-spec =
