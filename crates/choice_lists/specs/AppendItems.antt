@@ -16,7 +16,6 @@ use Rattle.choice_lists.specs.SpreadItems.{sums-small, sum-sound, at-lev
 use Rattle.assignment.specs.ValueLaws.{lesser-assoc}
 use Rattle.assignment.specs.Values.{Value, pair, lesser, leastBelow}
 use Rattle.knapsack.specs.declared.relaxing.Choice.{Choice}
-use Rattle.knapsack.specs.declared.relaxing.Core.{Core}
 use Rattle.knapsack.specs.declared.relaxing.Front.{Front}
 
 -- the least of two lists, one behind the other
@@ -39,8 +38,8 @@ leastListed-parts points {from} {mid} {to} rest w first second =
     ∙ ap (lesser (leastBelow (mid - from) (λ i. before (pointAt points (from + i)) rest w)))
     (leastBelow-alike (to - mid) _ _ (λ i below. let same : from + (mid - from + i) ≡ mid + i = omega arith in rw same))
 
-module _ {core : Core} {front : Front} {from to used : ℕ} {load cost : List ℕ} where
-  pub append-no-level : (points : List ℕ) → ItemAppended core front from to used load cost points 0 points used
+module _ {front : Front} {from to used : ℕ} {load cost : List ℕ} where
+  pub append-no-level : (points : List ℕ) → ItemAppended front from to used load cost points 0 points used
   unfolding leastListed leastBelow
   append-no-level points =
       let no-entry : used - used ≡ 0 = omega arith in
@@ -52,8 +51,8 @@ module _ {core : Core} {front : Front} {from to used : ℕ} {load cost : List �
         small = λ n places sum small p after below. absurd (omega arith);
       }
 
-  module _ {points₀ : List ℕ} (fits : ItemRoom core front from to used load cost points₀) {l : ℕ} (under : l < core .levels)
-      {points : List ℕ} {end : ℕ} (sofar : ItemAppended core front from to used load cost points₀ l points end)
+  module _ {points₀ : List ℕ} (fits : ItemRoom front from to used load cost points₀) {l : ℕ} (under : l < front .core .levels)
+      {points : List ℕ} {end : ℕ} (sofar : ItemAppended front from to used load cost points₀ l points end)
       {choice : Choice} (chosen : choice ≡ choiceOf load cost front l) where
     -- the entries that are read stay
     read-same : (p : ℕ) → p < to → pointAt points p ≡ pointAt points₀ p
@@ -64,7 +63,7 @@ module _ {core : Core} {front : Front} {from to used : ℕ} {load cost : List �
     unfolding leastSums
     sums-same rest w = leastBelow-alike (to - from) _ _ (λ i below. ap (λ (x : Choice). before (sumOf choice x) rest w) (read-same (from + i) (omega arith)))
 
-    item-stays : ItemFits core front from to load cost points
+    item-stays : ItemFits front from to load cost points
     item-stays =
         let item = fits .item in
         record {
@@ -76,7 +75,7 @@ module _ {core : Core} {front : Front} {from to used : ℕ} {load cost : List �
           small = λ p after below. rw (read-same p below) (item .small p after below);
         }
 
-    pub level-room : choice .load ≤ core .capacity → LevelRoom (core .capacity) choice from to end points
+    pub level-room : choice .load ≤ front .core .capacity → LevelRoom (front .core .capacity) choice from to end points
     level-room room =
         record {
           sums = sums-small item-stays under chosen room;
@@ -84,7 +83,7 @@ module _ {core : Core} {front : Front} {from to used : ℕ} {load cost : List �
           room = omega (arith, fits .room, sofar .few, sofar .older .same-length, suc-mul l (to - from), mul-le-mul-right (to - from) under);
         }
 
-    pub append-no-room : core .capacity < choice .load → ItemAppended core front from to used load cost points₀ (suc l) points end
+    pub append-no-room : front .core .capacity < choice .load → ItemAppended front from to used load cost points₀ (suc l) points end
     unfolding leastBelow
     append-no-room over =
         record {
@@ -99,9 +98,9 @@ module _ {core : Core} {front : Front} {from to used : ℕ} {load cost : List �
           small = sofar .small;
         }
 
-    pub append-one-level : {points' : List ℕ} {end' : ℕ} → choice .load ≤ core .capacity →
-        LevelAppended (core .capacity) choice from to end points points' end' →
-        ItemAppended core front from to used load cost points₀ (suc l) points' end'
+    pub append-one-level : {points' : List ℕ} {end' : ℕ} → choice .load ≤ front .core .capacity →
+        LevelAppended (front .core .capacity) choice from to end points points' end' →
+        ItemAppended front from to used load cost points₀ (suc l) points' end'
     unfolding leastBelow
     append-one-level {points'} {end'} room level =
         record {
@@ -125,8 +124,8 @@ module _ {core : Core} {front : Front} {from to used : ℕ} {load cost : List �
         }
       where
         new : (n places : ℕ) → n + places ≡ front .places →
-            ((p : ℕ) → from ≤ p → p < to → PointSmall (core .capacity) n places (pointAt points₀ p)) →
-            (p : ℕ) → used ≤ p → p < end' → (p < end) ⊎ (end ≤ p) → PointSmall (core .capacity) (suc n) places (pointAt points' p)
+            ((p : ℕ) → from ≤ p → p < to → PointSmall (front .core .capacity) n places (pointAt points₀ p)) →
+            (p : ℕ) → used ≤ p → p < end' → (p < end) ⊎ (end ≤ p) → PointSmall (front .core .capacity) (suc n) places (pointAt points' p)
         new n places sum small p after below (inl less) =
             rw (point-older (level .older) p less)
             (sofar .small n places sum small p after less)

@@ -10,7 +10,6 @@ use Rattle.choice_lists.specs.Spread.{leastSums, Sound, SumsSmall, ItemF
 use Rattle.choice_lists.specs.Sweep.{Older}
 use Rattle.assignment.specs.Values.{Value, pair, leastBelow}
 use Rattle.knapsack.specs.declared.relaxing.Choice.{Choice}
-use Rattle.knapsack.specs.declared.relaxing.Core.{Core}
 use Rattle.knapsack.specs.declared.relaxing.Front.{Front}
 
 -- there is room for a choice with each of the entries from `from` to `to`, behind the first `start` entries
@@ -32,20 +31,20 @@ pub record LevelAppended (capacity : ℕ) (choice : Choice) (from to start : ℕ
       (p : ℕ) → start ≤ p → p < end → PointSmall capacity n places (pointAt points p)
 
 -- there is room for an item at every level before the entries from `from` to `to`, behind the first `used` entries
-pub record ItemRoom (core : Core) (front : Front) (from to used : ℕ) (load cost points : List ℕ) : Type 0 where
-  pub item : ItemFits core front from to load cost points
+pub record ItemRoom (front : Front) (from to used : ℕ) (load cost points : List ℕ) : Type 0 where
+  pub item : ItemFits front from to load cost points
   pub behind : to ≤ used
-  pub room : (used + core .levels * (to - from)) * pointWidth ≤ length points
+  pub room : (used + front .core .levels * (to - from)) * pointWidth ≤ length points
 
 -- the item's first l levels before the entries from `from` to `to` are the entries from `used` to `end`
-pub record ItemAppended (core : Core) (front : Front) (from to used : ℕ) (load cost points₀ : List ℕ) (l : ℕ) (points : List ℕ)
+pub record ItemAppended (front : Front) (from to used : ℕ) (load cost points₀ : List ℕ) (l : ℕ) (points : List ℕ)
     (end : ℕ) : Type 0 where
   pub older : Older used points₀ points
   pub ordered : used ≤ end
   pub few : end ≤ used + l * (to - from)
-  pub least : (rest : ℕ → Value) (w : ℕ) → w ≤ core .capacity →
+  pub least : (rest : ℕ → Value) (w : ℕ) → w ≤ front .core .capacity →
       leastListed points used (end - used) rest w
       ≡ leastBelow l (atLevel (offerAt load cost (front .item)) (front .places) (leastListed points₀ from (to - from) rest) w)
   pub small : (n places : ℕ) → n + places ≡ front .places →
-      ((p : ℕ) → from ≤ p → p < to → PointSmall (core .capacity) n places (pointAt points₀ p)) →
-      (p : ℕ) → used ≤ p → p < end → PointSmall (core .capacity) (suc n) places (pointAt points p)
+      ((p : ℕ) → from ≤ p → p < to → PointSmall (front .core .capacity) n places (pointAt points₀ p)) →
+      (p : ℕ) → used ≤ p → p < end → PointSmall (front .core .capacity) (suc n) places (pointAt points p)

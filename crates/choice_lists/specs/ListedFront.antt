@@ -34,9 +34,9 @@ mostListed = 6
 abbrev pub mostStarts : ℕ
 mostStarts = 65
 
--- the item before the last c of the first n of `items` items
-abbrev pub frontAt : (n c items : ℕ) → Front
-frontAt n c items = record { item = n - 1 - c; places = items - n + c; digit = keyBase ^ (items - n + c) }
+-- the item before the last c of the first n of `items` items, on a core
+abbrev pub frontAt : Core → (n c items : ℕ) → Front
+frontAt core n c items = record { core = core; item = n - 1 - c; places = items - n + c; digit = keyBase ^ (items - n + c) }
 
 -- the first n of `items` items
 pub record ListsFit (core : Core) (n items : ℕ) (load cost points starts : List ℕ) : Type 0 where
@@ -143,7 +143,7 @@ module _ {core : Core} {n items : ℕ} {load cost points starts : List ℕ} (fit
   behind-all : items - n + c - c ≡ items - n
   behind-all = omega arith
 
-  pub sets-fit : LastListed core n items load cost c points starts → SetsFit core (frontAt n c items) c load cost points starts
+  pub sets-fit : LastListed core n items load cost c points starts → SetsFit (frontAt core n c items) c load cost points starts
   sets-fit listed =
       let next : suc (n - 1 - c) ≡ n - c = omega arith in
       let some-digit : 0 < 2 = omega arith in
@@ -168,7 +168,7 @@ module _ {core : Core} {n items : ℕ} {load cost points starts : List ℕ} (fit
         behind = rw (next, behind-all) listed;
       }
 
-  pub one-more-listed : {points' starts' : List ℕ} → WithItem core (frontAt n c items) c load cost points' starts' →
+  pub one-more-listed : {points' starts' : List ℕ} → WithItem (frontAt core n c items) c load cost points' starts' →
       LastListed core n items load cost (suc c) points' starts'
   one-more-listed listed =
       let next : n - 1 - c ≡ n - suc c = omega arith in

@@ -24,10 +24,10 @@ use Rattle.knapsack.specs.declared.relaxing.Front.{Front}
 use Rattle.laws.specs.Tests.{Decides}
 
 -- what is spread and swept is listed
-pub set-added : {core : Core} {front : Front} {from to used end : ℕ} {load cost points₀ points costs keys : List ℕ} →
-    ItemSpread core front from to load cost points₀ (core .levels) costs keys →
-    Swept (core .capacity) used costs keys points₀ points end →
-    SetAdded core front from to used load cost points₀ points end
+pub set-added : {front : Front} {from to used end : ℕ} {load cost points₀ points costs keys : List ℕ} →
+    ItemSpread front from to load cost points₀ (front .core .levels) costs keys →
+    Swept (front .core .capacity) used costs keys points₀ points end →
+    SetAdded front from to used load cost points₀ points end
 unfolding withItem
 set-added spread swept =
     record {
@@ -43,10 +43,10 @@ set-added spread swept =
     }
 
 -- and so is what is appended
-pub set-appended : {core : Core} {front : Front} {from to used end : ℕ} {load cost points₀ points : List ℕ} →
-    ItemRoom core front from to used load cost points₀ →
-    ItemAppended core front from to used load cost points₀ (core .levels) points end →
-    SetAdded core front from to used load cost points₀ points end
+pub set-appended : {front : Front} {from to used end : ℕ} {load cost points₀ points : List ℕ} →
+    ItemRoom front from to used load cost points₀ →
+    ItemAppended front from to used load cost points₀ (front .core .levels) points end →
+    SetAdded front from to used load cost points₀ points end
 unfolding withItem
 set-appended fits appended =
     record {
@@ -67,14 +67,14 @@ decides-short core from to = go (leb (core .levels * (to - from)) mostShort) ref
     go true e = leb-true (core .levels * (to - from)) mostShort e
     go false e = λ le. absurd (omega (arith, leb-false (core .levels * (to - from)) mostShort e))
 
-module _ {core : Core} {front : Front} {from to : ℕ} {load cost points : List ℕ} where
+module _ {front : Front} {from to : ℕ} {load cost points : List ℕ} where
   -- the sums of all levels are no more than 64 bits count
-  pub sums-counted : ItemFits core front from to load cost points → length points * 8 < 2 ^ 63 → core .levels * (to - from) < 2 ^ 64
+  pub sums-counted : ItemFits front from to load cost points → length points * 8 < 2 ^ 63 → front .core .levels * (to - from) < 2 ^ 64
   sums-counted fits counted =
       omega (arith, counted, fits .there, mul-le-mul-right (to - from) (fits .affordable .levels-limited))
 
-  module _ {used : ℕ} (fits : SetFits core front from to used load cost points) where
-    pub room-short : Short core from to → ItemRoom core front from to used load cost points
+  module _ {used : ℕ} (fits : SetFits front from to used load cost points) where
+    pub room-short : Short (front .core) from to → ItemRoom front from to used load cost points
     room-short short =
         record {
           item = fits .item;
@@ -82,7 +82,7 @@ module _ {core : Core} {front : Front} {from to : ℕ} {load cost points : List 
           room = omega (arith, fits .room .short short, fits .there);
         }
 
-    pub room-long : ¬ (Short core from to) → (used + suc (core .capacity)) * pointWidth ≤ length points
+    pub room-long : ¬ (Short (front .core) from to) → (used + suc (front .core .capacity)) * pointWidth ≤ length points
     room-long long = omega (arith, fits .room .long long, fits .there)
 
 module _ (levels first n places : ℕ) (load cost : List ℕ) {k : ℕ} (there : k < 2 ^ n) (rest : ℕ → Value) where
@@ -119,15 +119,15 @@ small-for-more {n = n} {places} small =
       digits = omega (arith, small .digits, larger, pow-suc keyBase (n + places));
     }
 
-module _ (core : Core) (load cost : List ℕ) where
+module _ (load cost : List ℕ) where
   -- the knapsack of set number k of n items from `first` on
-  abbrev setKnapsack : (first n places k : ℕ) → (ℕ → Value) → ℕ → Value
-  setKnapsack first n places k = knapsackBefore (core .levels) (λ i. offerAt load cost (first + i)) n places k
+  abbrev setKnapsack : Core → (first n places k : ℕ) → (ℕ → Value) → ℕ → Value
+  setKnapsack core first n places k = knapsackBefore (core .levels) (λ i. offerAt load cost (first + i)) n places k
 
-  pub listed-absent : (first k : ℕ) {n places from to : ℕ} {points : List ℕ} → k < 2 ^ n →
-      Listed (core .capacity) n places (setKnapsack (suc first) n places k) points from to →
-      Listed (core .capacity) (suc n) places (setKnapsack first (suc n) places k) points from to
-  listed-absent first k {n} {places} there list =
+  pub listed-absent : (core : Core) (first k : ℕ) {n places from to : ℕ} {points : List ℕ} → k < 2 ^ n →
+      Listed (core .capacity) n places (setKnapsack core (suc first) n places k) points from to →
+      Listed (core .capacity) (suc n) places (setKnapsack core first (suc n) places k) points from to
+  listed-absent core first k {n} {places} there list =
       record {
         ordered = list .ordered;
         there = list .there;
@@ -138,9 +138,9 @@ module _ (core : Core) (load cost : List ℕ) where
       }
 
   pub listed-present : (front : Front) (k : ℕ) {n places from to used end : ℕ} {points₀ points : List ℕ} → n + places ≡ front .places →
-      k < 2 ^ n → Listed (core .capacity) n places (setKnapsack (suc (front .item)) n places k) points₀ from to →
-      SetAdded core front from to used load cost points₀ points end →
-      Listed (core .capacity) (suc n) places (setKnapsack (front .item) (suc n) places (2 ^ n + k)) points used end
+      k < 2 ^ n → Listed (front .core .capacity) n places (setKnapsack (front .core) (suc (front .item)) n places k) points₀ from to →
+      SetAdded front from to used load cost points₀ points end →
+      Listed (front .core .capacity) (suc n) places (setKnapsack (front .core) (front .item) (suc n) places (2 ^ n + k)) points used end
   listed-present front k {n} {places} {from} {to} {points₀ = points₀} sum there list added =
       let new = added .listed n places sum (list .small) in
       record {
@@ -148,11 +148,12 @@ module _ (core : Core) (load cost : List ℕ) where
         there = new .there;
         least = λ rest falling w under.
             new .least rest falling w under
-            ∙ withItem-same (core .levels) (offerAt load cost (front .item)) (front .places) _ _ w
+            ∙ withItem-same (front .core .levels) (offerAt load cost (front .item)) (front .places) _ _ w
             (λ u below. list .least rest falling u (omega arith))
             ∙ ap
-            (λ (m : ℕ). withItem (core .levels) (offerAt load cost (front .item)) m (setKnapsack (suc (front .item)) n places k rest) w)
+            (λ (m : ℕ). withItem (front .core .levels) (offerAt load cost (front .item)) m
+            (setKnapsack (front .core) (suc (front .item)) n places k rest) w)
             (sym sum)
-            ∙ sym (ap (λ (f : ℕ → Value). f w) (first-present (core .levels) (front .item) n places load cost there rest));
+            ∙ sym (ap (λ (f : ℕ → Value). f w) (first-present (front .core .levels) (front .item) n places load cost there rest));
         small = new .small;
       }

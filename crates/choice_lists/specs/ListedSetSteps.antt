@@ -71,22 +71,22 @@ module _ {core : Core} {load cost : List ℕ} {first n places upto : ℕ} {point
             upto (sets .each) list;
       }
 
-module _ {core : Core} {front : Front} {count : ℕ} {load cost : List ℕ} where
-  pub sets-start : {points starts : List ℕ} → SetsFit core front count load cost points starts →
-      SetsGoing core front count load cost 0 points starts
+module _ {front : Front} {count : ℕ} {load cost : List ℕ} where
+  pub sets-start : {points starts : List ℕ} → SetsFit front count load cost points starts →
+      SetsGoing front count load cost 0 points starts
   sets-start fits =
       record {
         behind = fits .behind;
         sofar = rw add-zero
             record {
               starts-there = fits .behind .starts-there;
-              each = λ k below. listed-absent core load cost (front .item) k below (fits .behind .each k below);
+              each = λ k below. listed-absent load cost (front .core) (front .item) k below (fits .behind .each k below);
             };
       }
 
   -- the length alone matters
-  pub room-stays : {starts starts' : List ℕ} → length starts' ≡ length starts → SetsRoom core front count load cost starts →
-      SetsRoom core front count load cost starts'
+  pub room-stays : {starts starts' : List ℕ} → length starts' ≡ length starts → SetsRoom front count load cost starts →
+      SetsRoom front count load cost starts'
   room-stays same-starts room =
       record {
         affordable = room .affordable;
@@ -96,7 +96,7 @@ module _ {core : Core} {front : Front} {count : ℕ} {load cost : List ℕ} wher
         starts-long = omega (arith, room .starts-long);
       }
 
-  module _ {k : ℕ} {points starts : List ℕ} (fits : NextSetFits core front count k load cost points starts) where
+  module _ {k : ℕ} {points starts : List ℕ} (fits : NextSetFits front count k load cost points starts) where
     sum : count + (front .places - count) ≡ front .places
     sum = omega (arith, fits .room .count-behind)
 
@@ -106,7 +106,7 @@ module _ {core : Core} {front : Front} {count : ℕ} {load cost : List ℕ} wher
     pub used-there : getD starts (2 ^ count + k) 0 * pointWidth ≤ length points
     used-there = last-there (fits .going .sofar) (omega (arith, pow-pos count))
 
-    pub list-fits : ItemFits core front (getD starts k 0) (getD starts (suc k) 0) load cost points
+    pub list-fits : ItemFits front (getD starts k 0) (getD starts (suc k) 0) load cost points
     list-fits =
         let list = fits .going .behind .each k (fits .there) in
         record {
@@ -118,9 +118,9 @@ module _ {core : Core} {front : Front} {count : ℕ} {load cost : List ℕ} wher
           small = λ p after below. rw sum at (small-alone (list .small p after below));
         }
 
-    pub set-fits : {most : ℕ} → Enough core (getD starts k 0) (getD starts (suc k) 0) most →
+    pub set-fits : {most : ℕ} → Enough (front .core) (getD starts k 0) (getD starts (suc k) 0) most →
         most ≤ length points / pointWidth - getD starts (2 ^ count + k) 0 →
-        SetFits core front (getD starts k 0) (getD starts (suc k) 0) (getD starts (2 ^ count + k) 0) load cost points
+        SetFits front (getD starts k 0) (getD starts (suc k) 0) (getD starts (2 ^ count + k) 0) load cost points
     set-fits enough free =
         record {
           item = list-fits;
@@ -134,8 +134,8 @@ module _ {core : Core} {front : Front} {count : ℕ} {load cost : List ℕ} wher
         }
 
     pub sets-step : {points' : List ℕ} {end : ℕ} →
-        SetAdded core front (getD starts k 0) (getD starts (suc k) 0) (getD starts (2 ^ count + k) 0) load cost points points' end →
-        SetsGoing core front count load cost (suc k) points' (set starts (suc (2 ^ count + k)) end)
+        SetAdded front (getD starts k 0) (getD starts (suc k) 0) (getD starts (2 ^ count + k) 0) load cost points points' end →
+        SetsGoing front count load cost (suc k) points' (set starts (suc (2 ^ count + k)) end)
     sets-step {points'} {end} added =
         let going = fits .going in
         record {
@@ -149,11 +149,11 @@ module _ {core : Core} {front : Front} {count : ℕ} {load cost : List ℕ} wher
                 getD-set-other starts (suc (2 ^ count + k)) (2 ^ count + k) end 0 (λ same. absurd (omega arith)),
                 getD-set-same starts (suc (2 ^ count + k)) end 0 place-there,
               )
-              (listed-present core load cost front k sum (fits .there) (going .behind .each k (fits .there)) added)));
+              (listed-present load cost front k sum (fits .there) (going .behind .each k (fits .there)) added)));
         }
 
-  pub sets-done : {points starts : List ℕ} → SetsGoing core front count load cost (2 ^ count) points starts →
-      WithItem core front count load cost points starts
+  pub sets-done : {points starts : List ℕ} → SetsGoing front count load cost (2 ^ count) points starts →
+      WithItem front count load cost points starts
   sets-done going =
       let all : 2 ^ suc count ≡ 2 ^ count + 2 ^ count = omega (arith, pow-suc 2 count) in
       rw all (going .sofar)

@@ -27,50 +27,50 @@ pub record Enough (core : Core) (from to most : ℕ) : Type 0 where
   pub long : ¬ (Short core from to) → core .capacity < most
 
 -- there is room for another list behind the first `used` entries
-pub record SetFits (core : Core) (front : Front) (from to used : ℕ) (load cost points : List ℕ) : Type 0 where
-  pub item : ItemFits core front from to load cost points
+pub record SetFits (front : Front) (from to used : ℕ) (load cost points : List ℕ) : Type 0 where
+  pub item : ItemFits front from to load cost points
   pub behind : to ≤ used
   pub there : used * pointWidth ≤ length points
-  pub room : Enough core from to (length points / pointWidth - used)
+  pub room : Enough (front .core) from to (length points / pointWidth - used)
 
 -- the item before the list from `from` to `to` is listed from `used` to `end`
-pub record SetAdded (core : Core) (front : Front) (from to used : ℕ) (load cost points₀ points : List ℕ) (end : ℕ) : Type 0 where
+pub record SetAdded (front : Front) (from to used : ℕ) (load cost points₀ points : List ℕ) (end : ℕ) : Type 0 where
   pub older : Older used points₀ points
   pub listed : (n places : ℕ) → n + places ≡ front .places →
-      ((p : ℕ) → from ≤ p → p < to → PointSmall (core .capacity) n places (pointAt points₀ p)) →
-      Listed (core .capacity) (suc n) places
-      (λ rest. withItem (core .levels) (offerAt load cost (front .item)) (front .places) (leastListed points₀ from (to - from) rest))
+      ((p : ℕ) → from ≤ p → p < to → PointSmall (front .core .capacity) n places (pointAt points₀ p)) →
+      Listed (front .core .capacity) (suc n) places
+      (λ rest. withItem (front .core .levels) (offerAt load cost (front .item)) (front .places) (leastListed points₀ from (to - from) rest))
       points used end
 
 -- an item in front of `count` others and the `places` behind these, and room for where the lists of all sets of these and
 -- the item start
-pub record SetsRoom (core : Core) (front : Front) (count : ℕ) (load cost starts : List ℕ) : Type 0 where
-  pub affordable : Affordable (suc (front .item)) (core .levels) (core .capacity) load cost
+pub record SetsRoom (front : Front) (count : ℕ) (load cost starts : List ℕ) : Type 0 where
+  pub affordable : Affordable (suc (front .item)) (front .core .levels) (front .core .capacity) load cost
   pub places-limited : front .places < mostItems
   pub digit-is : front .digit ≡ keyBase ^ front .places
   pub count-behind : count ≤ front .places
   pub starts-long : 2 ^ suc count < length starts
 
 -- the sets without the item are listed
-abbrev pub Without : Core → Front → ℕ → (load cost points starts : List ℕ) → Type 0
-Without core front count load cost =
-    SetsListed core load cost (suc (front .item)) count (front .places - count) (2 ^ count)
+abbrev pub Without : Front → ℕ → (load cost points starts : List ℕ) → Type 0
+Without front count load cost =
+    SetsListed (front .core) load cost (suc (front .item)) count (front .places - count) (2 ^ count)
 
 -- and those with it
-abbrev pub WithItem : Core → Front → ℕ → (load cost points starts : List ℕ) → Type 0
-WithItem core front count load cost =
-    SetsListed core load cost (front .item) (suc count) (front .places - count) (2 ^ suc count)
+abbrev pub WithItem : Front → ℕ → (load cost points starts : List ℕ) → Type 0
+WithItem front count load cost =
+    SetsListed (front .core) load cost (front .item) (suc count) (front .places - count) (2 ^ suc count)
 
-pub record SetsFit (core : Core) (front : Front) (count : ℕ) (load cost points starts : List ℕ) : Type 0 where
-  pub room : SetsRoom core front count load cost starts
-  pub behind : Without core front count load cost points starts
+pub record SetsFit (front : Front) (count : ℕ) (load cost points starts : List ℕ) : Type 0 where
+  pub room : SetsRoom front count load cost starts
+  pub behind : Without front count load cost points starts
 
 -- the sets without the item, and k of those with it
-pub record SetsGoing (core : Core) (front : Front) (count : ℕ) (load cost : List ℕ) (k : ℕ) (points starts : List ℕ) : Type 0 where
-  pub behind : Without core front count load cost points starts
-  pub sofar : SetsListed core load cost (front .item) (suc count) (front .places - count) (2 ^ count + k) points starts
+pub record SetsGoing (front : Front) (count : ℕ) (load cost : List ℕ) (k : ℕ) (points starts : List ℕ) : Type 0 where
+  pub behind : Without front count load cost points starts
+  pub sofar : SetsListed (front .core) load cost (front .item) (suc count) (front .places - count) (2 ^ count + k) points starts
 
-pub record NextSetFits (core : Core) (front : Front) (count k : ℕ) (load cost points starts : List ℕ) : Type 0 where
-  pub room : SetsRoom core front count load cost starts
-  pub going : SetsGoing core front count load cost k points starts
+pub record NextSetFits (front : Front) (count k : ℕ) (load cost points starts : List ℕ) : Type 0 where
+  pub room : SetsRoom front count load cost starts
+  pub going : SetsGoing front count load cost k points starts
   pub there : k < 2 ^ count

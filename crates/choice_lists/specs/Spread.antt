@@ -13,7 +13,6 @@ use Rattle.knapsack.specs.Knapsacks.{atLevel}
 use Rattle.assignment.specs.Values.{Value, none, pair, add, lesser, leastBelow}
 use Rattle.assignment.specs.Words.{noCost}
 use Rattle.knapsack.specs.declared.relaxing.Choice.{Choice}
-use Rattle.knapsack.specs.declared.relaxing.Core.{Core}
 use Rattle.knapsack.specs.declared.relaxing.Front.{Front}
 use Rattle.assignment.specs.Entries.{entryAt}
 
@@ -68,24 +67,24 @@ pub record LevelSpread (capacity : ℕ) (choice : Choice) (from to : ℕ) (point
       AllSound capacity n places costs keys
 
 -- an item is within the limits, and the list is one of the `places` items behind it
-pub record ItemFits (core : Core) (front : Front) (from to : ℕ) (load cost points : List ℕ) : Type 0 where
-  pub affordable : Affordable (suc (front .item)) (core .levels) (core .capacity) load cost
+pub record ItemFits (front : Front) (from to : ℕ) (load cost points : List ℕ) : Type 0 where
+  pub affordable : Affordable (suc (front .item)) (front .core .levels) (front .core .capacity) load cost
   pub places-limited : front .places < mostItems
   pub digit-is : front .digit ≡ keyBase ^ front .places
   pub ordered : from ≤ to
   pub there : to * pointWidth ≤ length points
-  pub small : (p : ℕ) → from ≤ p → p < to → PointSmall (core .capacity) (front .places) 0 (pointAt points p)
+  pub small : (p : ℕ) → from ≤ p → p < to → PointSmall (front .core .capacity) (front .places) 0 (pointAt points p)
 
 -- no entry up to the capacity
 pub record Cleared (capacity : ℕ) (costs : List ℕ) : Type 0 where
   pub each : (u : ℕ) → u ≤ capacity → getD costs u 0 ≡ noCost
 
 -- the item's first l levels before the entries of a list
-pub record ItemSpread (core : Core) (front : Front) (from to : ℕ) (load cost points : List ℕ) (l : ℕ) (costs keys : List ℕ) :
+pub record ItemSpread (front : Front) (from to : ℕ) (load cost points : List ℕ) (l : ℕ) (costs keys : List ℕ) :
     Type 0 where
-  pub least : (rest : ℕ → Value) (w : ℕ) → w ≤ core .capacity →
-      leastSpread (core .capacity) costs keys rest w
+  pub least : (rest : ℕ → Value) (w : ℕ) → w ≤ front .core .capacity →
+      leastSpread (front .core .capacity) costs keys rest w
       ≡ leastBelow l (atLevel (offerAt load cost (front .item)) (front .places) (leastListed points from (to - from) rest) w)
   pub sound : (n places : ℕ) → n + places ≡ front .places →
-      ((p : ℕ) → from ≤ p → p < to → PointSmall (core .capacity) n places (pointAt points p)) →
-      AllSound (core .capacity) (suc n) places costs keys
+      ((p : ℕ) → from ≤ p → p < to → PointSmall (front .core .capacity) n places (pointAt points p)) →
+      AllSound (front .core .capacity) (suc n) places costs keys

@@ -18,7 +18,6 @@ use Rattle.choice_lists.specs.SpreadLaws.{none-before, leastSums-is}
 use Rattle.assignment.specs.Values.{Value, none, pair, lesser, leastBelow}
 use Rattle.assignment.specs.Words.{noCost, words-none}
 use Rattle.knapsack.specs.declared.relaxing.Choice.{Choice}
-use Rattle.knapsack.specs.declared.relaxing.Core.{Core}
 use Rattle.knapsack.specs.declared.relaxing.Front.{Front}
 use Rattle.assignment.specs.Entries.{entryAt}
 
@@ -44,22 +43,22 @@ knapsacks-long c k under =
 pub knapsacks-cleared : {capacity : ℕ} → capacity ≤ mostCapacity → Cleared capacity (replicate (suc mostCapacity) noCost)
 knapsacks-cleared under = record { each = λ u below. getD-replicate (suc mostCapacity) u noCost 0 (omega arith) }
 
-module _ {core : Core} {front : Front} {from to : ℕ} {load cost points : List ℕ} where
-  pub spread-no-level : {costs keys : List ℕ} → Cleared (core .capacity) costs →
-      ItemSpread core front from to load cost points 0 costs keys
+module _ {front : Front} {from to : ℕ} {load cost points : List ℕ} where
+  pub spread-no-level : {costs keys : List ℕ} → Cleared (front .core .capacity) costs →
+      ItemSpread front from to load cost points 0 costs keys
   unfolding leastSpread leastBelow entryAt
   spread-no-level {costs} {keys} cleared =
       record {
         least = λ rest w under.
-            leastBelow-none (suc (core .capacity)) _
+            leastBelow-none (suc (front .core .capacity)) _
             (λ u below. ap (λ (v : Value). valueBefore u v rest w) (empty u (omega arith)) ∙ none-before u rest w);
         sound = λ n places sum small u under. rw (empty u under) absent;
       }
     where
-      empty : (u : ℕ) → u ≤ core .capacity → entryAt costs keys u ≡ none
+      empty : (u : ℕ) → u ≤ front .core .capacity → entryAt costs keys u ≡ none
       empty u under = rw (cleared .each u under) (words-none noCost _ (omega arith))
 
-  module _ (fits : ItemFits core front from to load cost points) {l : ℕ} (under : l < core .levels) where
+  module _ (fits : ItemFits front from to load cost points) {l : ℕ} (under : l < front .core .levels) where
     pub item-choice-fits : ChoiceFits load cost front l
     item-choice-fits = level-fits (fits .affordable) (fits .places-limited) (fits .digit-is) under
 
@@ -67,12 +66,12 @@ module _ {core : Core} {front : Front} {from to : ℕ} {load cost points : List 
     most-key = mul-le-mul-right (front .digit) (omega (arith, fits .affordable .levels-limited))
 
     module _ {choice : Choice} (chosen : choice ≡ choiceOf load cost front l) where
-      cheap : choice .load ≤ core .capacity → choice .cost ≤ mostCost
+      cheap : choice .load ≤ front .core .capacity → choice .cost ≤ mostCost
       cheap room =
           rw chosen
           (fits .affordable .cheap (front .item) (omega arith) l under (omega (arith, ap (λ (x : Choice). x .load) chosen)))
 
-      pub sums-small : choice .load ≤ core .capacity → SumsSmall (core .capacity) choice from to points
+      pub sums-small : choice .load ≤ front .core .capacity → SumsSmall (front .core .capacity) choice from to points
       sums-small room =
           record {
             capacity-limited = fits .affordable .capacity-limited;
@@ -86,8 +85,8 @@ module _ {core : Core} {front : Front} {from to : ℕ} {load cost points : List 
                 omega (arith, digits, most-key, digit-fits (fits .places-limited) (fits .digit-is), fits .digit-is, ap (λ (x : Choice). x .key) chosen);
           }
 
-      pub sum-sound : {n places : ℕ} {point : Choice} → choice .load ≤ core .capacity → n + places ≡ front .places →
-          PointSmall (core .capacity) n places point →
+      pub sum-sound : {n places : ℕ} {point : Choice} → choice .load ≤ front .core .capacity → n + places ≡ front .places →
+          PointSmall (front .core .capacity) n places point →
           Sound (suc n) places (pair (choice .cost + point .cost) (choice .key + point .key))
       unfolding keyBase
       sum-sound {n} {places} {point} room sum small =
@@ -98,7 +97,7 @@ module _ {core : Core} {front : Front} {from to : ℕ} {load cost points : List 
           (omega (arith, small .digits, most-key, power, larger, pow-suc keyBase (n + places), ap (λ (x : Choice). x .key) chosen))
 
       -- what the level comes to before a knapsack
-      pub at-level-over : core .capacity < choice .load → (rest : ℕ → Value) {w : ℕ} → w ≤ core .capacity →
+      pub at-level-over : front .core .capacity < choice .load → (rest : ℕ → Value) {w : ℕ} → w ≤ front .core .capacity →
           atLevel (offerAt load cost (front .item)) (front .places) rest w l ≡ none
       unfolding atLevel offerAt
       at-level-over over rest {w} below =
@@ -114,8 +113,8 @@ module _ {core : Core} {front : Front} {from to : ℕ} {load cost points : List 
           level : (knapsack : ℕ → Value) → before choice knapsack w ≡ atLevel (offerAt load cost (front .item)) (front .places) knapsack w l
           level knapsack = rw (chosen, fits .digit-is)
 
-      module _ {costs₀ keys₀ : List ℕ} (sofar : ItemSpread core front from to load cost points l costs₀ keys₀) where
-        pub spread-no-room : core .capacity < choice .load → ItemSpread core front from to load cost points (suc l) costs₀ keys₀
+      module _ {costs₀ keys₀ : List ℕ} (sofar : ItemSpread front from to load cost points l costs₀ keys₀) where
+        pub spread-no-room : front .core .capacity < choice .load → ItemSpread front from to load cost points (suc l) costs₀ keys₀
         unfolding leastBelow
         spread-no-room over =
             record {
@@ -125,9 +124,9 @@ module _ {core : Core} {front : Front} {from to : ℕ} {load cost points : List 
               sound = sofar .sound;
             }
 
-        pub spread-one-level : {costs keys : List ℕ} → choice .load ≤ core .capacity →
-            LevelSpread (core .capacity) choice from to points costs₀ keys₀ costs keys →
-            ItemSpread core front from to load cost points (suc l) costs keys
+        pub spread-one-level : {costs keys : List ℕ} → choice .load ≤ front .core .capacity →
+            LevelSpread (front .core .capacity) choice from to points costs₀ keys₀ costs keys →
+            ItemSpread front from to load cost points (suc l) costs keys
         unfolding leastBelow
         spread-one-level room spread =
             record {

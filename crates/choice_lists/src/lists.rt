@@ -41,7 +41,6 @@ fn is_short(core: Core, part: Part) -> bool
 
 // The same, in the way that takes less time.
 fn list_set(
-    core: Core,
     front: Front,
     part: Part,
     used: usize,
@@ -49,13 +48,13 @@ fn list_set(
     cost: &[u64],
     points: &mut [u64],
 ) -> usize
-    requires { ⌜ SetFits core front (part .from) (part .to) used (now load) (now cost) (now points) ⌝ }
-    ensures { λ r. ⌜ SetAdded core front (part .from) (part .to) used (now (load .entry)) (now (cost .entry)) (now (points .entry)) (now (points .exit)) r ⌝ }
+    requires { ⌜ SetFits front (part .from) (part .to) used (now load) (now cost) (now points) ⌝ }
+    ensures { λ r. ⌜ SetAdded front (part .from) (part .to) used (now (load .entry)) (now (cost .entry)) (now (points .entry)) (now (points .exit)) r ⌝ }
 {
-    if is_short(core, part) {
-        return append_item(core, front, part, used, load, cost, points);
+    if is_short(front.core, part) {
+        return append_item(front, part, used, load, cost, points);
     }
-    list_long(core, front, part, used, load, cost, points)
+    list_long(front, part, used, load, cost, points)
 }
 
 // The most points that the list of a set with the item may have.
@@ -73,7 +72,6 @@ fn most_points(core: Core, part: Part) -> usize
 
 // The list of the set with the item and set number k of the `count` items behind it. Answers whether there is room for it.
 fn list_next(
-    core: Core,
     front: Front,
     count: usize,
     k: usize,
@@ -82,8 +80,8 @@ fn list_next(
     points: &mut [u64],
     starts: &mut [usize],
 ) -> bool
-    requires { ⌜ NextSetFits core front count k (now load) (now cost) (now points) (now starts) ⌝ }
-    ensures { λ r. ⌜ (r ≡ true → SetsGoing core front count (now (load .entry)) (now (cost .entry)) (suc k)
+    requires { ⌜ NextSetFits front count k (now load) (now cost) (now points) (now starts) ⌝ }
+    ensures { λ r. ⌜ (r ≡ true → SetsGoing front count (now (load .entry)) (now (cost .entry)) (suc k)
         (now (points .exit)) (now (starts .exit))) ⌝ }
 {
     let at = sets_of(count) + k;
@@ -91,17 +89,16 @@ fn list_next(
     let to = starts[k + 1];
     let part = Part { from, to };
     let used = starts[at];
-    if points.len() / WIDTH - used < most_points(core, part) {
+    if points.len() / WIDTH - used < most_points(front.core, part) {
         return false;
     }
-    let end = list_set(core, front, part, used, load, cost, points);
+    let end = list_set(front, part, used, load, cost, points);
     starts[at + 1] = end;
     true
 }
 
 // The lists of all sets with the item, from those of the sets of the `count` items behind it. Answers whether they fit.
 fn list_sets(
-    core: Core,
     front: Front,
     count: usize,
     load: &[u64],
@@ -109,13 +106,13 @@ fn list_sets(
     points: &mut [u64],
     starts: &mut [usize],
 ) -> bool
-    requires { ⌜ SetsFit core front count (now load) (now cost) (now points) (now starts) ⌝ }
-    ensures { λ r. ⌜ (r ≡ true → WithItem core front count (now (load .entry)) (now (cost .entry)) (now (points .exit)) (now (starts .exit))) ⌝ }
+    requires { ⌜ SetsFit front count (now load) (now cost) (now points) (now starts) ⌝ }
+    ensures { λ r. ⌜ (r ≡ true → WithItem front count (now (load .entry)) (now (cost .entry)) (now (points .exit)) (now (starts .exit))) ⌝ }
 {
     let sets = sets_of(count);
     let mut k = 0;
     while k < sets {
-        if !list_next(core, front, count, k, load, cost, points, starts) {
+        if !list_next(front, count, k, load, cost, points, starts) {
             return false;
         }
         k += 1;
@@ -136,13 +133,14 @@ fn list_none(points: &mut [u64], starts: &mut [usize])
     starts[1] = 1;
 }
 
-// The item before the last c of the first n of all items.
-fn front_at(n: usize, c: usize, items: usize) -> Front
+// The item before the last c of the first n of all items, on a core.
+fn front_at(core: Core, n: usize, c: usize, items: usize) -> Front
     requires { ⌜ (c < n) × (n ≤ items) × (items ≤ mostItems) ⌝ }
-    ensures { λ r. ⌜ r ≡ frontAt n c items ⌝ }
+    ensures { λ r. ⌜ r ≡ frontAt core n c items ⌝ }
 {
     let places = items - n + c;
     Front {
+        core,
         item: n - 1 - c,
         places,
         digit: keys_of(places),
@@ -166,8 +164,8 @@ fn list_items(
     list_none(points, starts);
     let mut c = 0;
     while c < n {
-        let front = front_at(n, c, items);
-        if !list_sets(core, front, c, load, cost, points, starts) {
+        let front = front_at(core, n, c, items);
+        if !list_sets(front, c, load, cost, points, starts) {
             return false;
         }
         c += 1;

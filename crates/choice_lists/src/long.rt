@@ -3,7 +3,6 @@ use crate::points::Part;
 use crate::points::point_at;
 use crate::points::store_point;
 use knapsack::Choice;
-use knapsack::Core;
 use knapsack::Front;
 use knapsack::choice_at;
 use values::ENTRIES;
@@ -64,7 +63,6 @@ fn spread_level(
 
 // The item at each level.
 fn spread_item(
-    core: Core,
     front: Front,
     part: Part,
     load: &[u64],
@@ -73,17 +71,17 @@ fn spread_item(
     costs: &mut [u64],
     keys: &mut [u64],
 )
-    requires { ⌜ ItemFits core front (part .from) (part .to) (now load) (now cost) (now points) ⌝ }
-    requires { ⌜ Long (core .capacity) (now costs) (now keys) ⌝ }
-    requires { ⌜ Cleared (core .capacity) (now costs) ⌝ }
-    ensures { λ _. ⌜ ItemSpread core front (part .from) (part .to) (now (load .entry)) (now (cost .entry)) (now (points .entry))
-        (core .levels) (now (costs .exit)) (now (keys .exit)) ⌝ }
+    requires { ⌜ ItemFits front (part .from) (part .to) (now load) (now cost) (now points) ⌝ }
+    requires { ⌜ Long (front .core .capacity) (now costs) (now keys) ⌝ }
+    requires { ⌜ Cleared (front .core .capacity) (now costs) ⌝ }
+    ensures { λ _. ⌜ ItemSpread front (part .from) (part .to) (now (load .entry)) (now (cost .entry)) (now (points .entry))
+        (front .core .levels) (now (costs .exit)) (now (keys .exit)) ⌝ }
 {
     let mut l = 0;
-    while l < core.levels {
+    while l < front.core.levels {
         let choice = choice_at(load, cost, front, l);
-        if choice.load <= core.capacity {
-            spread_level(core.capacity, choice, part, points, costs, keys);
+        if choice.load <= front.core.capacity {
+            spread_level(front.core.capacity, choice, part, points, costs, keys);
         }
         l += 1;
     }
@@ -126,7 +124,6 @@ fn sweep(capacity: usize, from: usize, costs: &[u64], keys: &[u64], points: &mut
 // The list of a set with the item, behind the first `used` points, from that of the set without it: spread over all loads,
 // and swept. Answers where it ends.
 pub(crate) fn list_long(
-    core: Core,
     front: Front,
     part: Part,
     used: usize,
@@ -134,12 +131,12 @@ pub(crate) fn list_long(
     cost: &[u64],
     points: &mut [u64],
 ) -> usize
-    requires { ⌜ ItemFits core front (part .from) (part .to) (now load) (now cost) (now points) ⌝ }
-    requires { ⌜ (used + suc (core .capacity)) * pointWidth ≤ length (now points) ⌝ }
-    ensures { λ r. ⌜ SetAdded core front (part .from) (part .to) used (now (load .entry)) (now (cost .entry)) (now (points .entry)) (now (points .exit)) r ⌝ }
+    requires { ⌜ ItemFits front (part .from) (part .to) (now load) (now cost) (now points) ⌝ }
+    requires { ⌜ (used + suc (front .core .capacity)) * pointWidth ≤ length (now points) ⌝ }
+    ensures { λ r. ⌜ SetAdded front (part .from) (part .to) used (now (load .entry)) (now (cost .entry)) (now (points .entry)) (now (points .exit)) r ⌝ }
 {
     let mut costs = [NO_COST; ENTRIES];
     let mut keys = [0u64; ENTRIES];
-    spread_item(core, front, part, load, cost, points, &mut costs, &mut keys);
-    sweep(core.capacity, used, &costs, &keys, points)
+    spread_item(front, part, load, cost, points, &mut costs, &mut keys);
+    sweep(front.core.capacity, used, &costs, &keys, points)
 }

@@ -3,7 +3,6 @@ use crate::points::Part;
 use crate::points::point_at;
 use crate::points::store_point;
 use knapsack::Choice;
-use knapsack::Core;
 use knapsack::Front;
 use knapsack::choice_at;
 use values::Worth;
@@ -41,7 +40,6 @@ fn append_level(
 
 // The item at each level.
 pub(crate) fn append_item(
-    core: Core,
     front: Front,
     part: Part,
     used: usize,
@@ -49,16 +47,16 @@ pub(crate) fn append_item(
     cost: &[u64],
     points: &mut [u64],
 ) -> usize
-    requires { ⌜ ItemRoom core front (part .from) (part .to) used (now load) (now cost) (now points) ⌝ }
-    ensures { λ r. ⌜ ItemAppended core front (part .from) (part .to) used (now (load .entry)) (now (cost .entry)) (now (points .entry))
-        (core .levels) (now (points .exit)) r ⌝ }
+    requires { ⌜ ItemRoom front (part .from) (part .to) used (now load) (now cost) (now points) ⌝ }
+    ensures { λ r. ⌜ ItemAppended front (part .from) (part .to) used (now (load .entry)) (now (cost .entry)) (now (points .entry))
+        (front .core .levels) (now (points .exit)) r ⌝ }
 {
     let mut end = used;
     let mut l = 0;
-    while l < core.levels {
+    while l < front.core.levels {
         let choice = choice_at(load, cost, front, l);
-        if choice.load <= core.capacity {
-            end = append_level(core.capacity, choice, part, end, points);
+        if choice.load <= front.core.capacity {
+            end = append_level(front.core.capacity, choice, part, end, points);
         }
         l += 1;
     }

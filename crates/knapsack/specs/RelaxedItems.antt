@@ -13,7 +13,6 @@ use Rattle.assignment.specs.Keys.{keyBase}
 use Rattle.knapsack.specs.KnapsackWords.{KnapsackHeld, knapsackOf, Relaxed, LeastAt, least-of-no-level, least-of-one-more}
 use Rattle.assignment.specs.Words.{noCost}
 use Rattle.knapsack.specs.declared.relaxing.Choice.{Choice}
-use Rattle.knapsack.specs.declared.relaxing.Core.{Core}
 use Rattle.knapsack.specs.declared.relaxing.Front.{Front}
 
 abbrev pub choiceOf : List ℕ → List ℕ → Front → ℕ → Choice
@@ -27,11 +26,11 @@ pub record ChoiceFits (load cost : List ℕ) (front : Front) (level : ℕ) : Typ
   pub key-fits : mostLevels * front .digit < 2 ^ 64
 
 -- the item is within the limits, and the knapsack is one of the `places` items behind it
-pub record ItemBefore (core : Core) (front : Front) (load cost costs keys : List ℕ) : Type 0 where
-  pub affordable : Affordable (suc (front .item)) (core .levels) (core .capacity) load cost
+pub record ItemBefore (front : Front) (load cost costs keys : List ℕ) : Type 0 where
+  pub affordable : Affordable (suc (front .item)) (front .core .levels) (front .core .capacity) load cost
   pub places-limited : front .places < mostItems
   pub digit-is : front .digit ≡ keyBase ^ front .places
-  pub knapsack-held : KnapsackHeld (front .places) (core .capacity) costs keys
+  pub knapsack-held : KnapsackHeld (front .places) (front .core .capacity) costs keys
 
 -- every entry up to the capacity is (c, k)
 pub record FlatKnapsack (c k capacity : ℕ) (costs keys : List ℕ) : Type 0 where
@@ -51,13 +50,13 @@ flat-knapsack c k capacity le =
     }
 
 -- each entry is the least of the item's first l levels before the knapsack
-pub record KnapsackWithItem (core : Core) (front : Front) (load cost knapsackCosts knapsackKeys : List ℕ) (l : ℕ) (costs keys : List ℕ) :
+pub record KnapsackWithItem (front : Front) (load cost knapsackCosts knapsackKeys : List ℕ) (l : ℕ) (costs keys : List ℕ) :
     Type 0 where
-  pub least : (w : ℕ) → w ≤ core .capacity →
+  pub least : (w : ℕ) → w ≤ front .core .capacity →
       LeastAt (offerAt load cost (front .item)) (front .places) l (knapsackOf knapsackCosts knapsackKeys) w (getD costs w 0) (getD keys w 0)
 
-pub knapsack-of-no-level : {core : Core} {front : Front} {load cost knapsackCosts knapsackKeys costs keys : List ℕ} →
-    FlatKnapsack noCost 0 (core .capacity) costs keys → KnapsackWithItem core front load cost knapsackCosts knapsackKeys 0 costs keys
+pub knapsack-of-no-level : {front : Front} {load cost knapsackCosts knapsackKeys costs keys : List ℕ} →
+    FlatKnapsack noCost 0 (front .core .capacity) costs keys → KnapsackWithItem front load cost knapsackCosts knapsackKeys 0 costs keys
 knapsack-of-no-level none =
     record { least = λ w le. rw (none .each-cost w le, none .each-key w le) (least-of-no-level _ _ _ w) }
 
@@ -79,13 +78,13 @@ level-fits affordable few is under =
       key-fits = omega (arith, digit-fits few is);
     }
 
-module _ {core : Core} {front : Front} {load cost knapsackCosts knapsackKeys : List ℕ}
-    (before : ItemBefore core front load cost knapsackCosts knapsackKeys) {l : ℕ} (under : l < core .levels) where
+module _ {front : Front} {load cost knapsackCosts knapsackKeys : List ℕ}
+    (before : ItemBefore front load cost knapsackCosts knapsackKeys) {l : ℕ} (under : l < front .core .levels) where
   pub choice-fits : ChoiceFits load cost front l
   choice-fits = level-fits (before .affordable) (before .places-limited) (before .digit-is) under
 
   module _ {choice : Choice} (chosen : choice ≡ choiceOf load cost front l) where
-    pub knapsack-sums-fit : KnapsackSumsFit (choice .load) (choice .cost) (choice .key) (core .capacity) knapsackCosts knapsackKeys
+    pub knapsack-sums-fit : KnapsackSumsFit (choice .load) (choice .cost) (choice .key) (front .core .capacity) knapsackCosts knapsackKeys
     knapsack-sums-fit =
         let held = before .knapsack-held in
         let few = before .affordable .levels-limited in
@@ -102,7 +101,7 @@ module _ {core : Core} {front : Front} {load cost knapsackCosts knapsackKeys : L
         }
 
     -- (d, j) is what (c, k) becomes by the choice
-    pub entry-of-one-more : {w c k d j : ℕ} → w ≤ core .capacity →
+    pub entry-of-one-more : {w c k d j : ℕ} → w ≤ front .core .capacity →
         LeastAt (offerAt load cost (front .item)) (front .places) l (knapsackOf knapsackCosts knapsackKeys) w c k →
         Relaxed (choice .load) (choice .cost) (choice .key) knapsackCosts knapsackKeys w c k d j →
         LeastAt (offerAt load cost (front .item)) (front .places) (suc l) (knapsackOf knapsackCosts knapsackKeys) w d j
@@ -114,9 +113,10 @@ module _ {core : Core} {front : Front} {load cost knapsackCosts knapsackKeys : L
         sofar
         (rw (chosen, before .digit-is) at relaxed)
 
-    pub knapsack-of-one-more : {costs₀ keys₀ costs keys : List ℕ} → KnapsackWithItem core front load cost knapsackCosts knapsackKeys l costs₀ keys₀ →
-        ((w : ℕ) → w ≤ core .capacity →
+    pub knapsack-of-one-more : {costs₀ keys₀ costs keys : List ℕ} →
+        KnapsackWithItem front load cost knapsackCosts knapsackKeys l costs₀ keys₀ →
+        ((w : ℕ) → w ≤ front .core .capacity →
         Relaxed (choice .load) (choice .cost) (choice .key) knapsackCosts knapsackKeys w
         (getD costs₀ w 0) (getD keys₀ w 0) (getD costs w 0) (getD keys w 0)) →
-        KnapsackWithItem core front load cost knapsackCosts knapsackKeys (suc l) costs keys
+        KnapsackWithItem front load cost knapsackCosts knapsackKeys (suc l) costs keys
     knapsack-of-one-more sofar relaxed = record { least = λ w le. entry-of-one-more le (sofar .least w le) (relaxed w le) }

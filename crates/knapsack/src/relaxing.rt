@@ -14,8 +14,9 @@ pub struct Core {
     pub capacity: usize,
 }
 
-// An item in front of `places` others, and its weight in a key.
+// An item on a core, in front of `places` others, and its weight in a key.
 pub struct Front {
+    pub core: Core,
     pub item: usize,
     pub places: usize,
     pub digit: u64,
@@ -72,7 +73,6 @@ pub fn choice_at(load: &[u64], cost: &[u64], front: Front, level: usize) -> Choi
 
 // The knapsack of a set with the item, from a knapsack of none.
 pub fn relax(
-    core: Core,
     front: Front,
     load: &[u64],
     cost: &[u64],
@@ -81,17 +81,17 @@ pub fn relax(
     costs: &mut [u64],
     keys: &mut [u64],
 )
-    requires { ⌜ ItemBefore core front (now load) (now cost) (now «knapsack_costs») (now «knapsack_keys») ⌝ }
-    requires { ⌜ FlatKnapsack noCost 0 (core .capacity) (now costs) (now keys) ⌝ }
-    ensures { λ _. ⌜ KnapsackWithItem core front (now (load .entry)) (now (cost .entry)) (now («knapsack_costs» .entry)) (now («knapsack_keys» .entry))
-        (core .levels) (now (costs .exit)) (now (keys .exit)) ⌝ }
+    requires { ⌜ ItemBefore front (now load) (now cost) (now «knapsack_costs») (now «knapsack_keys») ⌝ }
+    requires { ⌜ FlatKnapsack noCost 0 (front .core .capacity) (now costs) (now keys) ⌝ }
+    ensures { λ _. ⌜ KnapsackWithItem front (now (load .entry)) (now (cost .entry)) (now («knapsack_costs» .entry)) (now («knapsack_keys» .entry))
+        (front .core .levels) (now (costs .exit)) (now (keys .exit)) ⌝ }
 {
     let mut l = 0;
-    while l < core.levels {
+    while l < front.core.levels {
         let choice = choice_at(load, cost, front, l);
         relax_level(
             choice,
-            core.capacity,
+            front.core.capacity,
             knapsack_costs,
             knapsack_keys,
             costs,

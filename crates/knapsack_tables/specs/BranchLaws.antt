@@ -7,12 +7,13 @@ use native.Mathlib.Omega.{arith}
 use lib.ListN.{length}
 use Rattle.knapsack.specs.Offers.{Offer}
 use Rattle.assignment.specs.KeyLaws.{keys-fit}
-use Rattle.knapsack_tables.specs.Branches.{NextFits, BranchFits, BranchFilled, nextItem, settled, withoutNext, withNext}
+use Rattle.knapsack_tables.specs.Branches.{costsAt, partFrom, offerIn, NextFits, BranchFits, BranchFilled}
+use Rattle.knapsack_tables.specs.Branches.{nextItem, settled, withoutNext, withNext}
 use Rattle.knapsack_tables.specs.FallingLaws.{falling-same, falling-with-item}
 use Rattle.knapsack_tables.specs.FilledTables.{Holds, filled-same, filled-both}
 use Rattle.choice_lists.specs.Listed.{Falling}
 use Rattle.assignment.specs.Limits.{mostCapacity, mostItems, mostLevels}
-use Rattle.knapsack.specs.Offered.{offerAt, Affordable}
+use Rattle.knapsack.specs.Offered.{Affordable}
 use Rattle.knapsack.specs.RelaxedItems.{ItemBefore, KnapsackWithItem}
 use Rattle.assignment.specs.Keys.{keyBase}
 use Rattle.knapsack.specs.KnapsackSteps.{withItem}
@@ -20,7 +21,6 @@ use Rattle.knapsack.specs.KnapsackWords.{KnapsackHeld, knapsackOf, LeastAt, lea
 use Rattle.values.specs.Worths.{Small}
 use Rattle.assignment.specs.Values.{Value}
 use Rattle.knapsack_tables.specs.declared.filling.Branch.{Branch}
-use Rattle.knapsack.specs.declared.relaxing.Core.{Core}
 
 -- a knapsack of fewer items is within the limits of more
 small-for-more : {m c k : ℕ} → Small m c k → Small (suc m) c k
@@ -56,8 +56,8 @@ held-for-more held =
       small = λ w le. small-for-more (held .small w le);
     }
 
-module _ {core : Core} {branch : Branch} {load cost points starts knapsackCosts knapsackKeys costs keys : List ℕ}
-    (fits : BranchFits core branch load cost points starts knapsackCosts knapsackKeys costs keys) where
+module _ {branch : Branch} {offers starts knapsackCosts knapsackKeys costs keys : List ℕ}
+    (fits : BranchFits branch offers starts knapsackCosts knapsackKeys costs keys) where
   bit-above-0 : 0 < branch .bit
   bit-above-0 = omega (arith, fits .index-below)
 
@@ -84,7 +84,7 @@ module _ {core : Core} {branch : Branch} {load cost points starts knapsackCosts 
           index-fits = omega (arith, bit-doubled, fits .index-below);
         }
 
-    pub item-before : ItemBefore core (nextItem branch) load cost knapsackCosts knapsackKeys
+    pub item-before : ItemBefore (nextItem branch) offers (partFrom costsAt offers) knapsackCosts knapsackKeys
     item-before =
         record {
           affordable = rw one-ahead at (fits .affordable);
@@ -94,13 +94,15 @@ module _ {core : Core} {branch : Branch} {load cost points starts knapsackCosts 
         }
 
     settled-fits : {index : ℕ} {knapsackCosts₁ knapsackKeys₁ costs₁ keys₁ : List ℕ} → index < branch .bit * 2 →
-        KnapsackHeld (suc (branch .places)) (core .capacity) knapsackCosts₁ knapsackKeys₁ → Falling (core .capacity) (knapsackOf knapsackCosts₁ knapsackKeys₁) →
+        KnapsackHeld (suc (branch .places)) (branch .core .capacity) knapsackCosts₁ knapsackKeys₁ →
+        Falling (branch .core .capacity) (knapsackOf knapsackCosts₁ knapsackKeys₁) →
         length costs₁ ≡ length costs → length keys₁ ≡ length keys →
-        BranchFits core (settled branch index) load cost points starts knapsackCosts₁ knapsackKeys₁ costs₁ keys₁
+        BranchFits (settled branch index) offers starts knapsackCosts₁ knapsackKeys₁ costs₁ keys₁
     settled-fits below held falls same-costs same-keys =
         let sums : branch .ahead - 1 + suc (branch .places) ≡ branch .ahead + branch .places = omega arith in
         record {
           items-limited = omega (arith, fits .items-limited);
+          offers-there = fits .offers-there;
           affordable = affordable-without-last (rw one-ahead at (fits .affordable));
           bit-is = bit-doubled;
           digit-is = digit-moved;
@@ -113,21 +115,23 @@ module _ {core : Core} {branch : Branch} {load cost points starts knapsackCosts 
           keys-for-all = rw (sums, same-keys) (fits .keys-for-all);
         }
 
-    pub without-fits : BranchFits core (withoutNext branch) load cost points starts knapsackCosts knapsackKeys costs keys
+    pub without-fits : BranchFits (withoutNext branch) offers starts knapsackCosts knapsackKeys costs keys
     without-fits = settled-fits (omega (arith, fits .index-below)) (held-for-more (fits .knapsack-held)) (fits .knapsack-falls) refl refl
 
     with-knapsack : {moreCosts moreKeys : List ℕ} →
-        KnapsackWithItem core (nextItem branch) load cost knapsackCosts knapsackKeys (core .levels) moreCosts moreKeys → (u : ℕ) → u ≤ core .capacity →
+        KnapsackWithItem (nextItem branch) offers (partFrom costsAt offers) knapsackCosts knapsackKeys (branch .core .levels)
+        moreCosts moreKeys → (u : ℕ) → u ≤ branch .core .capacity →
         knapsackOf moreCosts moreKeys u
-        ≡ withItem (core .levels) (offerAt load cost (branch .ahead - 1)) (branch .places) (knapsackOf knapsackCosts knapsackKeys) u
+        ≡ withItem (branch .core .levels) (offerIn offers (branch .ahead - 1)) (branch .places) (knapsackOf knapsackCosts knapsackKeys) u
     unfolding knapsackOf
     with-knapsack more u le = least-holds (fits .affordable .levels-limited) (more .least u le) .is
 
     pub with-fits : {moreCosts moreKeys costs₁ keys₁ : List ℕ} → length moreCosts ≡ suc mostCapacity →
         length moreKeys ≡ suc mostCapacity →
-        KnapsackWithItem core (nextItem branch) load cost knapsackCosts knapsackKeys (core .levels) moreCosts moreKeys →
+        KnapsackWithItem (nextItem branch) offers (partFrom costsAt offers) knapsackCosts knapsackKeys (branch .core .levels)
+        moreCosts moreKeys →
         length costs₁ ≡ length costs → length keys₁ ≡ length keys →
-        BranchFits core (withNext branch) load cost points starts moreCosts moreKeys costs₁ keys₁
+        BranchFits (withNext branch) offers starts moreCosts moreKeys costs₁ keys₁
     with-fits full-costs full-keys more same-costs same-keys =
         settled-fits (omega (arith, fits .index-below))
         record {
@@ -136,15 +140,16 @@ module _ {core : Core} {branch : Branch} {load cost points starts knapsackCosts 
           small = λ w le. least-of-all-levels (fits .affordable .levels-limited) (more .least w le);
         }
         (falling-same (λ u le. sym (with-knapsack more u le))
-        (falling-with-item (offerAt load cost (branch .ahead - 1)) (branch .places) (fits .knapsack-falls) (core .levels)))
+        (falling-with-item (offerIn offers (branch .ahead - 1)) (branch .places) (fits .knapsack-falls) (branch .core .levels)))
         same-costs same-keys
 
     pub both-filled : {costs₁ keys₁ moreCosts moreKeys costs₂ keys₂ : List ℕ} →
-        BranchFilled core (withoutNext branch) load cost knapsackCosts knapsackKeys costs keys costs₁ keys₁ →
-        KnapsackWithItem core (nextItem branch) load cost knapsackCosts knapsackKeys (core .levels) moreCosts moreKeys →
-        BranchFilled core (withNext branch) load cost moreCosts moreKeys costs₁ keys₁ costs₂ keys₂ →
-        BranchFilled core branch load cost knapsackCosts knapsackKeys costs keys costs₂ keys₂
+        BranchFilled (withoutNext branch) offers knapsackCosts knapsackKeys costs keys costs₁ keys₁ →
+        KnapsackWithItem (nextItem branch) offers (partFrom costsAt offers) knapsackCosts knapsackKeys (branch .core .levels)
+        moreCosts moreKeys →
+        BranchFilled (withNext branch) offers moreCosts moreKeys costs₁ keys₁ costs₂ keys₂ →
+        BranchFilled branch offers knapsackCosts knapsackKeys costs keys costs₂ keys₂
     both-filled without more with =
         rw one-ahead
-        (filled-both (core .levels) (core .capacity) (offerAt load cost) bit-above-0 without
-        (filled-same (core .levels) (core .capacity) (offerAt load cost) (with-knapsack more) with))
+        (filled-both (branch .core .levels) (branch .core .capacity) (offerIn offers) bit-above-0 without
+        (filled-same (branch .core .levels) (branch .core .capacity) (offerIn offers) (with-knapsack more) with))

@@ -4,4 +4,5 @@ pub mod ListReads
 pub mod Branches
 pub mod BranchLaws
 pub mod ListedBranches
+pub mod CopiedOffers
 pub mod TabledKnapsacks

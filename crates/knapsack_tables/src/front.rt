@@ -1,13 +1,12 @@
 // The knapsacks of sets of the first items, where the knapsack of the items behind them is at hand: read from the lists of the sets'
 // choices, so that no knapsack is computed for them.
 use crate::filling::Branch;
+use crate::filling::LISTS;
 use choice_lists::WIDTH;
-use knapsack::Core;
 use values::NO_COST;
 use values::Worth;
 use values::lesser;
 use values::sets_of;
-ghost use mathlib.Core.List.{List};
 ghost use mathlib.Core.Path.{_≡_};
 ghost use Prim.Native.Nat.{ℕ, _+_, _<_};
 ghost use lib.ListN.{length, set};
@@ -61,9 +60,8 @@ fn store(at: usize, worth: Worth, costs: &mut [u64], keys: &mut [u64])
 
 // The knapsacks of the branch's sets, one by one, where all items ahead are listed.
 pub(crate) fn store_listed(
-    core: Core,
     branch: Branch,
-    points: &[u64],
+    offers: &[u64],
     starts: &[usize],
     knapsack_costs: &[u64],
     knapsack_keys: &[u64],
@@ -71,22 +69,19 @@ pub(crate) fn store_listed(
     keys: &mut [u64],
 )
     requires { ⌜ branch .ahead ≡ branch .listed ⌝ }
-    requires { ⌜ ((load : List ℕ) × (cost : List ℕ) ×
-        BranchFits core branch load cost (now points) (now starts) (now «knapsack_costs») (now «knapsack_keys») (now costs) (now keys)) ⌝ }
-    ensures { λ _. ⌜ ((load cost : List ℕ) →
-        BranchFits core branch load cost (now (points .entry)) (now (starts .entry)) (now («knapsack_costs» .entry)) (now («knapsack_keys» .entry))
-        (now (costs .entry)) (now (keys .entry)) →
-        BranchFilled core branch load cost (now («knapsack_costs» .entry)) (now («knapsack_keys» .entry))
-        (now (costs .entry)) (now (keys .entry)) (now (costs .exit)) (now (keys .exit))) ⌝ }
+    requires { ⌜ BranchFits branch (now offers) (now starts) (now «knapsack_costs») (now «knapsack_keys») (now costs) (now keys) ⌝ }
+    ensures { λ _. ⌜ BranchFilled branch (now (offers .entry)) (now («knapsack_costs» .entry)) (now («knapsack_keys» .entry))
+        (now (costs .entry)) (now (keys .entry)) (now (costs .exit)) (now (keys .exit)) ⌝ }
 {
+    let lists = &offers[LISTS..];
     let sets = sets_of(branch.ahead);
     let mut k = 0;
     while k < sets {
         let worth = least_listed(
-            core.capacity,
+            branch.core.capacity,
             starts[k],
             starts[k + 1],
-            points,
+            lists,
             knapsack_costs,
             knapsack_keys,
         );

@@ -9,11 +9,11 @@ sub-places c = search needs
 add-places : tie.Need-add-places
 add-places c = search needs
 
-sub-t5 : tie.Need-sub-t5
-sub-t5 c = search needs
-
 sub-t6 : tie.Need-sub-t6
 sub-t6 c = search needs
+
+sub-t7 : tie.Need-sub-t7
+sub-t7 c = search needs
 
 keys-of-requires : tie.Need-keys-of-requires
 keys-of-requires c κs = search needs
@@ -22,4 +22,4 @@ returns : tie.Need-returns
 returns c = rw (c .keys-of .ensures)
 
 pub front-at-spec : {M : Type 1} → statement M
-front-at-spec = tie.close (tie.spec sub-places add-places sub-t5 sub-t6 keys-of-requires returns)
+front-at-spec = tie.close (tie.spec sub-places add-places sub-t6 sub-t7 keys-of-requires returns)

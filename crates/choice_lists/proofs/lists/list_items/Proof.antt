@@ -51,11 +51,11 @@ list-sets-requires c κs =
 
 same-length : tie.Need-same-length Inv-loop μ-loop
 same-length c =
-    c .before .before .before .before .before .list-sets .kept .1 .1 .1 .1 .1 .0 ∙ c .before .before .before .before .before .before .before .before .before .before .loop .inv .1 ∙ c .before .before .before .before .before .before .before .before .before .before .before .before .before .before .before .list-none .kept .0
+    c .before .before .before .before .before .list-sets .kept .1 .1 .1 .1 .0 ∙ c .before .before .before .before .before .before .before .before .before .before .loop .inv .1 ∙ c .before .before .before .before .before .before .before .before .before .before .before .before .before .before .before .list-none .kept .0
 
 same-length-2 : tie.Need-same-length-2 Inv-loop μ-loop
 same-length-2 c =
-    c .before .before .before .before .before .list-sets .kept .1 .1 .1 .1 .1 .1 .0 ∙ c .before .before .before .before .before .before .before .before .before .before .loop .inv .2 ∙ c .before .before .before .before .before .before .before .before .before .before .before .before .before .before .before .list-none .kept .1 .0
+    c .before .before .before .before .before .list-sets .kept .1 .1 .1 .1 .1 .0 ∙ c .before .before .before .before .before .before .before .before .before .before .loop .inv .2 ∙ c .before .before .before .before .before .before .before .before .before .before .before .before .before .before .before .list-none .kept .1 .0
 
 returns : tie.Need-returns Inv-loop μ-loop
 returns c =
@@ -74,8 +74,8 @@ loop-again c =
     let called = c .before .before .before .before .before .list-sets in
     let listed = called .ensures (not-not (called .result) (c .if1 .left)) in (
       omega arith,
-      called .kept .1 .1 .1 .1 .1 .0 ∙ at .inv .1,
-      called .kept .1 .1 .1 .1 .1 .1 .0 ∙ at .inv .2,
+      called .kept .1 .1 .1 .1 .0 ∙ at .inv .1,
+      called .kept .1 .1 .1 .1 .1 .0 ∙ at .inv .2,
       rw add-one (one-more-listed fits (omega arith) (rw (c .before .before .before .before .before .before .before .before .front-at .ensures) at listed)),
     )
 

@@ -44,7 +44,7 @@ most-points-requires : tie.Need-most-points-requires
 most-points-requires c κs =
     let fits = c .before .before .before .before .before .before .before .before .pre in
     let item = list-fits fits in
-    rw add-one (item .ordered, (sums-counted item (c .before .before .before .before .before .before .before .before .good .1 .1 .1 .1 .1 .1 .0 .1), fits .room .affordable .capacity-limited))
+    rw add-one (item .ordered, (sums-counted item (c .before .before .before .before .before .before .before .before .good .1 .1 .1 .1 .1 .0 .1), fits .room .affordable .capacity-limited))
 
 returns : tie.Need-returns
 returns c =

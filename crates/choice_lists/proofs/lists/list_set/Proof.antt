@@ -7,7 +7,7 @@ use Rattle.choice_lists.proofs.lists.list_set.Tie as tie
 is-short-requires : tie.Need-is-short-requires
 is-short-requires c κs =
     let item = c .before .before .before .pre .item in
-    (item .ordered, sums-counted item (c .before .before .before .good .1 .1 .1 .1 .1 .1 .0 .1))
+    (item .ordered, sums-counted item (c .before .before .before .good .1 .1 .1 .1 .1 .0 .1))
 
 append-item-requires : tie.Need-append-item-requires
 append-item-requires c κs =

@@ -12,12 +12,12 @@ use Rattle.choice_lists.proofs.lists.list_sets.Statement.{statement}
 use Rattle.choice_lists.proofs.lists.list_sets.Tie as tie
 
 abbrev Inv-loop : tie.InvT-loop
-Inv-loop core front count load cost points₀ starts₀ sets k₀ points starts k =
+Inv-loop front count load cost points₀ starts₀ sets k₀ points starts k =
     (k ≤ 2 ^ count) × (length points ≡ length points₀) × (length starts ≡ length starts₀)
-    × SetsGoing core front count load cost k points starts
+    × SetsGoing front count load cost k points starts
 
 abbrev μ-loop : tie.MeasureT-loop
-μ-loop core front count load cost points₀ starts₀ sets k₀ points starts k = 2 ^ count - k
+μ-loop front count load cost points₀ starts₀ sets k₀ points starts k = 2 ^ count - k
 
 sets-of-requires : tie.Need-sets-of-requires Inv-loop μ-loop
 sets-of-requires c κs =
@@ -39,11 +39,11 @@ list-next-requires c κs =
 
 same-length : tie.Need-same-length Inv-loop μ-loop
 same-length c =
-    c .before .before .before .before .before .list-next .kept .1 .1 .1 .1 .1 .1 .0 ∙ c .before .before .before .before .before .before .before .before .before .loop .inv .1
+    c .before .before .before .before .before .list-next .kept .1 .1 .1 .1 .1 .0 ∙ c .before .before .before .before .before .before .before .before .before .loop .inv .1
 
 same-length-2 : tie.Need-same-length-2 Inv-loop μ-loop
 same-length-2 c =
-    c .before .before .before .before .before .list-next .kept .1 .1 .1 .1 .1 .1 .1 .0 ∙ c .before .before .before .before .before .before .before .before .before .loop .inv .2
+    c .before .before .before .before .before .list-next .kept .1 .1 .1 .1 .1 .1 .0 ∙ c .before .before .before .before .before .before .before .before .before .loop .inv .2
 
 returns : tie.Need-returns Inv-loop μ-loop
 returns c =
@@ -62,8 +62,8 @@ loop-again c =
     let at = c .before .before .before .before .before .before .before .before .before .loop in
     let called = c .before .before .before .before .before .list-next in (
       omega (arith, c .before .before .before .before .before .before .before .before .before .before .sets-of .ensures),
-      called .kept .1 .1 .1 .1 .1 .1 .0 ∙ at .inv .1,
-      called .kept .1 .1 .1 .1 .1 .1 .1 .0 ∙ at .inv .2,
+      called .kept .1 .1 .1 .1 .1 .0 ∙ at .inv .1,
+      called .kept .1 .1 .1 .1 .1 .1 .0 ∙ at .inv .2,
       rw add-one (called .ensures (not-not (called .result) (c .if1 .left))),
     )
 

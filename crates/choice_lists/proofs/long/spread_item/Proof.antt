@@ -12,12 +12,12 @@ use Rattle.choice_lists.proofs.long.spread_item.Statement.{statement}
 use Rattle.choice_lists.proofs.long.spread_item.Tie as tie
 
 abbrev Inv-loop : tie.InvT-loop
-Inv-loop core front part load cost points costs₀ keys₀ l₀ costs keys l =
-    (l ≤ core .levels) × (length costs ≡ length costs₀) × (length keys ≡ length keys₀)
-    × ItemSpread core front (part .from) (part .to) load cost points l costs keys
+Inv-loop front part load cost points costs₀ keys₀ l₀ costs keys l =
+    (l ≤ front .core .levels) × (length costs ≡ length costs₀) × (length keys ≡ length keys₀)
+    × ItemSpread front (part .from) (part .to) load cost points l costs keys
 
 abbrev μ-loop : tie.MeasureT-loop
-μ-loop core front part load cost points costs₀ keys₀ l₀ costs keys l = core .levels - l
+μ-loop front part load cost points costs₀ keys₀ l₀ costs keys l = front .core .levels - l
 
 loop-holds : tie.Need-loop-holds Inv-loop μ-loop
 loop-holds c =
@@ -73,7 +73,7 @@ same-length-2 c =
 returns : tie.Need-returns Inv-loop μ-loop
 returns c =
     let at = c .before .before .loop in
-    let all : at .l ≡ c .before .before .before .before .before .before .before .before .args .core .levels = omega arith in
+    let all : at .l ≡ c .before .before .before .before .before .before .before .before .args .front .core .levels = omega arith in
     rw all at (at .inv .3)
 
 pub spread-item-spec : {M : Type 1} → statement M

@@ -12,11 +12,11 @@ use Rattle.choice_lists.proofs.short.append_item.Statement.{statement}
 use Rattle.choice_lists.proofs.short.append_item.Tie as tie
 
 abbrev Inv-loop : tie.InvT-loop
-Inv-loop core front part used load cost points₀ end₀ l₀ points end l =
-    (l ≤ core .levels) × ItemAppended core front (part .from) (part .to) used load cost points₀ l points end
+Inv-loop front part used load cost points₀ end₀ l₀ points end l =
+    (l ≤ front .core .levels) × ItemAppended front (part .from) (part .to) used load cost points₀ l points end
 
 abbrev μ-loop : tie.MeasureT-loop
-μ-loop core front part used load cost points₀ end₀ l₀ points end l = core .levels - l
+μ-loop front part used load cost points₀ end₀ l₀ points end l = front .core .levels - l
 
 loop-holds : tie.Need-loop-holds Inv-loop μ-loop
 loop-holds c =
@@ -59,7 +59,7 @@ same-length c =
 returns : tie.Need-returns Inv-loop μ-loop
 returns c =
     let at = c .before .before .loop in
-    let all : at .l ≡ c .before .before .before .before .before .before .args .core .levels = omega arith in
+    let all : at .l ≡ c .before .before .before .before .before .before .args .front .core .levels = omega arith in
     rw all at (at .inv .1)
 
 pub append-item-spec : {M : Type 1} → statement M

@@ -10,12 +10,12 @@ use Rattle.knapsack.proofs.relaxing.relax.Statement.{statement}
 use Rattle.knapsack.proofs.relaxing.relax.Tie as tie
 
 abbrev Inv-loop : tie.InvT-loop
-Inv-loop core front load cost knapsack-costs knapsack-keys costs₀ keys₀ l₀ costs keys l =
-    (l ≤ core .levels) × (length costs ≡ length costs₀) × (length keys ≡ length keys₀)
-    × KnapsackWithItem core front load cost knapsack-costs knapsack-keys l costs keys
+Inv-loop front load cost knapsack-costs knapsack-keys costs₀ keys₀ l₀ costs keys l =
+    (l ≤ front .core .levels) × (length costs ≡ length costs₀) × (length keys ≡ length keys₀)
+    × KnapsackWithItem front load cost knapsack-costs knapsack-keys l costs keys
 
 abbrev μ-loop : tie.MeasureT-loop
-μ-loop core front load cost knapsack-costs knapsack-keys costs₀ keys₀ l₀ costs keys l = core .levels - l
+μ-loop front load cost knapsack-costs knapsack-keys costs₀ keys₀ l₀ costs keys l = front .core .levels - l
 
 loop-holds : tie.Need-loop-holds Inv-loop μ-loop
 loop-holds c = (search needs, refl, refl, knapsack-of-no-level (c .before .before .before .before .before .before .pre .1))
@@ -58,7 +58,7 @@ same-length-2 c = c .before .before .loop .inv .2
 returns : tie.Need-returns Inv-loop μ-loop
 returns c =
     let at = c .before .before .loop in
-    let all : at .l ≡ c .before .before .before .before .before .before .before .before .before .args .core .levels = omega arith in
+    let all : at .l ≡ c .before .before .before .before .before .before .before .before .before .args .front .core .levels = omega arith in
     rw all at (at .inv .3)
 
 pub relax-spec : {M : Type 1} → statement M

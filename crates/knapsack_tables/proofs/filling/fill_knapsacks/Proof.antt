@@ -31,7 +31,7 @@ slice-aggregate-fill-with-2 c =
 
 fill-with-requires-2 : tie.Need-fill-with-requires-2
 fill-with-requires-2 c κs =
-    (c .before .before .before .before .before .before .before .before .before .pre, some-room 36864 (omega arith))
+    (c .before .before .before .before .before .before .before .before .before .pre, some-room 37056 (omega arith))
 
 same-length-3 : tie.Need-same-length-3
 same-length-3 c =
@@ -51,7 +51,7 @@ slice-aggregate-fill-with-3 c =
 
 fill-with-requires-3 : tie.Need-fill-with-requires-3
 fill-with-requires-3 c κs =
-    (c .before .before .before .before .before .before .before .before .before .pre, some-room 55296 (omega arith))
+    (c .before .before .before .before .before .before .before .before .before .pre, some-room 55488 (omega arith))
 
 same-length-5 : tie.Need-same-length-5
 same-length-5 c =
