@@ -34,7 +34,7 @@ static void put_task(listing *lines, const reference_instance *in, size_t task, 
         put(lines, " refused\n");
         return;
     }
-    size_t core = (choice - 1u) / in->levels, level = (choice - 1u) % in->levels;
+    size_t core = reference_core_of(in, choice), level = reference_level_of(in, choice);
     put(lines, " core %zu level %zu ticks %" PRIu64 "\n", core + 1, level + 1,
         reference_ticks(in, task, level));
 }

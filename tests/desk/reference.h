@@ -50,6 +50,19 @@ towhepamu_checked reference_read_text(const uint8_t *text, size_t text_len,
 uint64_t reference_jobs(const reference_instance *instance, size_t task);
 uint64_t reference_ticks(const reference_instance *instance, size_t task, size_t level);
 
+/* Core and level of a choice other than 0, from 0; whether a plan keeps a task on a core, from 0.
+ */
+size_t reference_core_of(const reference_instance *instance, uint8_t choice);
+size_t reference_level_of(const reference_instance *instance, uint8_t choice);
+bool reference_runs_on(const reference_instance *instance, const uint8_t *plan, size_t task,
+                       size_t core);
+
+/* The tests of a given plan: refusal 7; refusals 7, 8. */
+towhepamu_checked reference_test_choices(const reference_instance *instance, const uint8_t *plan,
+                                         size_t plan_len);
+towhepamu_checked reference_test_plan(const reference_instance *instance, const uint8_t *plan,
+                                      size_t plan_len);
+
 /* Energy, penalty and cost of a given plan: refusals 7, 8. */
 towhepamu_planned reference_price(const reference_instance *instance, const uint8_t *plan,
                                   size_t plan_len);

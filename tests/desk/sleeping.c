@@ -1,5 +1,5 @@
 /* Sleeping through gaps, document 02 (b). */
-#include "reference.h"
+#include "answers.h"
 
 size_t reference_gaps(const uint8_t *row, size_t span, reference_gap *gaps) {
     size_t busy = 0, count = 0, idle = 0;
@@ -39,12 +39,12 @@ static towhepamu_checked test_lent(const reference_instance *in, uint32_t switch
                                    uint32_t switching_time, size_t energies_len,
                                    size_t sleeps_len) {
     if (switching_energy > 1000000)
-        return (towhepamu_checked){TOWHEPAMU_SWITCHING, 0};
+        return refused(TOWHEPAMU_SWITCHING, 0);
     if (switching_time > 4096)
-        return (towhepamu_checked){TOWHEPAMU_SWITCHING, 1};
+        return refused(TOWHEPAMU_SWITCHING, 1);
     if (energies_len < in->cores || sleeps_len < in->cores)
-        return (towhepamu_checked){TOWHEPAMU_BUFFER, in->cores};
-    return (towhepamu_checked){TOWHEPAMU_ACCEPTED, 0};
+        return refused(TOWHEPAMU_BUFFER, in->cores);
+    return accepted;
 }
 
 towhepamu_checked reference_sleep(const uint8_t *text, size_t text_len, const uint8_t *plan,
@@ -54,11 +54,11 @@ towhepamu_checked reference_sleep(const uint8_t *text, size_t text_len, const ui
                                   size_t sleeps_len) {
     reference_instance in;
     towhepamu_checked test = reference_read_text(text, text_len, &in);
-    if (test.refusal == TOWHEPAMU_ACCEPTED)
+    if (passes(test))
         test = test_lent(&in, switching_energy, switching_time, energies_len, sleeps_len);
-    if (test.refusal == TOWHEPAMU_ACCEPTED)
+    if (passes(test))
         test = reference_check_table(&in, plan, plan_len, table, table_len);
-    if (test.refusal != TOWHEPAMU_ACCEPTED)
+    if (!passes(test))
         return test;
     for (size_t c = 0; c < in.cores; c++) {
         reference_slept slept = reference_sleep_row(table + c * in.span, in.span, in.idle_power,

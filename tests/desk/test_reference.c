@@ -1,36 +1,14 @@
 /*
  * The reference by itself: K1 to K13, examples of idle power, two of their listings, the ends of
- * every range, its two planners against each other, and its check against planned tables and every
- * kind of single damage to them.
+ * every range, and given plans.
  */
-#include "generate.h"
+#include "expect.h"
 #include "known.h"
-#include <stdio.h>
 #include <string.h>
-
-enum { SMALL_SITES = 18000, MOST_PLANS = 30000 };
-
-static size_t tests, failures;
-
-/* Of the small sites with a plan: those with idle power, and those with more than every level. */
-static size_t with_idle_power, above_levels;
-
-static void expect(bool holds, const char *what, const char *which) {
-    tests++;
-    if (holds)
-        return;
-    failures++;
-    if (failures <= 20)
-        printf("reference: %s: %s does not hold\n", which, what);
-}
 
 static bool same_answer(towhepamu_planned a, towhepamu_planned b) {
     return a.refusal == b.refusal && a.place == b.place && a.energy == b.energy &&
            a.penalty == b.penalty && a.cost == b.cost;
-}
-
-static bool is(towhepamu_checked answer, uint64_t refusal, uint64_t place) {
-    return answer.refusal == refusal && answer.place == place;
 }
 
 /* ---- K1 to K13, and examples of idle power ---- */
@@ -175,7 +153,7 @@ static void test_text(void) {
     expect(is(reference_words(big, 4190, words, 1, &count), 1, 4080), "sixteen digits", "4,190");
 }
 
-/* ---- Planning and checking ---- */
+/* ---- Given plans ---- */
 
 /* Pricing and tabling given plans of K3, whose cores have 20 ticks each; and what idle power 50
    makes of their energy: 8 and 5 idle ticks on two cores, none on a core that is off. */
@@ -213,98 +191,7 @@ static void test_given_plans(void) {
     }
 }
 
-/* What one wrong slot of a table that passes must bring. */
-static void test_damaged_slot(const reference_instance *in, const uint8_t *plan, uint8_t *table,
-                              size_t slot, uint8_t wrong) {
-    uint8_t right = table[slot];
-    if (wrong == right)
-        return;
-    bool named = wrong == 0 || (wrong <= in->tasks && plan[wrong - 1] != 0 &&
-                                (size_t)(plan[wrong - 1] - 1) / in->levels == slot / in->span);
-    uint8_t lowest = right == 0 || (wrong != 0 && wrong < right) ? wrong : right;
-    table[slot] = wrong;
-    towhepamu_checked answer =
-        reference_check_table(in, plan, in->tasks, table, in->cores * in->span);
-    expect(named ? is(answer, 10, lowest) : is(answer, 9, slot), "refused", "a wrong slot");
-    table[slot] = right;
-}
-
-/* What one wrong choice must bring; a level of equal ticks is not wrong. */
-static void test_damaged_choice(const reference_instance *in, uint8_t *plan, const uint8_t *table,
-                                size_t task, uint8_t wrong) {
-    uint8_t right = plan[task];
-    if (wrong == right)
-        return;
-    bool elsewhere =
-        right == 0 || wrong == 0 || (right - 1u) / in->levels != (wrong - 1u) / in->levels;
-    bool slower = !elsewhere && reference_ticks(in, task, (right - 1u) % in->levels) !=
-                                    reference_ticks(in, task, (wrong - 1u) % in->levels);
-    plan[task] = wrong;
-    towhepamu_checked answer =
-        reference_check_table(in, plan, in->tasks, table, in->cores * in->span);
-    if (wrong > in->cores * in->levels || (wrong == 0 && in->task[task].penalty == MUST))
-        expect(is(answer, 7, task), "refused", "a choice out of range");
-    else if (right == 0 || slower)
-        expect(is(answer, 10, task + 1), "refused", "a choice that has other ticks");
-    else
-        expect(answer.refusal == (elsewhere ? 9 : 0), "refused", "a choice elsewhere");
-    plan[task] = right;
-}
-
-static void test_damage(generator *g, const reference_instance *in, uint8_t *plan, uint8_t *table) {
-    size_t slots = in->cores * in->span;
-    for (size_t n = 0; n < 10; n++) {
-        size_t slot = draw(g, slots);
-        uint64_t wrong = one_in(g, 4) ? draw(g, 256) : draw(g, in->tasks + 2);
-        test_damaged_slot(in, plan, table, slot, (uint8_t)wrong);
-    }
-    for (size_t n = 0; n < 5 && in->tasks > 0; n++) {
-        size_t task = draw(g, in->tasks);
-        uint64_t wrong = draw(g, in->cores * in->levels + 2);
-        test_damaged_choice(in, plan, table, task, (uint8_t)wrong);
-    }
-    size_t other = draw(g, slots);
-    expect(is(reference_check_table(in, plan, in->tasks, table, other), 9, other), "refused",
-           "a shorter table");
-    expect(is(reference_check_table(in, plan, in->tasks + 1, table, other), 7, in->tasks),
-           "refused", "a longer plan");
-}
-
-static bool few_plans(const reference_instance *in) {
-    uint64_t plans = 1;
-    for (size_t i = 0; i < in->tasks; i++)
-        plans *= 1 + in->cores * in->levels;
-    return plans <= MOST_PLANS;
-}
-
-/* One small site: the same plan by both planners; its table passes, damaged it does not. */
-static bool test_small_site(generator *g) {
-    uint32_t words[MOST_INSTANCE_WORDS];
-    reference_instance in;
-    uint8_t plan[MOST_TASKS], other[MOST_TASKS], table[TOWHEPAMU_MOST_TABLE_BYTES];
-    size_t count = draw_site(g, (site_limits){4, 6, 0, 12, 120}, words);
-    expect(reference_read(words, count, &in).refusal == TOWHEPAMU_ACCEPTED, "reads", "a site");
-    if (!few_plans(&in))
-        return test_small_site(g);
-
-    bool found = reference_best(&in, plan);
-    expect(found == reference_best_exhaustive(&in, other), "both plan it or neither", "a site");
-    if (!found)
-        return false;
-    expect(memcmp(plan, other, in.tasks) == 0, "both answer the same plan", "a site");
-    with_idle_power += in.idle_power > 0;
-    above_levels += in.idle_power > in.level[in.levels - 1].power;
-    expect(reference_tabulate(&in, plan, in.tasks, table, sizeof table).refusal == 0, "is tabled",
-           "a plan");
-    expect(is(reference_check_table(&in, plan, in.tasks, table, in.cores * in.span), 0, 0),
-           "passes the check", "a table");
-    test_damage(g, &in, plan, table);
-    return true;
-}
-
 int main(void) {
-    generator g = {20240229};
-    size_t planned = 0;
     for (size_t k = 0; k < KNOWN_CASES; k++) {
         test_known(&known_cases[k], reference_plan);
         test_known(&known_cases[k], reference_plan_exhaustive);
@@ -315,11 +202,6 @@ int main(void) {
     test_lists();
     test_text();
     test_given_plans();
-    for (size_t n = 0; n < SMALL_SITES; n++)
-        planned += test_small_site(&g);
-    printf("reference: %d small sites, %zu with a plan, of these %zu with idle power, %zu above "
-           "every level's\n",
-           SMALL_SITES, planned, with_idle_power, above_levels);
     printf("reference: %zu tests, %zu fail\n", tests, failures);
     return failures > 0;
 }

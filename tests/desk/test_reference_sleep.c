@@ -3,23 +3,12 @@
  * sleep in draws less, and that among those that draw as little it sleeps least often; and that
  * without sleep the gaps draw what pricing charges for idle ticks.
  */
+#include "expect.h"
 #include "generate.h"
 #include "known_sleeps.h"
-#include <stdio.h>
 #include <string.h>
 
 enum { LONGEST_ROW = 9, SITES = 3000 };
-
-static size_t tests, failures;
-
-static void expect(bool holds, const char *what, const char *which) {
-    tests++;
-    if (holds)
-        return;
-    failures++;
-    if (failures <= 20)
-        printf("reference: sleep: %s: %s does not hold\n", which, what);
-}
 
 /* ---- Known tables ---- */
 

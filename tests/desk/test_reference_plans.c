@@ -1,0 +1,117 @@
+/*
+ * The reference's two planners against each other on small sites, and its check against planned
+ * tables and every kind of single damage to them.
+ */
+#include "expect.h"
+#include "generate.h"
+#include <string.h>
+
+enum { SMALL_SITES = 18000, MOST_PLANS = 30000 };
+
+/* Of the small sites with a plan: those with idle power, and those with more than every level. */
+static size_t with_idle_power, above_levels;
+
+/* ---- Damage ---- */
+
+/* What one wrong slot of a table that passes must bring. */
+static void test_damaged_slot(const reference_instance *in, const uint8_t *plan, uint8_t *table,
+                              size_t slot, uint8_t wrong) {
+    uint8_t right = table[slot];
+    if (wrong == right)
+        return;
+    bool named = wrong == 0 ||
+                 (wrong <= in->tasks && reference_runs_on(in, plan, wrong - 1u, slot / in->span));
+    uint8_t lowest = right == 0 || (wrong != 0 && wrong < right) ? wrong : right;
+    table[slot] = wrong;
+    towhepamu_checked answer =
+        reference_check_table(in, plan, in->tasks, table, in->cores * in->span);
+    expect(named ? is(answer, 10, lowest) : is(answer, 9, slot), "refused", "a wrong slot");
+    table[slot] = right;
+}
+
+/* What one wrong choice must bring; a level of equal ticks is not wrong. */
+static void test_damaged_choice(const reference_instance *in, uint8_t *plan, const uint8_t *table,
+                                size_t task, uint8_t wrong) {
+    uint8_t right = plan[task];
+    if (wrong == right)
+        return;
+    bool elsewhere =
+        right == 0 || wrong == 0 || reference_core_of(in, right) != reference_core_of(in, wrong);
+    bool slower = !elsewhere && reference_ticks(in, task, reference_level_of(in, right)) !=
+                                    reference_ticks(in, task, reference_level_of(in, wrong));
+    plan[task] = wrong;
+    towhepamu_checked answer =
+        reference_check_table(in, plan, in->tasks, table, in->cores * in->span);
+    if (wrong > in->cores * in->levels || (wrong == 0 && in->task[task].penalty == MUST))
+        expect(is(answer, 7, task), "refused", "a choice out of range");
+    else if (right == 0 || slower)
+        expect(is(answer, 10, task + 1), "refused", "a choice that has other ticks");
+    else
+        expect(answer.refusal == (elsewhere ? 9 : 0), "refused", "a choice elsewhere");
+    plan[task] = right;
+}
+
+static void test_damage(generator *g, const reference_instance *in, uint8_t *plan, uint8_t *table) {
+    size_t slots = in->cores * in->span;
+    for (size_t n = 0; n < 10; n++) {
+        size_t slot = draw(g, slots);
+        uint64_t wrong = one_in(g, 4) ? draw(g, 256) : draw(g, in->tasks + 2);
+        test_damaged_slot(in, plan, table, slot, (uint8_t)wrong);
+    }
+    for (size_t n = 0; n < 5 && in->tasks > 0; n++) {
+        size_t task = draw(g, in->tasks);
+        uint64_t wrong = draw(g, in->cores * in->levels + 2);
+        test_damaged_choice(in, plan, table, task, (uint8_t)wrong);
+    }
+    size_t other = draw(g, slots);
+    expect(is(reference_check_table(in, plan, in->tasks, table, other), 9, other), "refused",
+           "a shorter table");
+    expect(is(reference_check_table(in, plan, in->tasks + 1, table, other), 7, in->tasks),
+           "refused", "a longer plan");
+}
+
+/* ---- Small sites ---- */
+
+static bool few_plans(const reference_instance *in) {
+    uint64_t plans = 1;
+    for (size_t i = 0; i < in->tasks; i++)
+        plans *= 1 + in->cores * in->levels;
+    return plans <= MOST_PLANS;
+}
+
+/* One small site: the same plan by both planners; its table passes, damaged it does not. */
+static bool test_small_site(generator *g) {
+    uint32_t words[MOST_INSTANCE_WORDS];
+    reference_instance in;
+    uint8_t plan[MOST_TASKS], other[MOST_TASKS], table[TOWHEPAMU_MOST_TABLE_BYTES];
+    size_t count = draw_site(g, (site_limits){4, 6, 0, 12, 120}, words);
+    expect(reference_read(words, count, &in).refusal == TOWHEPAMU_ACCEPTED, "reads", "a site");
+    if (!few_plans(&in))
+        return test_small_site(g);
+
+    bool found = reference_best(&in, plan);
+    expect(found == reference_best_exhaustive(&in, other), "both plan it or neither", "a site");
+    if (!found)
+        return false;
+    expect(memcmp(plan, other, in.tasks) == 0, "both answer the same plan", "a site");
+    with_idle_power += in.idle_power > 0;
+    above_levels += in.idle_power > in.level[in.levels - 1].power;
+    expect(reference_tabulate(&in, plan, in.tasks, table, sizeof table).refusal == 0, "is tabled",
+           "a plan");
+    expect(is(reference_check_table(&in, plan, in.tasks, table, in.cores * in.span), 0, 0),
+           "passes the check", "a table");
+    test_damage(g, &in, plan, table);
+    return true;
+}
+
+int main(void) {
+    generator g = {20240229};
+    size_t planned = 0;
+    for (size_t n = 0; n < SMALL_SITES; n++)
+        planned += test_small_site(&g);
+    printf("reference: %d small sites, %zu with a plan, of these %zu with idle power, %zu above "
+           "every level's\n",
+           SMALL_SITES, planned, with_idle_power, above_levels);
+    printf("reference: plans: %zu tests, %zu fail\n", tests, failures);
+    return failures > 0;
+}
