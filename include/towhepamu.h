@@ -59,8 +59,8 @@ extern "C" {
 /* No site has a longer listing, in bytes: a listing's buffer must have this length. */
 #define TOWHEPAMU_MOST_LISTING_BYTES 51200
 
-/* The stack that a call must find free, in bytes. Measured: reading 12,280, planning 998,400,
-   checking 11,400, listing 1,015,328, sleeping 11,464 (tests/desk/test_stack.c, which fails where a
+/* The stack that a call must find free, in bytes. Measured: reading 12,280, planning 1,147,296,
+   checking 11,400, listing 1,164,224, sleeping 11,464 (tests/desk/test_stack.c, which fails where a
    call takes more than is promised). */
 #define TOWHEPAMU_STACK_BYTES (1536 * 1024)
 
