@@ -11,9 +11,7 @@
  * where two implementations answer differently.
  */
 #define _POSIX_C_SOURCE 200809L
-#include "instances.h"
-#include "reference.h"
-#include "timed.h"
+#include "report.h"
 #include <math.h>
 #include <stdio.h>
 #include <stdlib.h>
@@ -21,21 +19,6 @@
 #include <time.h>
 
 enum { MOST_REPETITIONS = 101 };
-
-enum operation { PLANNING, PLANNING_LOW, PLANNING_HIGH, READING, TABLING, CHECKING, OPERATIONS };
-static const char *const operation_names[OPERATIONS] = {
-    "planning", "planning, low idle power", "planning, high idle power", "reading", "tabling",
-    "checking"};
-
-/*
- * The time of each implementation, then the ratios of NOW. Where planning has idle power the column
- * of BEFORE is the same site planned without it, by NOW.
- */
-enum { TO_BEFORE = IMPLEMENTATIONS, TO_PLAIN, COLUMNS };
-static const char *const column_names[COLUMNS] = {"before", "now", "plain C", "now : before",
-                                                  "now : plain C"};
-static const char *const idle_column_names[COLUMNS] = {"without", "now", "plain C", "now : without",
-                                                       "now : plain C"};
 
 /* ---- Sites ---- */
 
@@ -109,26 +92,31 @@ static bool answers_so(const implementation *by, const timed_site *site) {
     return check_by(by, site) == TOWHEPAMU_ACCEPTED;
 }
 
+/* Whether there is an older state, and it knows deadlines where the site has some. */
+static bool is_known_before(void) {
+    plan_entry *plan = implementations[BEFORE].plan;
+    const timed_site *site = &sites[NO_IDLE];
+    return plan != NULL &&
+           plan(site->text, site->text_len, spare_plan, MOST_TASKS, spare_table, 0).refusal !=
+               TOWHEPAMU_WORDS;
+}
+
 /* An older state is asked for sites without idle power only. */
 static bool all_answer_so(void) {
     bool same = true;
     for (size_t by = 0; by < IMPLEMENTATIONS; by++)
         for (enum idle idle = 0; idle < (by == BEFORE ? LOW_IDLE : IDLES); idle++)
-            if (implementations[by].plan != NULL)
+            if (by != BEFORE || is_known_before())
                 same = answers_so(&implementations[by], &sites[idle]) && same;
     return same;
 }
 
 /* ---- Times, in microseconds of the processor: other programs on the machine do not count ---- */
 
-static bool has_idle_power(enum operation o) {
-    return o == PLANNING_LOW || o == PLANNING_HIGH;
-}
-
 /* Before is timed for planning; without a plan there is nothing to table. */
 static bool is_timed(enum operation o, size_t by) {
     if (by == BEFORE && !has_idle_power(o))
-        return o == PLANNING && implementations[BEFORE].plan != NULL;
+        return o == PLANNING && is_known_before();
     return is_planned() || o < TABLING;
 }
 
@@ -169,17 +157,6 @@ static double time_of(enum operation o, size_t by, size_t times) {
     return (now() - start) / (double)times;
 }
 
-static int by_size(const void *a, const void *b) {
-    double x = *(const double *)a, y = *(const double *)b;
-    return (x > y) - (x < y);
-}
-
-/* Sorts the times. */
-static double median(double *times, size_t count) {
-    qsort(times, count, sizeof *times, by_size);
-    return (times[(count - 1) / 2] + times[count / 2]) / 2;
-}
-
 /* The medians for the site that is set; the implementations take turns. */
 static void time_operation(enum operation o, size_t repetitions, double medians[COLUMNS]) {
     static double times[COLUMNS][MOST_REPETITIONS];
@@ -198,8 +175,6 @@ static void time_operation(enum operation o, size_t repetitions, double medians[
         medians[c] = median(times[c], repetitions);
 }
 
-static double times_of[FAMILIES][OPERATIONS][COLUMNS][SITES_A_FAMILY];
-
 /* False where the implementations differ. */
 static bool time_family(size_t family, size_t repetitions) {
     double medians[COLUMNS];
@@ -216,55 +191,6 @@ static bool time_family(size_t family, size_t repetitions) {
     }
     fprintf(stderr, "%s: %s\n", family_name(family), same ? "timed" : "DIFFERENT ANSWERS");
     return same;
-}
-
-/* ---- Tables ---- */
-
-/* The median over the sites, and the most where that is asked for. */
-static void print_cell(double *times, size_t column, bool with_most) {
-    double middle = median(times, SITES_A_FAMILY), most = times[SITES_A_FAMILY - 1];
-    int digits = column >= IMPLEMENTATIONS ? 2 : most < 100 ? 1 : 0;
-    if (isnan(middle))
-        printf(" - |");
-    else if (with_most)
-        printf(" %.*f (%.*f) |", digits, middle, digits, most);
-    else
-        printf(" %.*f |", digits, middle);
-}
-
-static bool is_shown(size_t column, bool with_before) {
-    return with_before || (column != BEFORE && column != TO_BEFORE);
-}
-
-/* The rows of all families, with a group of columns for each operation from `first` to `last`. */
-static void print_rows(enum operation first, enum operation last, bool with_before) {
-    for (size_t family = 0; family < FAMILIES; family++) {
-        printf("| %s |", family_name(family));
-        for (enum operation o = first; o <= last; o++)
-            for (size_t c = 0; c < COLUMNS; c++)
-                if (is_shown(c, with_before))
-                    print_cell(times_of[family][o][c], c, first == last);
-        printf("\n");
-    }
-}
-
-static void print_table(enum operation first, enum operation last) {
-    bool idle = has_idle_power(first);
-    bool with_before = idle || (first == last && implementations[BEFORE].plan != NULL);
-    const char *const *names = idle ? idle_column_names : column_names;
-    size_t columns = 1;
-    printf("\n| Sites |");
-    for (enum operation o = first; o <= last; o++)
-        for (size_t c = 0; c < COLUMNS; c++)
-            if (is_shown(c, with_before)) {
-                printf(" %s, %s |", operation_names[o], names[c]);
-                columns++;
-            }
-    printf("\n|");
-    for (size_t c = 0; c < columns; c++)
-        printf("---|");
-    printf("\n");
-    print_rows(first, last, with_before);
 }
 
 int main(int argc, char **argv) {

@@ -42,7 +42,7 @@ static const reference_level *top_level(const reference_instance *in) {
 /* A task that at top speed takes about `load` ticks of the span. */
 static reference_task task_of_load(const reference_instance *in, uint32_t period, uint64_t load) {
     uint32_t ticks = clamp(load * period / in->span, period);
-    return (reference_task){period, ticks * top_level(in)->speed, MUST};
+    return (reference_task){period, ticks * top_level(in)->speed, MUST, period};
 }
 
 static void draw_loads(generator *g, reference_instance *in, uint32_t least, uint32_t most) {
@@ -145,7 +145,42 @@ static void draw_mix(generator *g, reference_instance *in, uint32_t mix, uint32_
         in->task[i].period = period;
         in->task[i].cycles = clamp(cycles * work[i] / all_work, 100000000);
         in->task[i].penalty = clamp(3 * cores * period * 100 * worth[i] / all_worth, 1000000);
+        in->task[i].deadline = period;
     }
+}
+
+/*
+ * Deadlines before the period's end, with 1 to 4 cores and spans of 360 to 4,096. A task has 1 to
+ * 12 jobs; all of them together take two tenths to eight tenths of the cores at top speed. A
+ * deadline is at least what a job takes there, and any; in the first quarter of what is then left
+ * of the period; or what some plan's rows just meet.
+ */
+enum deadlines { ANY, SHORT, JUST_MET, JUST_MET_MUSTS };
+
+static void draw_timed(generator *g, reference_instance *in, uint32_t deadlines, uint32_t unused) {
+    static const uint32_t spans[] = {360, 720, 1440, 2520, 3600, 4096};
+    (void)unused;
+    in->cores = between(g, 1, 4);
+    in->span = spans[draw(g, sizeof spans / sizeof spans[0])];
+    use_eight_levels(in, 8000 / between(g, 2, 8));
+    for (size_t i = 0; i < in->tasks; i++) {
+        uint32_t jobs = i == 0 ? 1 : between(g, 1, 12);
+        while (in->span % jobs != 0)
+            jobs--;
+        uint32_t share = in->cores * in->span / in->tasks;
+        in->task[i] = task_of_load(in, in->span / jobs, between(g, share / 5, share * 4 / 5));
+    }
+    if (deadlines == JUST_MET || deadlines == JUST_MET_MUSTS)
+        draw_just_met(g, in);
+    for (size_t i = 0; i < in->tasks; i++) {
+        uint32_t period = in->task[i].period;
+        uint32_t ticks = (uint32_t)reference_ticks(in, i, in->levels - 1);
+        if (deadlines == ANY || deadlines == SHORT)
+            in->task[i].deadline =
+                between(g, ticks, ticks + (period - ticks) / (deadlines == ANY ? 1 : 4));
+    }
+    if (deadlines != JUST_MET_MUSTS)
+        draw_penalties(g, in, 50, 300);
 }
 
 static const struct {
@@ -178,6 +213,10 @@ static const struct {
     {"twelve equal tasks, 8 levels", draw_equal, 8, 700, 1300},
     {"hard middle", draw_hard_middle, 8, 0, 0},
     {"hard middle, musts", draw_hard_middle, 8, 1, 0},
+    {"any deadlines", draw_timed, 8, ANY, 0},
+    {"short deadlines", draw_timed, 8, SHORT, 0},
+    {"deadlines just met", draw_timed, 8, JUST_MET, 0},
+    {"deadlines just met, musts", draw_timed, 8, JUST_MET_MUSTS, 0},
 };
 
 const char *family_name(size_t family) {
@@ -197,7 +236,7 @@ static uint32_t idle_power(const reference_instance *in, enum idle idle) {
 
 size_t write_instance(size_t family, size_t number, enum idle idle, uint8_t *text) {
     generator g = {UINT64_C(0x9E3779B97F4A7C15) * (1 + 1000 * family + number)};
-    reference_instance in = {1, 1, 4, 0, 0, 12, 4096, {{0, 0}}, {{0, 0, 0}}};
+    reference_instance in = {1, 1, 4, 0, 0, 12, 4096, {{0, 0}}, {{0, 0, 0, 0}}};
     uint32_t words[MOST_INSTANCE_WORDS];
     if (family_list[family].levels == 5)
         use_xscale(&in);
@@ -205,6 +244,7 @@ size_t write_instance(size_t family, size_t number, enum idle idle, uint8_t *tex
         use_eight_levels(&in, 2000);
     family_list[family].draw(&g, &in, family_list[family].first, family_list[family].second);
     in.idle_power = idle_power(&in, idle);
-    size_t count = list_words(&in, idle == NO_IDLE ? 3 : 4, words);
+    written_as as = {idle == NO_IDLE ? 3 : 4, reference_has_early(&in) ? EACH_DEADLINE : LIST_ENDS};
+    size_t count = list_words(&in, as, words);
     return write_text(&g, words, count, false, text);
 }

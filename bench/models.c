@@ -8,13 +8,15 @@
  * idle power p; and a line for each family on standard output: p-f, how many sites, name.
  *
  * The model: x_i_c_l is 1 where task i runs on core c at level l, r_i where it is refused; exactly
- * one of a task's is 1; a core's loads add up to at most the span. Cores are equal, so task i is
- * offered the first i cores alone: every plan can be renumbered so, at the same cost.
+ * one of a task's is 1; on each core, by each tick at which some job is due, no more is due than
+ * has passed. Where all deadlines are the periods the span's end, by which all jobs are due, is
+ * enough. Cores are equal, so task i is offered the first i cores alone: every plan can be
+ * renumbered so, at the same cost.
  *
  * With idle power a_c is 1 where core c is awake. It costs the idle energy of the whole span, and a
- * task that runs costs its level's power less the idle power in each of its ticks. The loads of a
- * core add up to at most the span where it is awake and to 0 where it is off; that a task runs on
- * an awake core only is said of each task besides, which leaves solvers less to try.
+ * task that runs costs its level's power less the idle power in each of its ticks. By each tick at
+ * most as much is due on a core as has passed where it is awake, and 0 where it is off; that a task
+ * runs on an awake core only is said of each task besides, which leaves solvers less to try.
  */
 #include "instances.h"
 #include "reference.h"
@@ -38,6 +40,25 @@ static size_t cores_used(void) {
 
 static uint64_t load_of(size_t task, size_t level) {
     return reference_jobs(&in, task) * reference_ticks(&in, task, level);
+}
+
+/* A level at which a job takes longer than it may is not offered. */
+static bool is_offered(size_t task, size_t level) {
+    return reference_ticks(&in, task, level) <= in.task[task].deadline;
+}
+
+/* The ticks by which what is due is limited, in their order; the span's end is the last. */
+static size_t list_ticks(uint32_t ticks[MOST_SPAN]) {
+    size_t count = 0;
+    bool early = reference_has_early(&in);
+    for (uint32_t t = 1; t <= in.span; t++) {
+        bool is_due = t == in.span;
+        for (size_t i = 0; early && i < in.tasks; i++)
+            is_due = is_due || t % in.task[i].period == in.task[i].deadline % in.task[i].period;
+        if (is_due)
+            ticks[count++] = t;
+    }
+    return count;
 }
 
 /* What a task at a level that fits adds to the cost of an awake core. */
@@ -88,7 +109,7 @@ static void print_awake(model m, int64_t factor, size_t core) {
 static void print_task(model m, size_t task, bool priced) {
     for (size_t c = 0; c < cores_offered(task); c++)
         for (size_t l = 0; l < in.levels; l++)
-            if (load_of(task, l) <= in.span)
+            if (is_offered(task, l))
                 print_choice(m, priced ? cost_of(task, l) : 1, task, c, l);
     if (in.task[task].penalty != MUST)
         print_refusal(m, priced ? penalty_of(task) : 1, task);
@@ -113,20 +134,24 @@ static void print_at_most(model m, uint32_t most) {
         fprintf(m.file, " <= %" PRIu32 "\n", most);
 }
 
-static void print_core(model m, size_t core) {
-    for (size_t i = 0; i < in.tasks; i++)
+/* What is due on a core by a tick. */
+static void print_core(model m, size_t core, uint32_t tick) {
+    for (size_t i = 0; i < in.tasks; i++) {
+        uint64_t jobs = reference_jobs_due(&in, i, tick);
         for (size_t l = 0; l < in.levels; l++)
-            if (core < cores_offered(i) && load_of(i, l) <= in.span)
-                print_choice(m, sign_of(m) * (int64_t)load_of(i, l), i, core, l);
+            if (jobs > 0 && core < cores_offered(i) && is_offered(i, l))
+                print_choice(m, sign_of(m) * (int64_t)(jobs * reference_ticks(&in, i, l)), i, core,
+                             l);
+    }
     if (in.idle_power > 0)
-        print_awake(m, -sign_of(m) * (int64_t)in.span, core);
-    print_at_most(m, in.idle_power > 0 ? 0 : in.span);
+        print_awake(m, -sign_of(m) * (int64_t)tick, core);
+    print_at_most(m, in.idle_power > 0 ? 0 : tick);
 }
 
 /* A task runs on that core only where it is awake. */
 static void print_runs_awake(model m, size_t task, size_t core) {
     for (size_t l = 0; l < in.levels; l++)
-        if (load_of(task, l) <= in.span)
+        if (is_offered(task, l))
             print_choice(m, sign_of(m), task, core, l);
     print_awake(m, -sign_of(m), core);
     print_at_most(m, 0);
@@ -134,6 +159,8 @@ static void print_runs_awake(model m, size_t task, size_t core) {
 
 static void print_lp(FILE *file) {
     model m = {file, false};
+    uint32_t ticks[MOST_SPAN];
+    size_t count = list_ticks(ticks);
     fprintf(file, "Minimize\n cost:");
     print_cost(m);
     fprintf(file, "Subject To\n");
@@ -142,10 +169,11 @@ static void print_lp(FILE *file) {
         print_task(m, i, false);
         fprintf(file, " = 1\n");
     }
-    for (size_t c = 0; c < cores_used(); c++) {
-        fprintf(file, " core_%zu:", c);
-        print_core(m, c);
-    }
+    for (size_t c = 0; c < cores_used(); c++)
+        for (size_t n = 0; n < count; n++) {
+            fprintf(file, " core_%zu_%" PRIu32 ":", c, ticks[n]);
+            print_core(m, c, ticks[n]);
+        }
     for (size_t i = 0; in.idle_power > 0 && i < in.tasks; i++)
         for (size_t c = 0; c < cores_offered(i); c++) {
             fprintf(file, " runs_%zu_%zu:", i, c);
@@ -155,7 +183,7 @@ static void print_lp(FILE *file) {
     for (size_t i = 0; i < in.tasks; i++) {
         for (size_t c = 0; c < cores_offered(i); c++)
             for (size_t l = 0; l < in.levels; l++)
-                if (load_of(i, l) <= in.span)
+                if (is_offered(i, l))
                     fprintf(file, " x_%zu_%zu_%zu\n", i, c, l);
         if (in.task[i].penalty != MUST)
             fprintf(file, " r_%zu\n", i);
@@ -169,7 +197,8 @@ static void print_opb(FILE *file) {
     model m = {file, true};
     bool idle = in.idle_power > 0;
     size_t variables = MOST_TASKS * MOST_CORES * MOST_LEVELS + MOST_TASKS + (idle ? MOST_CORES : 0);
-    size_t constraints = in.tasks + cores_used();
+    uint32_t ticks[MOST_SPAN];
+    size_t count = list_ticks(ticks), constraints = in.tasks + cores_used() * count;
     for (size_t i = 0; idle && i < in.tasks; i++)
         constraints += cores_offered(i);
     fprintf(file, "* #variable= %zu #constraint= %zu\nmin:", variables, constraints);
@@ -180,7 +209,8 @@ static void print_opb(FILE *file) {
         fprintf(file, " = 1 ;\n");
     }
     for (size_t c = 0; c < cores_used(); c++)
-        print_core(m, c);
+        for (size_t n = 0; n < count; n++)
+            print_core(m, c, ticks[n]);
     for (size_t i = 0; idle && i < in.tasks; i++)
         for (size_t c = 0; c < cores_offered(i); c++)
             print_runs_awake(m, i, c);

@@ -91,28 +91,34 @@ static void tell_slot(const subject *of, size_t index) {
                 (of->plan[task - 1] - 1u) / site->levels + 1);
 }
 
-/* The first job of a task whose slots are not its ticks. */
+static uint64_t count_slots(const uint8_t *row, size_t task, size_t from, size_t end) {
+    uint64_t slots = 0;
+    for (size_t t = from; t < end; t++)
+        slots += row[t] == task + 1;
+    return slots;
+}
+
+/* The first job of a task whose slots are not its ticks, or one of whose is late. */
 static void tell_job(const subject *of, size_t task) {
     const parsed_site *site = of->site;
-    size_t choice = of->plan[task] - 1u, period = site->task[task].period;
+    size_t choice = of->plan[task] - 1u, period = site->task[task].period, release = 0, due = 0;
     size_t level = choice % site->levels;
-    uint64_t ticks = site_ticks(site, task, level), slots = ticks;
+    uint64_t ticks = site_ticks(site, task, level), slots = ticks, late = 0;
     const uint8_t *row = of->table + choice / site->levels * site->span;
-    size_t release = 0;
     for (; release < site->span; release += period) {
-        slots = 0;
-        for (size_t t = release; t < release + period; t++)
-            slots += row[t] == task + 1;
-        if (slots != ticks)
+        due = release + site->task[task].deadline;
+        slots = count_slots(row, task, release, due);
+        late = count_slots(row, task, due, release + period);
+        if (slots != ticks || late > 0)
             break;
     }
-    fprintf(
-        stderr,
-        "%s: task %zu, job %zu, released at tick %zu and due at tick %zu, has %s on core %zu; at "
-        "level %zu it takes %s\n",
-        file_words(of->table_from->file), task + 1, release / period + 1, release, release + period,
-        amount_of(slots, "slot").text, choice / site->levels + 1, level + 1,
-        amount_of(ticks, "tick").text);
+    fprintf(stderr,
+            "%s: task %zu, job %zu, released at tick %zu and due at tick %zu, has %s on core %zu",
+            file_words(of->table_from->file), task + 1, release / period + 1, release, due,
+            amount_of(slots, "slot").text, choice / site->levels + 1);
+    if (late > 0)
+        fprintf(stderr, " and %s after it is due", grouped(late).text);
+    fprintf(stderr, "; at level %zu it takes %s\n", level + 1, amount_of(ticks, "tick").text);
 }
 
 void tell_given_refusal(const subject *of, towhepamu_checked why) {

@@ -140,14 +140,13 @@ static void print_run(size_t core, int task, size_t first, size_t ticks, size_t 
 /* The jobs of a task: a bar from release to due tick, a mark at the release, a bar at the due tick.
  */
 static void print_jobs(const planned_site *answer, size_t task, size_t tick, size_t top) {
-    size_t period = answer->site.task[task].period;
+    size_t period = answer->site.task[task].period, wide = answer->site.task[task].deadline * tick;
     const char *fill = colours[task].fill;
     printf("<text x=\"%d\" y=\"%zu\" text-anchor=\"end\" font-size=\"11\">task %zu</text>\n",
            LEFT - 8, top + 12, task + 1);
     printf("<g class=\"jobs\" data-task=\"%zu\" fill=\"%s\">\n", task + 1, fill);
     for (size_t release = 0; release < answer->site.span; release += period) {
-        size_t x = LEFT + release * tick, due = LEFT + (release + period) * tick;
-        size_t mark = period * tick >= 16 ? 8 : period * tick / 2;
+        size_t x = LEFT + release * tick, due = x + wide, mark = wide >= 16 ? 8 : wide / 2;
         printf(
             "<path d=\"M%zu %zuv11l%zu -5.5z\"/><path d=\"M%zu %zuh%zuv2h-%zuz\" opacity=\"0.55\"/>"
             "<path d=\"M%zu %zuh2v11h-2z\"/>\n",

@@ -5,7 +5,8 @@
 
 #include "answer.h"
 
-/* "task 1: core 1, level 3, 4 ticks a job, period 10", without a line's end. */
+/* "task 1: core 1, level 3, 4 ticks a job, period 10, deadline 4, 2 jobs", without a line's end;
+   the deadline only where it is early. */
 void print_task_line(const planned_site *answer, size_t task);
 
 /* "An idle tick draws 50; core 3 is off.", without a line's end; for a site with idle power. */

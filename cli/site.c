@@ -14,6 +14,7 @@ static const section sections[] = {
     {SETTINGS_COUNT, ENERGY_WEIGHT, IDLE_POWER, true},
     {LEVELS_COUNT, SPEED, POWER, false},
     {TASKS_COUNT, PERIOD, PENALTY, false},
+    {DEADLINES_COUNT, DEADLINE, DEADLINE, false},
 };
 
 enum { SECTIONS = sizeof sections / sizeof sections[0] };
@@ -31,6 +32,8 @@ static const site_field_words fields[] = {
     [PERIOD] = {"period", "task", 1, TOWHEPAMU_MOST_SPAN},
     [CYCLES] = {"number of cycles", "task", 1, 100000000},
     [PENALTY] = {"penalty", "task", 1, 1000000},
+    [DEADLINES_COUNT] = {"count of deadlines", NULL, 0, TOWHEPAMU_MOST_TASKS},
+    [DEADLINE] = {"deadline", "task", 1, TOWHEPAMU_MOST_SPAN},
     [LEFT_OVER] = {"number left over", NULL, 0, UINT32_MAX},
 };
 
@@ -59,6 +62,8 @@ static uint32_t *kept_at(parsed_site *site, site_name name) {
         return &site->task[name.of - 1].cycles;
     case PENALTY:
         return &site->task[name.of - 1].penalty;
+    case DEADLINE:
+        return &site->task[name.of - 1].deadline;
     default:
         return NULL;
     }
@@ -138,11 +143,16 @@ size_t site_count_before(const parsed_site *site, size_t index) {
 void site_fill_in(parsed_site *site, size_t span) {
     site->span = span;
     site->idle_power = 0;
+    for (size_t i = 0; i < TOWHEPAMU_MOST_TASKS; i++)
+        site->task[i].deadline = 0;
     for (size_t i = 0; i < site->count; i++) {
         uint32_t *kept = kept_at(site, site_name_of(site, i));
         if (kept != NULL)
             *kept = site->numbers[i].value;
     }
+    for (size_t i = 0; i < site->tasks; i++)
+        if (site->task[i].deadline == 0)
+            site->task[i].deadline = site->task[i].period;
 }
 
 size_t site_write(const parsed_site *from, uint8_t *text, size_t most) {
@@ -160,8 +170,24 @@ size_t site_write(const parsed_site *from, uint8_t *text, size_t most) {
 
 /* ---- What is computed of it ---- */
 
+bool site_is_early(const parsed_site *site, size_t task) {
+    return site->task[task].deadline < site->task[task].period;
+}
+
+bool site_has_early(const parsed_site *site) {
+    for (size_t i = 0; i < site->tasks; i++)
+        if (site_is_early(site, i))
+            return true;
+    return false;
+}
+
 uint64_t site_jobs(const parsed_site *site, size_t task) {
     return site->span / site->task[task].period;
+}
+
+uint64_t site_jobs_due(const parsed_site *site, size_t task, uint64_t tick) {
+    const site_task *of = &site->task[task];
+    return tick < of->deadline ? 0 : (tick - of->deadline) / of->period + 1;
 }
 
 uint64_t site_ticks(const parsed_site *site, size_t task, size_t level) {

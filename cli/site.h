@@ -1,6 +1,6 @@
 /*
  * A site file: its text, its numbers with where they stand, which number each one is, and the
- * settings, levels and tasks that they say.
+ * settings, levels, tasks and deadlines that they say.
  *
  * What a file says is listed once, in site.c: the sections with their numbers, and each number's
  * name, range and where it is kept. A further number of the settings or a further section is one
@@ -26,6 +26,8 @@ typedef enum {
     PERIOD,
     CYCLES,
     PENALTY,
+    DEADLINES_COUNT, /* 0, or that of the tasks; a list may end before it */
+    DEADLINE,        /* the period where there is none */
     LEFT_OVER
 } site_field;
 
@@ -50,7 +52,7 @@ typedef struct {
 } site_level;
 
 typedef struct {
-    uint32_t period, cycles, penalty;
+    uint32_t period, cycles, penalty, deadline;
 } site_task;
 
 /* The penalty of a task that may not be refused. */
@@ -91,8 +93,14 @@ void site_fill_in(parsed_site *site, size_t span);
 /* Writes the text of an accepted site again, as it is filled in. Returns its length. */
 size_t site_write(const parsed_site *site, uint8_t *text, size_t most);
 
-/* Jobs of a task in a span, and ticks of one of its jobs; task and level from 0. */
+/* Whether a task, from 0, is due before its period's end; whether some task is. */
+bool site_is_early(const parsed_site *site, size_t task);
+bool site_has_early(const parsed_site *site);
+
+/* Jobs of a task in a span, those due by a tick of it, and ticks of one of its jobs; task and level
+   from 0. */
 uint64_t site_jobs(const parsed_site *site, size_t task);
+uint64_t site_jobs_due(const parsed_site *site, size_t task, uint64_t tick);
 uint64_t site_ticks(const parsed_site *site, size_t task, size_t level);
 
 #endif

@@ -28,6 +28,14 @@ static void print_ticks(const planned_site *answer) {
     }
 }
 
+static void print_due_ticks(const parsed_site *site) {
+    puts("\ndue ticks: of job j, from 0, j x period + deadline");
+    puts("  task     period   deadline");
+    for (size_t i = 0; i < site->tasks; i++)
+        printf("  %4zu  j x %5" PRIu32 " + %5" PRIu32 "\n", i + 1, site->task[i].period,
+               site->task[i].deadline);
+}
+
 static uint64_t energy_of(const planned_site *answer, size_t task) {
     return site_jobs(&answer->site, task) * ticks_of(answer, task) *
            answer->site.level[level_of(answer, task) - 1].power;
@@ -53,12 +61,22 @@ static uint64_t print_energy(const planned_site *answer) {
 
 /* ---- Idle power ---- */
 
-static uint64_t load_of(const planned_site *answer, size_t core) {
-    uint64_t load = 0;
+/* What a task has due by a tick. */
+static uint64_t due_of(const planned_site *answer, size_t task, uint64_t tick) {
+    return site_jobs_due(&answer->site, task, tick) * ticks_of(answer, task);
+}
+
+static uint64_t due_by(const planned_site *answer, size_t core, uint64_t tick) {
+    uint64_t due = 0;
     for (size_t i = 0; i < answer->site.tasks; i++)
         if (core_of(answer, i) == core)
-            load += site_jobs(&answer->site, i) * ticks_of(answer, i);
-    return load;
+            due += due_of(answer, i, tick);
+    return due;
+}
+
+/* By its end all jobs of the span are due. */
+static uint64_t load_of(const planned_site *answer, size_t core) {
+    return due_by(answer, core, answer->site.span);
 }
 
 /* What a core draws in the ticks that its load leaves of the span. */
@@ -112,22 +130,24 @@ static uint64_t print_penalty(const planned_site *answer) {
     return sum;
 }
 
+/* What a task of a core adds to a sum: jobs due by a tick x ticks, or energy. */
+typedef enum { TICKS_DUE, ENERGY } summand;
+
 /* "8 + 10 = 18": a core's sum over its tasks, with its idle energy at the end; nothing for none. */
 static uint64_t print_core_sum(const planned_site *answer, size_t core, const char *word,
-                               bool energy) {
+                               summand of, uint64_t tick) {
     uint64_t sum = 0;
     const char *between = "";
     printf("          %-7s", word);
     for (size_t i = 0; i < answer->site.tasks; i++) {
         if (core_of(answer, i) != core)
             continue;
-        uint64_t one =
-            energy ? energy_of(answer, i) : site_jobs(&answer->site, i) * ticks_of(answer, i);
+        uint64_t one = of == ENERGY ? energy_of(answer, i) : due_of(answer, i, tick);
         sum += one;
         printf("%s%" PRIu64, between, one);
         between = " + ";
     }
-    if (energy && *between != 0 && answer->site.idle_power > 0) {
+    if (of == ENERGY && *between != 0 && answer->site.idle_power > 0) {
         printf(" + %" PRIu64, idle_energy_of(answer, core));
         sum += idle_energy_of(answer, core);
     }
@@ -137,7 +157,20 @@ static uint64_t print_core_sum(const planned_site *answer, size_t core, const ch
     return sum;
 }
 
-/* Each core's load and energy; false where the row has another number of busy slots. */
+/* What is due by the tick at which least is to spare; false where that is more than has passed. */
+static bool print_tightest(const planned_site *answer, size_t core) {
+    size_t span = answer->site.span, tightest = span;
+    for (size_t t = span; t-- > 1;)
+        if ((int64_t)t - (int64_t)due_by(answer, core, t) <=
+            (int64_t)tightest - (int64_t)due_by(answer, core, tightest))
+            tightest = t;
+    uint64_t due = print_core_sum(answer, core, "due", TICKS_DUE, tightest);
+    printf(" by tick %zu, by which least is to spare\n", tightest);
+    return due <= tightest;
+}
+
+/* Each core's load and energy; false where the row has another number of busy slots, or too much is
+   due by some tick. */
 static bool print_cores(const planned_site *answer, uint64_t *energy) {
     size_t span = answer->site.span;
     bool right = true;
@@ -149,14 +182,16 @@ static bool print_cores(const planned_site *answer, uint64_t *energy) {
         for (size_t t = 0; t < span; t++)
             busy += row_of(answer, c - 1)[t] != 0;
         printf("  core %zu\n", c);
-        uint64_t load = print_core_sum(answer, c, "load", false);
+        uint64_t load = print_core_sum(answer, c, "load", TICKS_DUE, span);
         if (answer->site.idle_power == 0 || is_awake(answer, c))
             printf(" of span %zu, %zu idle\n", span, span - busy);
         else
             printf(" of span %zu, off\n", span);
-        *energy += print_core_sum(answer, c, "energy", true);
-        puts("");
         right = right && load == busy;
+        if (site_has_early(&answer->site) && is_awake(answer, c))
+            right = print_tightest(answer, c) && right;
+        *energy += print_core_sum(answer, c, "energy", ENERGY, 0);
+        puts("");
     }
     return right;
 }
@@ -199,6 +234,8 @@ int run_sums(const arguments *given) {
         printf(", idle power %" PRIu32, site->idle_power);
     puts("\n");
     print_ticks(&answer);
+    if (site_has_early(site))
+        print_due_ticks(site);
     uint64_t energy = print_energy(&answer), of_cores;
     if (site->idle_power > 0)
         energy = print_idle_energy(&answer, energy);

@@ -14,8 +14,10 @@ void print_task_line(const planned_site *answer, size_t task) {
     else
         printf("core %zu, level %zu, %s a job", core_of(answer, task), level_of(answer, task),
                amount_of(ticks_of(answer, task), "tick").text);
-    printf(", period %s, %s", grouped(site->task[task].period).text,
-           amount_of(site_jobs(site, task), "job").text);
+    printf(", period %s", grouped(site->task[task].period).text);
+    if (site_is_early(site, task))
+        printf(", deadline %s", grouped(site->task[task].deadline).text);
+    printf(", %s", amount_of(site_jobs(site, task), "job").text);
 }
 
 void print_idle_line(const planned_site *answer) {
@@ -41,17 +43,28 @@ static char character_of(uint8_t task) {
 }
 
 /* What stands for a tick in the line of a task's jobs. */
-static char job_character(size_t period, size_t tick) {
-    size_t within = tick % period;
-    if (period == 1)
+static char job_character(const site_task *task, size_t tick) {
+    size_t within = tick % task->period;
+    if (within >= task->deadline)
+        return ' ';
+    if (task->deadline == 1)
         return '|';
-    return within == 0 ? '[' : within == period - 1 ? ']' : '-';
+    return within == 0 ? '[' : within == task->deadline - 1 ? ']' : '-';
 }
 
 static void print_axis(size_t first, size_t end) {
     fputs("tick    ", stdout);
     for (size_t t = first; t < end; t += BETWEEN_NUMBERS)
         printf("%-*zu", t + BETWEEN_NUMBERS < end ? BETWEEN_NUMBERS : 1, t);
+    puts("");
+}
+
+/* The jobs of a task, to the last tick in which there is one. */
+static void print_jobs(const site_task *task, size_t first, size_t end) {
+    while (end > first && job_character(task, end - 1) == ' ')
+        end--;
+    for (size_t t = first; t < end; t++)
+        putchar(job_character(task, t));
     puts("");
 }
 
@@ -64,9 +77,7 @@ static void print_lane(const planned_site *answer, size_t core, size_t first, si
         if (core_of(answer, i) != core)
             continue;
         printf("     %c  ", character_of((uint8_t)(i + 1)));
-        for (size_t t = first; t < end; t++)
-            putchar(job_character(answer->site.task[i].period, t));
-        puts("");
+        print_jobs(&answer->site.task[i], first, end);
     }
 }
 
@@ -82,7 +93,8 @@ void print_text_picture(const planned_site *answer) {
         for (size_t c = 1; c <= answer->site.cores; c++)
             print_lane(answer, c, first, end);
     }
-    puts("\n. idle; [ a job's release, ] its last tick before it is due, | both in one tick");
+    printf("\n. idle; [ a job's release, ] its last tick before it is due, | both in one tick%s\n",
+           site_has_early(&answer->site) ? ", blank after it" : "");
     if (answer->site.idle_power > 0) {
         print_idle_line(answer);
         puts("");

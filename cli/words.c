@@ -88,9 +88,37 @@ static bool tell_rise(const parsed_site *site, size_t index, site_name name) {
     return true;
 }
 
+/* The value of a number that stands before. */
+static uint32_t value_before(const parsed_site *site, size_t index, site_field field, size_t of) {
+    while (index-- > 0) {
+        site_name name = site_name_of(site, index);
+        if (name.field == field && name.of == of)
+            return site->numbers[index].value;
+    }
+    return 0;
+}
+
+/* Numbers whose range another number ends: deadlines and their count. */
+static bool tell_deadlines(const parsed_site *site, size_t index, site_name name) {
+    size_t offset = site->numbers[index].offset;
+    uint32_t value = site->numbers[index].value;
+    if (name.field == DEADLINES_COUNT) {
+        uint32_t tasks = value_before(site, index, TASKS_COUNT, 0);
+        tell_at(site->file, site->text, offset,
+                "count of deadlines is %" PRIu32
+                "; it must be 0%s%s, the count of tasks: compare that with the tasks, too",
+                value, tasks == 0 ? "" : " or ", tasks == 0 ? "" : grouped(tasks).text);
+    } else if (name.field == DEADLINE)
+        tell_at(site->file, site->text, offset,
+                "%s is %" PRIu32 "; it must be 1 to %s, the period of that task",
+                name_in_words(name).text, value,
+                grouped(value_before(site, index, PERIOD, name.of)).text);
+    return name.field == DEADLINES_COUNT || name.field == DEADLINE;
+}
+
 static void tell_range(const parsed_site *site, size_t index) {
     site_name name = site_name_of(site, index);
-    if (tell_rise(site, index, name))
+    if (tell_rise(site, index, name) || tell_deadlines(site, index, name))
         return;
     const site_field_words *words = site_words_of(name.field);
     digits least = grouped(words->least), most = grouped(words->most);

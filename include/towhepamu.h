@@ -13,11 +13,18 @@
  *   power 0 to 65,535, which is 0 after a 3;
  *   how many levels, 1 to 8; for each its speed and its power, 1 to 65,535, both rising strictly;
  *   how many tasks, 0 to 12; for each its period in ticks, 1 to 4,096, its cycles a job, 1 to
- *   100,000,000, and its penalty a job, 1 to 1,000,000, or 4,294,967,295 if it may not be refused.
+ *   100,000,000, and its penalty a job, 1 to 1,000,000, or 4,294,967,295 if it may not be refused;
+ *   how many deadlines, 0 or as many as there are tasks; each in ticks, 1 to its task's period. The
+ *   numbers may end before this count; then, and with a count of 0, each deadline is the period.
  *
- * The span is the least common multiple of the periods, 1 with no task. In it a kept task draws
- * jobs x ticks x power of its level. A core that keeps a task draws idle power in each tick of the
- * span that the jobs x ticks of its tasks leave; a core that keeps none is off and draws nothing.
+ * The span is the least common multiple of the periods, 1 with no task. Job j of a task, from 0, is
+ * released at tick j x period and due at tick j x period + deadline. A core fits where its jobs can
+ * all have their ticks in time: where by no tick of the span more of their ticks are due than that
+ * tick says.
+ *
+ * In the span a kept task draws jobs x ticks x power of its level. A core that keeps a task draws
+ * idle power in each tick of the span that the jobs x ticks of its tasks leave; a core that keeps
+ * none is off and draws nothing.
  *
  * Link with libtowhepamu.a. A call keeps nothing and prints nothing; several threads may call at
  * once as long as they share no result buffer.
@@ -33,9 +40,9 @@ extern "C" {
 #endif
 
 /* The version of the header and the archive. */
-#define TOWHEPAMU_VERSION "1.1.0"
+#define TOWHEPAMU_VERSION "1.2.0"
 #define TOWHEPAMU_VERSION_MAJOR 1
-#define TOWHEPAMU_VERSION_MINOR 1
+#define TOWHEPAMU_VERSION_MINOR 2
 #define TOWHEPAMU_VERSION_PATCH 0
 
 /* The longest site file that is read, in bytes. */
@@ -78,8 +85,8 @@ enum towhepamu_refusal {
        first extra number, from 0. */
     TOWHEPAMU_WORDS = 2,
 
-    /* A number, a count included, is outside its range, or a speed or power does not rise. Place:
-       its index, from 0. */
+    /* A number, a count included, is outside its range, or a speed or power does not rise; a number
+       after the tasks that is no count of deadlines is one of these. Place: its index, from 0. */
     TOWHEPAMU_RANGE = 3,
 
     /* A period brings the span, the least common multiple of the periods, over 4,096. Place: the
@@ -98,8 +105,8 @@ enum towhepamu_refusal {
        first such task's index, from 0. */
     TOWHEPAMU_CHOICES = 7,
 
-    /* A core of a given plan does not fit. None of the calls below returns this one. Place: the
-       lowest such core, from 1. */
+    /* A core of a given plan does not fit: by some tick more is due on it than it can have run. None
+       of the calls below returns this one. Place: the lowest such core, from 1. */
     TOWHEPAMU_OVERLOAD = 8,
 
     /* The given table has another length than cores x span; or a slot other than 0 names no task
@@ -107,8 +114,9 @@ enum towhepamu_refusal {
        such slot's index, from 0. */
     TOWHEPAMU_SLOTS = 9,
 
-    /* A job has more or fewer slots than its ticks between its release and its due tick. Place: the
-       number of the lowest such task, from 1. */
+    /* A job has more or fewer slots than its ticks between its release and its due tick, or a slot
+       between its due tick and its task's next release. Place: the number of the lowest such task,
+       from 1. */
     TOWHEPAMU_JOB = 10,
 
     /* A switching word out of range. Place: 0 for an energy above 1,000,000, 1 for a time above

@@ -38,11 +38,32 @@ static void damage_settings(generator *g, uint32_t *words, size_t *count) {
         insert_word(words, count, 4, between(g, 0, 9));
 }
 
+/* Where the deadlines begin with their count, or where the list ends. */
+static size_t deadlines_at(const uint32_t *words, size_t count) {
+    uint64_t at = 1 + (uint64_t)words[0];
+    at += at < count ? 1 + 2 * (uint64_t)words[at] : 0;
+    at += at < count ? 1 + 3 * (uint64_t)words[at] : 0;
+    return at < count ? at : count;
+}
+
+/* A count of deadlines, or another one; a deadline that is wrong, or one too many or too few. */
+static void damage_deadlines(generator *g, uint32_t *words, size_t *count) {
+    size_t at = deadlines_at(words, *count), more = *count - at;
+    if (more == 0 || one_in(g, 4))
+        insert_word(words, count, at, between(g, 0, 3));
+    else if (one_in(g, 4))
+        words[at] = one_in(g, 2) ? 0 : words[at] + between(g, 0, 2) - 1;
+    else if (one_in(g, 3))
+        *count -= 1;
+    else
+        words[at + draw(g, more)] += between(g, 0, 2) - 1;
+}
+
 void damage_words(generator *g, uint32_t *words, size_t *count) {
     if (*count == 0)
         return;
     size_t at = draw(g, *count);
-    switch (draw(g, 9)) {
+    switch (draw(g, 11)) {
     case 0:
         *count = at;
         break;
@@ -65,6 +86,10 @@ void damage_words(generator *g, uint32_t *words, size_t *count) {
         break;
     case 6:
         damage_settings(g, words, count);
+        break;
+    case 7:
+    case 8:
+        damage_deadlines(g, words, count);
         break;
     default:
         words[at] = draw_edge(g);

@@ -37,9 +37,21 @@ static inline void swap_slots(drawing *given, size_t a, size_t b) {
     given->table[b] = slot;
 }
 
+/* Moves a slot of a job behind its due tick, where its task has an early one. */
+static inline void make_late(generator *g, const reference_instance *in, drawing *given,
+                             size_t at) {
+    uint8_t task = given->table[at];
+    if (task == 0 || task > in->tasks)
+        return;
+    const reference_task *of = &in->task[task - 1];
+    size_t release = at - at % in->span % of->period;
+    if (of->deadline < of->period)
+        swap_slots(given, at, release + draw_between(g, of->deadline, of->period - 1));
+}
+
 static inline void damage_drawing(generator *g, const reference_instance *in, drawing *given) {
     size_t slots = in->cores * in->span, at = draw(g, slots);
-    switch (draw(g, 8)) {
+    switch (draw(g, 9)) {
     case 0:
         given->plan_len = draw(g, in->tasks + 3);
         break;
@@ -56,7 +68,10 @@ static inline void damage_drawing(generator *g, const reference_instance *in, dr
         memset(given->table + at, 0, slots - at);
         break;
     case 5:
+        make_late(g, in, given, at);
+        break;
     case 6:
+    case 7:
         at = draw(g, in->tasks + 1);
         given->plan[at] = draw_choice(g, in); /* sometimes of no task */
         break;

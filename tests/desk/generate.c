@@ -1,4 +1,4 @@
-/* Sites, and their words as text. */
+/* Sites, but for their deadlines. */
 #include "generate.h"
 
 static uint32_t between(generator *g, uint32_t least, uint32_t most) {
@@ -132,28 +132,6 @@ static void draw_full_cores(generator *g, reference_instance *in) {
     }
 }
 
-size_t list_words(const reference_instance *in, uint32_t settings, uint32_t *words) {
-    size_t n = 0;
-    words[n++] = settings;
-    words[n++] = in->energy_weight;
-    words[n++] = in->penalty_weight;
-    words[n++] = in->cores;
-    if (settings == 4)
-        words[n++] = in->idle_power;
-    words[n++] = in->levels;
-    for (size_t l = 0; l < in->levels; l++) {
-        words[n++] = in->level[l].speed;
-        words[n++] = in->level[l].power;
-    }
-    words[n++] = in->tasks;
-    for (size_t i = 0; i < in->tasks; i++) {
-        words[n++] = in->task[i].period;
-        words[n++] = in->task[i].cycles;
-        words[n++] = in->task[i].penalty;
-    }
-    return n;
-}
-
 size_t draw_site(generator *g, site_limits limits, uint32_t *words) {
     reference_instance in;
     bool weighted = one_in(g, 4);
@@ -164,40 +142,12 @@ size_t draw_site(generator *g, site_limits limits, uint32_t *words) {
     in.tasks = between(g, limits.least_tasks, limits.most_tasks);
     in.span = draw_span(g, limits.most_span);
     draw_levels(g, &in);
-    uint32_t settings = one_in(g, 3) ? 4 : 3;
-    in.idle_power = settings == 4 ? draw_idle_power(g, &in) : 0;
+    written_as as = {one_in(g, 3) ? 4 : 3, LIST_ENDS};
+    in.idle_power = as.settings == 4 ? draw_idle_power(g, &in) : 0;
     if (one_in(g, 4))
         draw_full_cores(g, &in);
     else
         draw_tasks(g, &in, between(g, 1, 8));
-    return list_words(&in, settings, words);
-}
-
-/* ---- Text ---- */
-
-static size_t draw_blanks(generator *g, size_t least, uint8_t *text) {
-    size_t n = draw_between(g, least, one_in(g, 8) ? 8 : 2);
-    for (size_t i = 0; i < n; i++)
-        text[i] = one_in(g, 3) ? '\n' : ' ';
-    return n;
-}
-
-static size_t write_number(uint32_t number, uint8_t *text) {
-    size_t digits = number < 10 ? 0 : write_number(number / 10, text);
-    text[digits] = (uint8_t)('0' + number % 10);
-    return digits + 1;
-}
-
-size_t write_text(generator *g, const uint32_t *words, size_t count, bool odd, uint8_t *text) {
-    size_t n = odd ? draw_blanks(g, 0, text) : 0;
-    for (size_t i = 0; i < count; i++) {
-        if (i > 0 && odd)
-            n += draw_blanks(g, 1, text + n);
-        else if (i > 0)
-            text[n++] = ' ';
-        for (size_t zeros = odd && one_in(g, 4) ? draw(g, 6) : 0; zeros > 0; zeros--)
-            text[n++] = '0';
-        n += write_number(words[i], text + n);
-    }
-    return odd ? n + draw_blanks(g, 0, text + n) : n;
+    as.deadlines = draw_deadlines(g, &in);
+    return list_words(&in, as, words);
 }

@@ -15,13 +15,26 @@ typedef struct {
  * The words of a site within the limits, which reads without refusal. It is drawn to be close to
  * the edges: ties between levels, cores and penalties, equal tasks, cores that are just full or
  * just over, tasks that fit nowhere. A third of them have four settings, with an idle power of 0,
- * of a few units, about that of a level, or above every level's.
+ * of a few units, about that of a level, or above every level's. Half of them have deadlines.
  */
 size_t draw_site(generator *g, site_limits limits, uint32_t *words);
 
-/* The words of a site; the span is not among them, and idle power only where there are four
-   settings, not three. */
-size_t list_words(const reference_instance *site, uint32_t settings, uint32_t *words);
+/* How a site is written: with three settings, where its idle power is 0, or with four; and with a
+   list that ends after the tasks or counts 0 deadlines, where these are the periods, or has each.
+ */
+typedef enum { LIST_ENDS, NO_DEADLINES, EACH_DEADLINE } deadlines_written;
+
+typedef struct {
+    uint32_t settings;
+    deadlines_written deadlines;
+} written_as;
+
+size_t list_words(const reference_instance *site, written_as as, uint32_t *words);
+
+/* Gives the tasks of a site, whose deadlines are the periods, those that some plan's rows just
+   meet, here and there one more or less; or gives them any, and says how they are written. */
+void draw_just_met(generator *g, reference_instance *site);
+deadlines_written draw_deadlines(generator *g, reference_instance *site);
 
 /* One wrong, missing or extra word, or a few; MOST_DRAWN_WORDS at most. */
 void damage_words(generator *g, uint32_t *words, size_t *count);

@@ -1,5 +1,5 @@
-/* K1 to K13 of document 01 and examples of idle power, with what planning answers and the table
-   that it draws. */
+/* K1 to K13 of document 01 and examples of idle power and of deadlines, with what planning answers
+   and the table that it draws. */
 #ifndef KNOWN_H
 #define KNOWN_H
 
@@ -14,12 +14,14 @@ typedef struct {
 } known_case;
 
 #define XSCALE " 5 150 80 400 170 600 400 800 900 1000 1600 "
+#define K2 "3 1 1 1" XSCALE "2 10 2400 5000 20 6000 4294967295 "
+#define TWO_FOURS "3 1 1 1  1 100 10  2 10 400 4294967295 10 400 4294967295 "
 
 /* clang-format off */
 static const known_case known_cases[] = {
     {"K1", "3 1 1 1" XSCALE "2 10 2400 5000 20 6000 3000", 2, 20,
      {0, 0, 2040, 3000, 5040}, "20", "11111100001111110000"},
-    {"K2", "3 1 1 1" XSCALE "2 10 2400 5000 20 6000 4294967295", 2, 20,
+    {"K2", K2, 2, 20,
      {0, 0, 7200, 0, 7200}, "33", "11112222221111222200"},
     {"K3", "3 1 1 2" XSCALE "2 10 2400 5000 20 6000 3000", 2, 40,
      {0, 0, 4590, 0, 4590}, "27", "1111110000111111000022222222222222200000"},
@@ -77,6 +79,39 @@ static const known_case known_cases[] = {
      {3, 0, 0, 0, 0}, "", ""},
     {"a fourth setting is missing", "4 1 1 1", 0, 0,
      {2, 4, 0, 0, 0}, "", ""},
+
+    /* Deadlines: two tasks of 4 ticks and period 10, which may not be refused. */
+    {"no deadlines", TWO_FOURS, 2, 10, {0, 0, 80, 0, 80}, "11", "1111222200"},
+    {"count 0", TWO_FOURS "0", 2, 10, {0, 0, 80, 0, 80}, "11", "1111222200"},
+    {"deadlines 10 and 10", TWO_FOURS "2 10 10", 2, 10, {0, 0, 80, 0, 80}, "11", "1111222200"},
+    {"deadlines 4 and 7", TWO_FOURS "2 4 7", 2, 10, {5, 0, 0, 0, 0}, "", ""},
+    {"deadlines 4 and 8", TWO_FOURS "2 4 8", 2, 10, {0, 0, 80, 0, 80}, "11", "1111222200"},
+    {"deadlines 8 and 4", TWO_FOURS "2 8 4", 2, 10, {0, 0, 80, 0, 80}, "11", "2222111100"},
+    {"deadlines 3 and 10", TWO_FOURS "2 3 10", 2, 10, {5, 0, 0, 0, 0}, "", ""},
+    {"deadlines 4 and 4 on two cores",
+     "3 1 1 2  1 100 10  2 10 400 4294967295 10 400 4294967295  2 4 4", 2, 20,
+     {0, 0, 80, 0, 80}, "12", "11110000002222000000"},
+    {"deadlines 4 and 7, one may be refused",
+     "3 1 1 1  1 100 10  2 10 400 4294967295 10 400 30  2 4 7", 2, 10,
+     {0, 0, 40, 30, 70}, "10", "1111000000"},
+    {"K2, deadlines 4 and 10", K2 "2 4 10", 2, 20,
+     {0, 0, 12800, 0, 12800}, "35", "11112222221111000000"},
+    {"K2, deadlines 3 and 20", K2 "2 3 20", 2, 20,
+     {0, 0, 9400, 0, 9400}, "43", "11122222221112220000"},
+    {"K2, idle power 50, deadlines 4 and 10",
+     "4 1 1 1 50" XSCALE "2 10 2400 5000 20 6000 4294967295  2 4 10", 2, 20,
+     {0, 0, 13100, 0, 13100}, "35", "11112222221111000000"},
+    {"K6, count 0", "3 1 1 2" XSCALE "0  0", 0, 2, {0, 0, 0, 0, 0}, "", "00"},
+    {"K6, count 1", "3 1 1 2" XSCALE "0  1 1", 0, 0, {3, 16, 0, 0, 0}, "", ""},
+    {"count 1 of two", TWO_FOURS "1 4", 0, 0, {3, 14, 0, 0, 0}, "", ""},
+    {"count 3 of two", TWO_FOURS "3 4 4 4", 0, 0, {3, 14, 0, 0, 0}, "", ""},
+    {"deadline 0", TWO_FOURS "2 0 7", 0, 0, {3, 15, 0, 0, 0}, "", ""},
+    {"deadline above its period", TWO_FOURS "2 4 11", 0, 0, {3, 16, 0, 0, 0}, "", ""},
+    {"a deadline is missing", TWO_FOURS "2 4", 0, 0, {2, 16, 0, 0, 0}, "", ""},
+    {"a word after the deadlines", TWO_FOURS "2 4 8 1", 0, 0, {2, 17, 0, 0, 0}, "", ""},
+    {"a word after count 0", TWO_FOURS "0 1", 0, 0, {2, 15, 0, 0, 0}, "", ""},
+    {"K11, deadlines", "3 1 1 1  1 1 1  2 4095 1 1 2 1 1  2 1 1", 0, 0,
+     {4, 11, 0, 0, 0}, "", ""},
 };
 /* clang-format on */
 

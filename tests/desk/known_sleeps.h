@@ -56,6 +56,12 @@ static const known_sleep known_sleeps[] = {
     {"two cores, time 5", "4 1 1 2 50" XSCALE "2 10 2400 5000 20 6000 3000", "27",
      "1111110000111111000022222222222222200000", 199, 5, 2, {0, 0}, {400, 199}, {0, 1}},
 
+    /* Deadlines: one gap of 6; one of 7 across the end; a row that ends too late. */
+    {"K2, deadlines 4 and 10", K2_IDLE_50 "  2 4 10", "35", "11112222221111000000", 299, 6, 1,
+     {0, 0}, {299}, {1}},
+    {"deadline 8", ACROSS "  1 8", "1", "0001110000", 349, 7, 1, {0, 0}, {349}, {1}},
+    {"a slot after its due tick", ACROSS "  1 5", "1", "0001110000", 0, 0, 0, {10, 1}, {0}, {0}},
+
     {"energy out of range", K2_IDLE_50, "33", K2_ROW, 1000001, 4097, 0, {11, 0}, {0}, {0}},
     {"time out of range", K2_IDLE_50, "3", "", 1000000, 4097, 0, {11, 1}, {0}, {0}},
     {"the site before them", "4 1 1 1 65536", "33", K2_ROW, 1000001, 0, 0, {3, 4}, {0}, {0}},

@@ -116,10 +116,25 @@ static bool take_tasks(cursor *from, reference_instance *in) {
     return true;
 }
 
+/* Where the list ends after the tasks, or counts 0 deadlines, a deadline is the whole period. */
+static bool take_deadlines(cursor *from, reference_instance *in) {
+    for (size_t i = 0; i < in->tasks; i++)
+        in->task[i].deadline = in->task[i].period;
+    if (from->at == from->count)
+        return true;
+    uint32_t count = from->words[from->at] == 0 ? 0 : in->tasks;
+    if (!take(from, count, count, &count))
+        return false;
+    for (size_t i = 0; i < count; i++)
+        if (!take(from, 1, in->task[i].period, &in->task[i].deadline))
+            return false;
+    return true;
+}
+
 towhepamu_checked reference_read(const uint32_t *words, size_t count, reference_instance *in) {
     cursor from = {words, count, 0, accepted};
     if (take_settings(&from, in) && take_levels(&from, in) && take_tasks(&from, in) &&
-        from.at < from.count)
+        take_deadlines(&from, in) && from.at < from.count)
         stop(&from, TOWHEPAMU_WORDS, from.at);
     return from.answer;
 }

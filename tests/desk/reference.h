@@ -1,5 +1,5 @@
 /*
- * Documents 01 and 02 (a), (b) in plain C, written from the papers alone: what the archive is
+ * Documents 01 and 02 (a) to (c) in plain C, written from the papers alone: what the archive is
  * compared with and timed against. Choices and slots are bytes, as at the C interface.
  */
 #ifndef REFERENCE_H
@@ -15,7 +15,7 @@ enum {
     MOST_SPAN = TOWHEPAMU_MOST_SPAN,
     MOST_WORDS = TOWHEPAMU_MOST_TEXT_BYTES / 2, /* of a text: a digit in every second byte */
     MOST_GAPS = MOST_SPAN / 2,                  /* of a row: each has a busy slot behind it */
-    MOST_INSTANCE_WORDS = 5 + (1 + 2 * MOST_LEVELS) + (1 + 3 * MOST_TASKS)
+    MOST_INSTANCE_WORDS = 5 + (1 + 2 * MOST_LEVELS) + (1 + 3 * MOST_TASKS) + (1 + MOST_TASKS)
 };
 
 /* The penalty of a task that may not be refused. */
@@ -26,7 +26,7 @@ typedef struct {
 } reference_level;
 
 typedef struct {
-    uint32_t period, cycles, penalty;
+    uint32_t period, cycles, penalty, deadline;
 } reference_task;
 
 typedef struct {
@@ -46,9 +46,13 @@ towhepamu_checked reference_read(const uint32_t *words, size_t count, reference_
 towhepamu_checked reference_read_text(const uint8_t *text, size_t text_len,
                                       reference_instance *instance);
 
-/* Jobs of a task in a span; ticks of a job at a level; both from 0. */
+/* Jobs of a task, from 0: in a span, and due by a tick of it; ticks of one at a level, from 0. */
 uint64_t reference_jobs(const reference_instance *instance, size_t task);
+uint64_t reference_jobs_due(const reference_instance *instance, size_t task, uint64_t tick);
 uint64_t reference_ticks(const reference_instance *instance, size_t task, size_t level);
+
+/* Whether some task is due before its period's end. */
+bool reference_has_early(const reference_instance *instance);
 
 /* Core and level of a choice other than 0, from 0; whether a plan keeps a task on a core, from 0.
  */
@@ -57,13 +61,19 @@ size_t reference_level_of(const reference_instance *instance, uint8_t choice);
 bool reference_runs_on(const reference_instance *instance, const uint8_t *plan, size_t task,
                        size_t core);
 
+/* Of the ticks of the span by which more is due on a core, from 0, than has passed, the one by
+   which it is most, in proportion; 0 where there is none and the core fits. */
+uint64_t reference_overdue(const reference_instance *instance, const uint8_t *plan, size_t core);
+
 /* The tests of a given plan: refusal 7; refusals 7, 8. */
 towhepamu_checked reference_test_choices(const reference_instance *instance, const uint8_t *plan,
                                          size_t plan_len);
 towhepamu_checked reference_test_plan(const reference_instance *instance, const uint8_t *plan,
                                       size_t plan_len);
 
-/* Energy, penalty and cost of a given plan: refusals 7, 8. */
+/* Energy, penalty and cost: of a plan whose cores fit, any numbers where they do not; and of a
+   given plan: refusals 7, 8. */
+towhepamu_planned reference_amounts(const reference_instance *instance, const uint8_t *plan);
 towhepamu_planned reference_price(const reference_instance *instance, const uint8_t *plan,
                                   size_t plan_len);
 
@@ -75,7 +85,8 @@ towhepamu_checked reference_tabulate(const reference_instance *instance, const u
 towhepamu_checked reference_check_table(const reference_instance *instance, const uint8_t *plan,
                                         size_t plan_len, const uint8_t *table, size_t table_len);
 
-/* The best plan, by knapsacks over subsets and by trying every plan; false where there is none. */
+/* The best plan, by tables over sets of tasks (planners.c) and by trying every plan (exhaustive.c);
+   false where there is none. */
 bool reference_best(const reference_instance *instance, uint8_t plan[MOST_TASKS]);
 bool reference_best_exhaustive(const reference_instance *instance, uint8_t plan[MOST_TASKS]);
 

@@ -15,7 +15,7 @@ static void draw_row(const reference_instance *in, const uint8_t *plan, size_t c
         for (size_t i = 0; i < in->tasks; i++) {
             if (t % in->task[i].period == 0) {
                 left[i] = ticks[i];
-                due[i] = t + in->task[i].period;
+                due[i] = t + in->task[i].deadline;
             }
             if (left[i] > 0 && (runs == in->tasks || due[i] < due[runs]))
                 runs = i;
@@ -53,14 +53,18 @@ static towhepamu_checked test_slots(const reference_instance *in, const uint8_t 
     return accepted;
 }
 
-/* Whether every job of a kept task has exactly its ticks in its window. */
+/* Whether every job of a kept task has exactly its ticks before it is due, and no slot after. */
 static bool is_served(const reference_instance *in, size_t task, uint8_t choice,
                       const uint8_t *row) {
-    uint32_t period = in->task[task].period;
+    uint32_t period = in->task[task].period, deadline = in->task[task].deadline;
     for (uint32_t release = 0; release < in->span; release += period) {
         uint64_t slots = 0;
-        for (uint32_t t = release; t < release + period; t++)
-            slots += row[t] == task + 1;
+        for (uint32_t t = release; t < release + period; t++) {
+            bool runs = row[t] == task + 1;
+            if (runs && t >= release + deadline)
+                return false;
+            slots += runs;
+        }
         if (slots != reference_ticks(in, task, reference_level_of(in, choice)))
             return false;
     }

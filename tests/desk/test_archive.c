@@ -16,7 +16,7 @@ static lent text, plan, table, out;
 static bool reads;
 static reference_instance in;
 
-static size_t compared, differ, with_idle_power;
+static size_t compared, differ, with_idle_power, with_deadlines;
 static size_t was_read[REFUSALS], planned[REFUSALS], checked[REFUSALS], listed[REFUSALS];
 
 /* ---- One comparison ---- */
@@ -67,6 +67,7 @@ static bool compare_plan(generator *g, size_t plan_len, size_t table_len) {
     compared++;
     planned[expected.refusal]++;
     with_idle_power += accepted && in.idle_power > 0;
+    with_deadlines += accepted && reference_has_early(&in);
     if (!same_answers("planning answers otherwise", answer, expected))
         return accepted;
     if (!still_has(&plan, choices, accepted ? in.tasks : 0))
@@ -130,7 +131,7 @@ static void read_text(void) {
     reads = reference_read_text(text.bytes, text.len, &in).refusal == TOWHEPAMU_ACCEPTED;
     if (!reads) /* so that there are buffers to lend beside a text that is refused */
         in = (reference_instance){
-            1, 1, 2, 0, 2, 3, 60, {{1, 1}, {2, 2}}, {{60, 1, 1}, {1, 1, 1}, {2, 1, 1}}};
+            1, 1, 2, 0, 2, 3, 60, {{1, 1}, {2, 2}}, {{60, 1, 1, 60}, {1, 1, 1, 1}, {2, 1, 1, 2}}};
 }
 
 static void compare_checks(generator *g, bool accepted) {
@@ -213,8 +214,9 @@ int main(void) {
     bool all_planned = print_seen("planning", planned, (size_t[]){1, 2, 3, 4, 5, 6, 0});
     bool all_checked = print_seen("checking", checked, (size_t[]){1, 2, 3, 4, 7, 9, 10, 0});
     bool all_listed = print_seen("listing", listed, (size_t[]){1, 2, 3, 4, 5, 6, 0});
-    printf("desk: %zu compared, %zu plans with idle power among them, %zu differ\n", compared,
-           with_idle_power, differ);
-    return differ > 0 || with_idle_power == 0 || !all_read || !all_planned || !all_checked ||
-           !all_listed;
+    printf("desk: %zu compared, %zu plans with idle power and %zu with early deadlines among them, "
+           "%zu differ\n",
+           compared, with_idle_power, with_deadlines, differ);
+    return differ > 0 || with_idle_power == 0 || with_deadlines == 0 || !all_read || !all_planned ||
+           !all_checked || !all_listed;
 }

@@ -1,6 +1,6 @@
 /*
- * The reference by itself: K1 to K13, examples of idle power, two of their listings, the ends of
- * every range, and given plans.
+ * The reference by itself: K1 to K13, examples of idle power and of deadlines, listings, the ends
+ * of every range, and given plans.
  */
 #include "expect.h"
 #include "known.h"
@@ -11,7 +11,7 @@ static bool same_answer(towhepamu_planned a, towhepamu_planned b) {
            a.penalty == b.penalty && a.cost == b.cost;
 }
 
-/* ---- K1 to K13, and examples of idle power ---- */
+/* ---- K1 to K13, and other examples ---- */
 
 typedef towhepamu_planned planner(const uint8_t *, size_t, uint8_t *, size_t, uint8_t *, size_t);
 
@@ -73,15 +73,17 @@ static void test_listings(void) {
 
 /* ---- Reading ---- */
 
-/* Each word at both ends of its range and one beyond; and the list cut off before it. With three
+/* Each word at both ends of its range and one beyond; and the list cut off before it, where it may
+   end only after the tasks. With three
    settings all words after the third stand one place further to the front. */
 static void test_ranges(uint32_t settings) {
     static const struct {
         uint32_t word, least, most;
-    } site[] = {{4, 3, 4},  {1, 1, 1000}, {1, 1, 1000},      {1, 1, 4},       {9, 0, 65535},
-                {2, 1, 8},  {10, 1, 19},  {10, 1, 19},       {20, 11, 65535}, {20, 11, 65535},
-                {1, 0, 12}, {8, 1, 4096}, {5, 1, 100000000}, {7, 1, 1000000}};
-    enum { MOST = sizeof site / sizeof site[0] };
+    } site[] = {{4, 3, 4},         {1, 1, 1000},    {1, 1, 1000}, {1, 1, 4},
+                {9, 0, 65535},     {2, 1, 8},       {10, 1, 19},  {10, 1, 19},
+                {20, 11, 65535},   {20, 11, 65535}, {1, 0, 12},   {8, 1, 4096},
+                {5, 1, 100000000}, {7, 1, 1000000}, {1, 0, 1},    {3, 1, 8}};
+    enum { MOST = sizeof site / sizeof site[0], DEADLINES_COUNT = MOST - 2 };
     uint32_t words[MOST];
     reference_instance in;
     size_t left_out = 4 - settings, count = MOST - left_out;
@@ -102,19 +104,25 @@ static void test_ranges(uint32_t settings) {
         words[i] = site[field].most + 1;
         expect(is(reference_read(words, count, &in), 3, too_much_at), "above its range", "a word");
         words[i] = right;
-        expect(is(reference_read(words, i, &in), 2, i), "missing", "a word");
+        bool may_end = field == DEADLINES_COUNT;
+        expect(is(reference_read(words, i, &in), may_end ? 0 : 2, may_end ? 0 : i), "missing",
+               "a word");
     }
     expect(is(reference_read(words, count, &in), 0, 0), "reads", "the site");
     expect(in.idle_power == (settings == 4 ? 9 : 0), "the idle power", "the site");
+    expect(in.task[0].deadline == 3, "the deadline", "the site");
+    reference_read(words, count - 2, &in);
+    expect(in.task[0].deadline == 8, "the period as deadline", "the site");
 }
 
 static void test_lists(void) {
     reference_instance in;
     static const uint32_t full[] = {3, 1, 1, 1, 2, 65535, 1, 65535, 2, 0};
     expect(is(reference_read(full, 10, &in), 3, 7), "no speed rises above 65,535", "a level");
-    static const uint32_t must[] = {3, 1, 1, 1, 1, 1, 1, 1, 1, 1, MUST, 9};
+    static const uint32_t must[] = {3, 1, 1, 1, 1, 1, 1, 1, 1, 1, MUST, 0, 9};
     expect(is(reference_read(must, 11, &in), 0, 0), "it may not be refused", "a task");
-    expect(is(reference_read(must, 12, &in), 2, 11), "a word is left over", "a list");
+    expect(is(reference_read(must, 12, &in), 0, 0), "it has no deadline", "a task");
+    expect(is(reference_read(must, 13, &in), 2, 12), "a word is left over", "a list");
     static const uint32_t wide[] = {3, 1, 1, 1, 1, 1, 1, 2, 4095, 0, 1, 2, 1, 1};
     expect(is(reference_read(wide, 14, &in), 3, 9), "words are tested from the front", "a list");
 }
@@ -133,7 +141,8 @@ static void test_text(void) {
                  {"x4294967296", 1, 0},
                  {"0003 1 1 1", 2, 4},
                  {"3 1 1 1\n1 1 1\n0", 6, 1},
-                 {"3 1 1 1 1 1 1 0 7", 2, 8}};
+                 {"3 1 1 1 1 1 1 0 7", 3, 8},
+                 {"3 1 1 1 1 1 1 0 0 7", 2, 9}};
     uint8_t plan[1], table[1], big[5000];
     for (size_t i = 0; i < sizeof texts / sizeof texts[0]; i++) {
         towhepamu_planned answer = reference_plan((const uint8_t *)texts[i].text,
@@ -191,6 +200,31 @@ static void test_given_plans(void) {
     }
 }
 
+/* Two tasks of 4 ticks each on one core, due at 4 and at 7: the plan is refused, but not by the
+   check, which looks for slots that are missing or too late. */
+static void test_given_deadlines(void) {
+    static const struct {
+        uint8_t table[10];
+        uint64_t refusal, place;
+    } tables[] = {{{1, 1, 1, 1, 2, 2, 2, 2, 0, 0}, 10, 2}, {{1, 1, 1, 1, 2, 2, 2, 0, 0, 0}, 10, 2},
+                  {{1, 1, 1, 2, 2, 2, 2, 1, 0, 0}, 10, 1}, {{1, 1, 1, 1, 2, 2, 2, 0, 2, 0}, 10, 2},
+                  {{1, 1, 1, 1, 1, 2, 2, 2, 0, 0}, 10, 1}, {{1, 1, 1, 1, 2, 2, 3, 0, 0, 0}, 9, 6}};
+    static const uint8_t plan[] = {1, 1};
+    uint8_t table[10];
+    reference_instance in;
+    const char *text = TWO_FOURS "2 4 7";
+    reference_read_text((const uint8_t *)text, strlen(text), &in);
+    expect(reference_overdue(&in, plan, 0) == 7, "tick 7", "what is due");
+    towhepamu_planned price = reference_price(&in, plan, 2);
+    expect(price.refusal == 8 && price.place == 1, "the price", "a plan that is late");
+    expect(is(reference_tabulate(&in, plan, 2, table, 10), 8, 1), "the table",
+           "a plan that is late");
+    for (size_t i = 0; i < sizeof tables / sizeof tables[0]; i++)
+        expect(is(reference_check_table(&in, plan, 2, tables[i].table, 10), tables[i].refusal,
+                  tables[i].place),
+               "the check", "a plan that is late");
+}
+
 int main(void) {
     for (size_t k = 0; k < KNOWN_CASES; k++) {
         test_known(&known_cases[k], reference_plan);
@@ -202,6 +236,7 @@ int main(void) {
     test_lists();
     test_text();
     test_given_plans();
+    test_given_deadlines();
     printf("reference: %zu tests, %zu fail\n", tests, failures);
     return failures > 0;
 }

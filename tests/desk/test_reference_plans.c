@@ -1,15 +1,23 @@
 /*
- * The reference's two planners against each other on small sites, and its check against planned
- * tables and every kind of single damage to them.
+ * The reference's two planners against each other on small sites; its check against planned tables
+ * and every kind of single damage to them; and its test of a core against every row.
  */
 #include "expect.h"
 #include "generate.h"
 #include <string.h>
 
-enum { SMALL_SITES = 18000, MOST_PLANS = 30000 };
+enum { SMALL_SITES = 24000, MOST_PLANS = 30000, TINY_SITES = 3000, TINY_SPAN = 6 };
 
-/* Of the small sites with a plan: those with idle power, and those with more than every level. */
-static size_t with_idle_power, above_levels;
+/* Of the small sites with a plan: those with idle power, those with more than every level, and
+   those with a deadline before the period's end. */
+static size_t with_idle_power, above_levels, with_deadlines;
+
+/* Of the small sites that would have a plan with whole periods: those without one, those with
+   another one. */
+static size_t unplanned_by_deadlines, planned_otherwise;
+
+/* Of the tiny sites, whose plans are tested with every row. */
+static size_t cores_fit, cores_late;
 
 /* ---- Damage ---- */
 
@@ -79,6 +87,19 @@ static bool few_plans(const reference_instance *in) {
     return plans <= MOST_PLANS;
 }
 
+/* Counts what deadlines have changed. */
+static void note_deadlines(const reference_instance *in, bool found, const uint8_t *plan) {
+    uint8_t other[MOST_TASKS];
+    reference_instance whole = *in;
+    for (size_t i = 0; i < in->tasks; i++)
+        whole.task[i].deadline = in->task[i].period;
+    if (!reference_has_early(in) || !reference_best(&whole, other))
+        return;
+    with_deadlines += found;
+    unplanned_by_deadlines += !found;
+    planned_otherwise += found && memcmp(plan, other, in->tasks) != 0;
+}
+
 /* One small site: the same plan by both planners; its table passes, damaged it does not. */
 static bool test_small_site(generator *g) {
     uint32_t words[MOST_INSTANCE_WORDS];
@@ -91,6 +112,7 @@ static bool test_small_site(generator *g) {
 
     bool found = reference_best(&in, plan);
     expect(found == reference_best_exhaustive(&in, other), "both plan it or neither", "a site");
+    note_deadlines(&in, found, plan);
     if (!found)
         return false;
     expect(memcmp(plan, other, in.tasks) == 0, "both answer the same plan", "a site");
@@ -104,14 +126,57 @@ static bool test_small_site(generator *g) {
     return true;
 }
 
+/* ---- Every row ---- */
+
+/* Whether one of all rows of the only core passes the check. */
+static bool some_row_passes(const reference_instance *in, const uint8_t *plan) {
+    uint8_t row[TINY_SPAN] = {0};
+    for (;;) {
+        if (reference_check_table(in, plan, in->tasks, row, in->span).refusal == 0)
+            return true;
+        size_t t = 0;
+        for (; t < in->span && row[t] == in->tasks; t++)
+            row[t] = 0;
+        if (t == in->span)
+            return false;
+        row[t]++;
+    }
+}
+
+static void test_rows(generator *g) {
+    uint32_t words[MOST_INSTANCE_WORDS];
+    reference_instance in;
+    uint8_t plan[MOST_TASKS], row[TINY_SPAN];
+    size_t count = draw_site(g, (site_limits){1, 4, 1, 3, TINY_SPAN}, words);
+    reference_read(words, count, &in);
+    for (size_t i = 0; i < in.tasks; i++) {
+        in.task[i].penalty = 1;
+        plan[i] = (uint8_t)draw(g, in.levels + 1);
+    }
+    bool fits = reference_overdue(&in, plan, 0) == 0;
+    expect(fits == some_row_passes(&in, plan), "some row serves exactly where it fits", "a core");
+    if (fits) {
+        reference_tabulate(&in, plan, in.tasks, row, in.span);
+        expect(is(reference_check_table(&in, plan, in.tasks, row, in.span), 0, 0), "is served",
+               "a core");
+    }
+    cores_fit += fits;
+    cores_late += !fits;
+}
+
 int main(void) {
     generator g = {20240229};
     size_t planned = 0;
     for (size_t n = 0; n < SMALL_SITES; n++)
         planned += test_small_site(&g);
+    for (size_t n = 0; n < TINY_SITES; n++)
+        test_rows(&g);
     printf("reference: %d small sites, %zu with a plan, of these %zu with idle power, %zu above "
-           "every level's\n",
-           SMALL_SITES, planned, with_idle_power, above_levels);
+           "every level's, %zu with deadlines\n",
+           SMALL_SITES, planned, with_idle_power, above_levels, with_deadlines);
+    printf("reference: deadlines leave %zu without a plan, and %zu with another one; every row of "
+           "%zu cores that fit and %zu that do not\n",
+           unplanned_by_deadlines, planned_otherwise, cores_fit, cores_late);
     printf("reference: plans: %zu tests, %zu fail\n", tests, failures);
-    return failures > 0;
+    return failures > 0 || planned_otherwise == 0 || unplanned_by_deadlines == 0;
 }

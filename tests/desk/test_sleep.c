@@ -134,7 +134,10 @@ static void compare_drawing(generator *g, const drawing *given, const drawing *s
 
 /* Whether a task, or 0, may run at one tick of its row in place of another: in the same window. */
 static bool may_move(uint8_t task, size_t from, size_t to) {
-    return task == 0 || from / in.task[task - 1].period == to / in.task[task - 1].period;
+    if (task == 0)
+        return true;
+    const reference_task *of = &in.task[task - 1];
+    return from / of->period == to / of->period && to % of->period < of->deadline;
 }
 
 /* Exchanges slots of a core that may be exchanged; or, `late`, only to bring idle ones forward. */
@@ -155,7 +158,7 @@ static void compare_text(generator *g, const uint8_t *bytes, size_t len) {
     reads = reference_read_text(text.bytes, text.len, &in).refusal == TOWHEPAMU_ACCEPTED;
     if (!reads) /* so that there are buffers to lend beside a text that is refused */
         in = (reference_instance){
-            1, 1, 2, 5, 2, 3, 60, {{1, 1}, {2, 2}}, {{60, 1, 1}, {1, 1, 1}, {2, 1, 1}}};
+            1, 1, 2, 5, 2, 3, 60, {{1, 1}, {2, 2}}, {{60, 1, 1, 60}, {1, 1, 1, 1}, {2, 1, 1, 2}}};
     draw_drawing(g, &in, &sound);
     if (reads && one_in(g, 2))
         reference_plan(text.bytes, text.len, sound.plan, in.tasks, sound.table, sound.table_len);

@@ -9,10 +9,10 @@ use lib.Dec.{eqb·suc-zero}
 use lib.ListN.{length, getD}
 use borrow.Author.Tests.{eqb-true, eqb-false, eq-eqb, ne-eqb, not-false}
 use Rattle.laws.specs.SearchFacts.{every-iff}
-use Rattle.laws.specs.Truth.{or-is-true}
+use Rattle.laws.specs.Truth.{and-is-true, or-is-true}
 use Rattle.instance.specs.Node.{Problem, taskCount, span}
 use Rattle.refusals.specs.declared.Verdict.the-variants.{Accepted}
-use Rattle.checks.specs.Checks.{check, strayValue, straySlot, slotsPass, jobSlots, isServed, jobsPass}
+use Rattle.checks.specs.Checks.{check, strayValue, straySlot, slotsPass, jobSlots, lateSlots, isServed, jobsPass}
 use Rattle.plan_rules.specs.AllowedPlans.{AllowedPlan}
 use Rattle.tables.specs.Periods.{Periodic, row-of-index, tick-of-index, slot-of-index}
 use Rattle.plan_rules.specs.Quantities.{choiceAt, coreOf, jobs, jobTicks}
@@ -69,18 +69,26 @@ slots-pass p periodic plan table = (
       ),
 )
 
--- 10: each job of a kept task has as many slots as ticks
+-- 10: a job has as many slots as ticks between its release and its due tick, and none from there to the next release
+pub record ServedJob (p : Problem) (plan table : List ℕ) (i j : ℕ) : Type 0 where
+  pub in-window : jobSlots p plan table i j ≡ jobTicks p plan i
+  pub none-late : lateSlots p plan table i j ≡ 0
+
+-- each job of a kept task does
 abbrev pub ServedJobs : Problem → List ℕ → List ℕ → Type 0
 ServedJobs p plan table =
-    (i j : ℕ) → i < taskCount p → (choiceAt plan i ≡ 0 → ⊥) → j < jobs p i →
-    jobSlots p plan table i j ≡ jobTicks p plan i
+    (i j : ℕ) → i < taskCount p → (choiceAt plan i ≡ 0 → ⊥) → j < jobs p i → ServedJob p plan table i j
 
 task-is-served : (p : Problem) (plan table : List ℕ) (i : ℕ) → (isServed p plan table i ≡ true) ↔
-    ((choiceAt plan i ≡ 0 → ⊥) → (j : ℕ) → j < jobs p i → jobSlots p plan table i j ≡ jobTicks p plan i)
+    ((choiceAt plan i ≡ 0 → ⊥) → (j : ℕ) → j < jobs p i → ServedJob p plan table i j)
 unfolding isServed
 task-is-served p plan table i = (
-  λ e kept j l. eqb-true _ _ (every-iff _ _ .0 (or-is-true _ _ .0 e (ne-eqb _ _ kept)) j l),
-  λ served. or-is-true _ _ .1 (λ kept. every-iff _ _ .1 (λ j l. eq-eqb _ _ (served (eqb-false _ _ kept) j l))),
+  λ e kept j l.
+      let both = and-is-true _ _ .0 (every-iff _ _ .0 (or-is-true _ _ .0 e (ne-eqb _ _ kept)) j l) in
+      record { in-window = eqb-true _ _ (both .0); none-late = eqb-true _ _ (both .1) },
+  λ served. or-is-true _ _ .1 (λ kept. every-iff _ _ .1 (λ j l.
+      let job = served (eqb-false _ _ kept) j l in
+      and-is-true _ _ .1 (eq-eqb _ _ (job .in-window), eq-eqb _ _ (job .none-late)))),
 )
 
 pub jobs-pass : (p : Problem) (plan table : List ℕ) → (jobsPass p plan table ≡ Accepted) ↔ ServedJobs p plan table

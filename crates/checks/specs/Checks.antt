@@ -1,5 +1,5 @@
 -- The check of a given table: the refusals 9 and 10, after 7 and without 8.
-use Prim.Native.Nat.{ℕ, suc, pred, min, _+_, _/_}
+use Prim.Native.Nat.{ℕ, suc, pred, min, _+_, _-_, _/_}
 use mathlib.Core.Bool.{Bool, cond, not, _&&_, _||_}
 use mathlib.Core.List.{List}
 use lib.Dec.{ltb, eqb}
@@ -12,7 +12,7 @@ use Rattle.refusals.specs.declared.Verdict.{Verdict}
 use Rattle.refusals.specs.declared.Verdict.the-variants.{Accepted, Refused}
 use Rattle.plan_rules.specs.Plans.{choicesPass}
 use Rattle.plan_rules.specs.Quantities.{isRefused, coreOf, keeps, jobs, jobTicks}
-use Rattle.plan_rules.specs.Windows.{releaseOf, window}
+use Rattle.plan_rules.specs.Windows.{releaseOf, dueOf, window}
 use Rattle.tables.specs.Tables.{tableSize, slotAt}
 
 -- "a slot other than 0 names no kept task of its core"
@@ -36,10 +36,16 @@ unfoldable pub jobSlots : Problem → List ℕ → List ℕ → ℕ → ℕ → 
 jobSlots p plan table i j =
     count (λ x. eqb (slotAt p table (coreOf p plan i) (releaseOf p i j + x)) (suc i)) (window (taskAt p i))
 
+-- (c) "A task's slot between a due tick and its next release counts as one too many": those after job j of task i
+unfoldable pub lateSlots : Problem → List ℕ → List ℕ → ℕ → ℕ → ℕ
+lateSlots p plan table i j =
+    count (λ x. eqb (slotAt p table (coreOf p plan i) (dueOf p i j + x)) (suc i)) (taskAt p i .period - window (taskAt p i))
+
 -- whether no job of task i has more or fewer slots than its ticks
 unfoldable pub isServed : Problem → List ℕ → List ℕ → ℕ → Bool
 isServed p plan table i =
-    isRefused plan i || every (λ j. eqb (jobSlots p plan table i j) (jobTicks p plan i)) (jobs p i)
+    isRefused plan i
+    || every (λ j. eqb (jobSlots p plan table i j) (jobTicks p plan i) && eqb (lateSlots p plan table i j) 0) (jobs p i)
 
 -- 10: the number of the lowest task with such a job
 unfoldable pub jobsPass : Problem → List ℕ → List ℕ → Verdict

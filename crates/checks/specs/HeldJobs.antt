@@ -1,14 +1,15 @@
 -- The test of a table's jobs by numbers, and these from the fields of the struct that holds the problem.
 use Prim.Native.Nat.{ℕ, pred, _+_, _*_, _-_, _/_, _%_, _≤_, _<_}
-use mathlib.Core.Bool.{Bool, true, _||_}
+use mathlib.Core.Bool.{Bool, true, false, _&&_, _||_}
 use mathlib.Core.List.{List}
-use mathlib.Core.Path.{_≡_, refl, sym, ap, ap₂}
-use native.Mathlib.Nat.{add-assoc, div-lt-iff-lt-mul, le-mul-of-pos-right, le-of-eq, mul-le-mul-right}
+use mathlib.Core.Path.{_≡_, refl, sym, ap, ap₂, _∙_}
+use native.Mathlib.Nat.{div-lt-iff-lt-mul, le-mul-of-pos-right, le-of-eq, mul-le-mul-right}
 use native.Mathlib.Numerals.{add-one}
 use native.Mathlib.Omega.{arith}
 use lib.Dec.{eqb}
 use borrow.Author.Tests.{eq-eqb, ne-eqb}
-use lib.ListN.{length, getD, take, drop}
+use lib.ListN.{length, getD, take, drop, length-drop}
+use lib.Seq.{getD-take, getD-drop, length-take-le}
 use Rattle.laws.specs.PartLaws.{length-part, getD-part}
 use Rattle.laws.specs.Search.{every, count}
 use Rattle.laws.specs.SearchFacts.{count-same}
@@ -18,7 +19,7 @@ use Rattle.instance.specs.Valid.{Valid}
 use Rattle.instance.specs.declared.Instance.{Instance}
 use Rattle.instance.specs.declared.Level.{Level}
 use Rattle.instance.specs.declared.Task.{Task}
-use Rattle.checks.specs.Checks.{jobSlots, isServed}
+use Rattle.checks.specs.Checks.{jobSlots, lateSlots, isServed}
 use Rattle.plan_rules.specs.AllowedPlans.{AllowedPlan}
 use Rattle.plan_rules.specs.HeldQuantities.{held-level-of}
 use Rattle.tables.specs.HeldTables.{row-within-table}
@@ -32,22 +33,61 @@ core-in-range p v plan allowed i h =
     let some : p .cores ≤ p .cores * levelCount p = le-mul-of-pos-right (p .cores) (v .level-count .at-least) in
     div-lt-iff-lt-mul (v .level-count .at-least) .1 (omega (arith, allowed .choices-in-range i h, v .cores .at-least))
 
--- whether each of n jobs holds a number in t of its d slots: the first job's begin at a slot of a table, the next one's a period on
+-- whether, of a job's slots from its release to the next, t of the first d hold a number, and none after them
+unfoldable pub jobServed : List ℕ → (number d t : ℕ) → Bool
+jobServed slots number d t =
+    eqb (count (λ x. eqb (getD slots x 0) number) d) t
+    && eqb (count (λ x. eqb (getD slots (d + x) 0) number) (length slots - d)) 0
+
+module _ (slots : List ℕ) (number d t n : ℕ) (short : d ≤ length slots)
+    (counted : n ≡ count (λ x. eqb (getD (take d slots) x 0) number) (length (take d slots))) where
+  counted-in-window : count (λ x. eqb (getD slots x 0) number) d ≡ n
+  counted-in-window =
+      let same : count (λ x. eqb (getD (take d slots) x 0) number) d ≡ count (λ x. eqb (getD slots x 0) number) d =
+      count-same _ _ d (λ x l. rw (getD-take d slots x 0 l) refl) in
+      sym (counted ∙ rw (length-take-le d slots short) same)
+
+  pub job-of-other-ticks-is-not-served : (n ≡ t → ⊥) → false ≡ jobServed slots number d t
+  unfolding jobServed
+  job-of-other-ticks-is-not-served other = rw (counted-in-window, ne-eqb n t other) refl
+
+  pub job-of-its-ticks-is-served-if-none-is-late : n ≡ t → (late : ℕ) →
+      (let after = take (length slots - d) (drop d slots) in late ≡ count (λ x. eqb (getD after x 0) number) (length after)) →
+      eqb late 0 ≡ jobServed slots number d t
+  unfolding jobServed
+  job-of-its-ticks-is-served-if-none-is-late its-ticks late counted-late =
+      let m = length slots - d in
+      let same : count (λ x. eqb (getD (take m (drop d slots)) x 0) number) m ≡ count (λ x. eqb (getD slots (d + x) 0) number) m =
+      count-same _ _ m (λ x l. rw (getD-take m (drop d slots) x 0 l, getD-drop d slots x 0) refl) in
+      let long : length (take m (drop d slots)) ≡ m = length-take-le m (drop d slots) (rw length-drop (omega arith)) in
+      let none : late ≡ count (λ x. eqb (getD slots (d + x) 0) number) m = counted-late ∙ rw long same in
+      rw (counted-in-window, eq-eqb n t its-ticks, ← none) refl
+
+-- the same of job j in a table, in which the first job's slots begin at one, and the next one's a period on
+unfoldable pub jobServedAt : List ℕ → (from number period d t j : ℕ) → Bool
+jobServedAt table from number period d t j =
+    eqb (count (λ x. eqb (getD table (from + (j * period + x)) 0) number) d) t
+    && eqb (count (λ x. eqb (getD table (from + ((j * period + d) + x)) 0) number) (period - d)) 0
+
 unfoldable pub jobsServed : List ℕ → (from number period d n t : ℕ) → Bool
-jobsServed table from number period d n t =
-    every (λ j. eqb (count (λ x. eqb (getD table (from + (j * period + x)) 0) number) d) t) n
+jobsServed table from number period d n t = every (jobServedAt table from number period d t) n
 
 module _ (table : List ℕ) (from number period d : ℕ) where
-  pub job-within : (n j : ℕ) → d ≤ period → from + n * period ≤ length table → j < n → (from + j * period) + d ≤ length table
-  job-within n j short room l = omega (arith, mul-le-mul-right period l)
+  pub job-within : (n j : ℕ) → from + n * period ≤ length table → j < n → (from + j * period) + period ≤ length table
+  job-within n j room l = omega (arith, mul-le-mul-right period l)
 
-  pub counted-in-job : (j : ℕ) → (from + j * period) + d ≤ length table →
-      let part = take (((from + j * period) + d) - (from + j * period)) (drop (from + j * period) table) in
-      count (λ x. eqb (getD part x 0) number) (length part) ≡ count (λ x. eqb (getD table (from + (j * period + x)) 0) number) d
-  counted-in-job j within =
-      rw (length-part table (from + j * period) d within)
-      (count-same _ (λ x. eqb (getD table (from + (j * period + x)) 0) number) d (λ x l.
-      rw (getD-part table (from + j * period) d x 0 l, add-assoc) refl))
+  pub served-in-table : (t j : ℕ) → d ≤ period → (from + j * period) + period ≤ length table →
+      jobServed (take (((from + j * period) + period) - (from + j * period)) (drop (from + j * period) table)) number d t
+      ≡ jobServedAt table from number period d t j
+  unfolding jobServed jobServedAt
+  served-in-table t j short within =
+      let part = take (((from + j * period) + period) - (from + j * period)) (drop (from + j * period) table) in
+      let slot : (x y : ℕ) → x < period → (from + j * period) + x ≡ y → eqb (getD part x 0) number ≡ eqb (getD table y 0) number =
+      λ x y l same. ap (λ (v : ℕ). eqb v number) (getD-part table (from + j * period) period x 0 l ∙ ap (λ (z : ℕ). getD table z 0) same) in
+      rw (length-part table (from + j * period) period within)
+      (ap₂ (λ (a b : ℕ). eqb a t && eqb b 0)
+      (count-same _ _ d (λ x l. slot x _ (omega arith) (omega arith)))
+      (count-same _ _ (period - d) (λ x l. slot (d + x) _ (omega arith) (omega arith))))
 
 -- whether a task with this number and choice is refused, or each of its jobs served: a row has w slots
 unfoldable pub taskServed : List ℕ → (w levels number choice period d t : ℕ) → Bool
@@ -67,8 +107,15 @@ module _ (table : List ℕ) (w levels number choice period d t : ℕ) where
 pub task-served-is-served : (p : Problem) (plan table : List ℕ) (i : ℕ) {w levels period d t : ℕ} → w ≡ span p → levels ≡ levelCount p →
     period ≡ taskAt p i .period → d ≡ window (taskAt p i) → t ≡ jobTicks p plan i →
     taskServed table w levels (i + 1) (choiceAt plan i) period d t ≡ isServed p plan table i
-unfolding taskServed jobsServed isServed jobSlots slotAt jobs
+unfolding taskServed jobsServed jobServedAt isServed jobSlots lateSlots slotAt jobs
 task-served-is-served p plan table i wide many its-period its-window each = rw (add-one, wide, many, its-period, its-window, each) refl
+
+module _ (inst : Instance) (s : Sound inst) (i : ℕ) (h : i < taskCount (problemIn inst)) (d : ℕ) (e : d ≡ window (getD (inst .tasks) i noTask)) where
+  pub held-window : d ≡ window (taskAt (problemIn inst) i)
+  held-window = e ∙ ap (λ (t : Task). window t) (held-task inst s i h)
+
+  pub held-window-within-period : d ≤ getD (inst .tasks) i noTask .period
+  held-window-within-period = rw (held-window, held-task inst s i h) (s .valid .task i h .deadline .at-most)
 
 module _ (inst : Instance) (s : Sound inst) (plan : List ℕ) (i : ℕ) (h : i < taskCount (problemIn inst)) where
   pub held-row-within : AllowedPlan (problemIn inst) plan → (n : ℕ) → n ≡ tableSize (problemIn inst) →

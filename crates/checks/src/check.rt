@@ -21,7 +21,7 @@ ghost use Rattle.instance.specs.Held.{Sound, problemIn};
 ghost use Rattle.plan_rules.specs.AllowedPlans.{AllowedPlan};
 ghost use Rattle.checks.specs.Checks.{check, slotsPass, jobsPass};
 ghost use Rattle.checks.specs.Outcomes.{checkOutcome, CheckingEnds};
-ghost use Rattle.checks.specs.HeldJobs.{jobsServed, taskServed};
+ghost use Rattle.checks.specs.HeldJobs.{jobServed, jobsServed, taskServed};
 ghost use Rattle.checks.specs.HeldSlots.{isStray, slotsNamed};
 ghost use Rattle.tables.specs.Tables.{tableSize};
 
@@ -91,7 +91,17 @@ fn slots_of(part: &[Slot], number: Slot) -> usize
     n
 }
 
-// Whether each of a task's jobs has as many slots as ticks in its window: `from` is the slot at which the first is released.
+// Whether a job has as many slots as ticks in its window and none after it: its slots go from its release to the next.
+fn job_served(slots: &[Slot], number: Slot, window: usize, ticks: usize) -> bool
+    requires { ⌜ window ≤ length (now slots) ⌝ }
+    ensures { λ r. ⌜ r ≡ jobServed (now (slots .entry)) number window ticks ⌝ }
+{
+    let within = slots_of(&slots[..window], number);
+    let late = slots_of(&slots[window..], number);
+    within == ticks && late == 0
+}
+
+// Whether each of a task's jobs is served: `from` is the slot at which the first is released.
 fn jobs_served(
     table: &[Slot],
     from: usize,
@@ -108,8 +118,8 @@ fn jobs_served(
     let mut j = 0;
     while j < jobs {
         let release = from + j * period;
-        let due = release + window;
-        if slots_of(&table[release..due], number) != ticks {
+        let next = release + period;
+        if !job_served(&table[release..next], number, window, ticks) {
             return false;
         }
         j += 1;
@@ -117,7 +127,7 @@ fn jobs_served(
     true
 }
 
-// Whether a task is refused, or each of its jobs has as many slots as ticks in its window.
+// Whether a task is refused, or each of its jobs is served.
 fn is_served(
     table: &[Slot],
     span: u32,
@@ -141,7 +151,7 @@ fn is_served(
     jobs_served(table, from, number, period as usize, window, jobs, ticks)
 }
 
-// The test of the jobs: none has more or fewer slots than ticks.
+// The test of the jobs: none has more or fewer slots than its ticks.
 fn jobs_pass(inst: Instance, plan: &[u32], table: &[Slot]) -> Verdict
     requires { ⌜ Sound inst ⌝ }
     requires { ⌜ AllowedPlan (problemIn inst) (now plan) ⌝ }

@@ -5,22 +5,27 @@
 mod compare;
 mod planners;
 
-const INSTANCES: u32 = 10_000;
+use generator::WORDS_ROOM;
+use generator::Words;
+use generator::tally::Counts;
+use generator::tally::none_counted;
 
-fn compare_one(state: &mut u32, counts: &mut [u64; 31]) {
-    let mut words = [0; 32];
+const INSTANCES: u32 = 20_000;
+
+fn compare_one(state: &mut u32, counts: &mut Counts) {
+    let mut words = [0; WORDS_ROOM];
     let end = generator::draw_instance(&mut words, state);
     compare_front(&words, end, state, counts);
 }
 
-fn compare_front(words: &[u32; 32], end: usize, state: &mut u32, counts: &mut [u64; 31]) {
+fn compare_front(words: &Words, end: usize, state: &mut u32, counts: &mut Counts) {
     let all = &words[..];
     if end <= all.len() {
         compare::compare(&all[0..end], state, counts);
     }
 }
 
-fn compare_many(instances: u32, counts: &mut [u64; 31]) {
+fn compare_many(instances: u32, counts: &mut Counts) {
     let mut state = 1;
     let mut k = 0;
     while k < instances {
@@ -30,13 +35,13 @@ fn compare_many(instances: u32, counts: &mut [u64; 31]) {
 }
 
 fn main() {
-    let mut counts = [0; 31];
+    let mut counts = none_counted();
     compare_many(INSTANCES, &mut counts);
     print_all(&counts);
 }
 
 // Prints every count with its name.
-fn print_all(counts: &[u64; 31]) {
+fn print_all(counts: &Counts) {
     printing::print_filled(
         b"-- drawn\n\
           # instances\n\
@@ -49,6 +54,10 @@ fn print_all(counts: &[u64; 31]) {
           # planned with settings that count 4\n\
           # of them with idle power below every level's power, but not 0\n\
           # of them with idle power above every level's power\n\
+          # planned with a deadline before its period's end\n\
+          # of them with a deadline below a job's ticks at the lowest level\n\
+          # of them with a deadline below a job's ticks at every level\n\
+          # of them with another plan without the deadlines\n\
           -- plans\n\
           # tried\n\
           # of them not refused\n\
@@ -63,6 +72,7 @@ fn print_all(counts: &[u64; 31]) {
           # of these are not earliest deadline first\n\
           -- must all be 0\n\
           # instances with plans left untried\n\
+          # plans of which pricing finds another core not to fit\n\
           # refusals differ\n\
           # places differ\n\
           # energies differ\n\

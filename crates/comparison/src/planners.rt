@@ -9,6 +9,7 @@ use generator::Table;
 use generator::plans_differ;
 use generator::tables_differ;
 use generator::tally;
+use generator::tally::Counts;
 use generator::tally::add;
 use generator::tally::add_if;
 use prices::Priced;
@@ -72,15 +73,16 @@ pub(crate) fn plan_by_search(
     numbers_of(search_with_plan(words, plan, table, rooms))
 }
 
-fn count_tried(tried: Tried, counts: &mut [u64; 31]) {
+fn count_tried(tried: Tried, counts: &mut Counts) {
     add(counts, tally::PLANS_TRIED, tried.tried);
     add(counts, tally::PLANS_PRICED, tried.priced);
     add_if(counts, tally::SEVERAL_LEAST, 1 < tried.cheapest);
     add_if(counts, tally::PLANS_UNTRIED, !tried.complete);
+    add(counts, tally::FITS_DIFFER, tried.fits_differ);
 }
 
 // Counts the numbers in which two answers differ, each at its place.
-fn count_differences(counts: &mut [u64; 31], a: &[u64; 5], b: &[u64; 5]) {
+fn count_differences(counts: &mut Counts, a: &[u64; 5], b: &[u64; 5]) {
     let mut i = 0;
     while i < 5 {
         add_if(counts, tally::ANSWERS_DIFFER + i, a[i] != b[i]);
@@ -96,7 +98,7 @@ pub(crate) fn compare_with_trying(
     answer: &[u64; 5],
     plan: &Choices,
     table: &Table,
-    counts: &mut [u64; 31],
+    counts: &mut Counts,
 ) {
     let mut own_plan = [7_777_777; PLAN_ROOM];
     let mut own_table = [77; TABLE_ROOM];
@@ -117,7 +119,7 @@ pub(crate) fn compare_with_trying(
     count_answer(tried, answer, counts);
 }
 
-fn count_answer(tried: Tried, answer: &[u64; 5], counts: &mut [u64; 31]) {
+fn count_answer(tried: Tried, answer: &[u64; 5], counts: &mut Counts) {
     let own = tried.answer;
     count_differences(counts, answer, &own);
     count_tried(tried, counts);

@@ -41,7 +41,7 @@ module _ {levels span unit : ℕ} where
         alone-cost = λ i l h. given .alone-cost (suc i) l (omega arith);
       }
 
-  alone-load : {T : List Bool} {pattern : List ℕ} (offers alone : List Offer) → OfferedAlone levels span unit offers alone →
+  pub alone-load : {T : List Bool} {pattern : List ℕ} (offers alone : List Offer) → OfferedAlone levels span unit offers alone →
       length T ≡ length offers → Keeps levels T pattern → patternLoad alone pattern ≡ patternLoad offers pattern
   unfolding patternLoad entryLoad
   alone-load [] [] given beside keeps = refl
@@ -74,7 +74,7 @@ module _ {levels span unit : ℕ} where
         alone-sum offers alone (others-alone given) (suc-inj beside) keeps (omega arith),
       )
 
-  core-cost : {T : List Bool} {pattern : List ℕ} (offers alone : List Offer) → OfferedAlone levels span unit offers alone →
+  pub core-cost : {T : List Bool} {pattern : List ℕ} (offers alone : List Offer) → OfferedAlone levels span unit offers alone →
       length T ≡ length offers → Keeps levels T pattern → patternLoad offers pattern ≤ span →
       patternCost alone pattern ≡ surplus (unit * span) (size T) + (patternCost offers pattern + unit * idleLoad span offers pattern)
   unfolding surplus idleLoad
@@ -88,14 +88,14 @@ module _ {levels span unit : ℕ} where
       go zero none sum = let nothing = none refl in let paid : unit * patternLoad offers pattern ≡ 0 = rw nothing (mul-zero unit) in omega arith
       go (suc k) none sum = rw (lt-ltb 0 (suc k) (omega arith)) (omega (arith, suc-mul k (unit * span), whole-span unit fits))
 
-taken-off : (s c d : ℕ) {a b x y : ℕ} → a ≡ s + c → b ≡ s + d → AtMost (pair a x) (pair b y) → AtMost (pair (a - s) x) (pair d y)
-taken-off s c d {a} first second (cheaper h) = let less : a - s < d = omega arith in cheaper less
-taken-off s c d {a} first second (tied e h) = let same : a - s ≡ d = omega arith in tied same h
+pub taken-off : (s d : ℕ) {a b x y : ℕ} → s ≤ a → b ≡ s + d → AtMost (pair a x) (pair b y) → AtMost (pair (a - s) x) (pair d y)
+taken-off s d {a} enough sum (cheaper h) = let less : a - s < d = omega arith in cheaper less
+taken-off s d {a} enough sum (tied e h) = let same : a - s ≡ d = omega arith in tied same h
 
 -- where each cost is another plus the same number, the least of the ones less that number is the least of the others
 module _ {Has Has' : List ℕ → Type 0} {cost other key : List ℕ → ℕ} (s : ℕ) (there : (a : List ℕ) → Has a → Has' a)
     (back : (a : List ℕ) → Has' a → Has a) (sum : (a : List ℕ) → Has a → cost a ≡ s + other a) where
-  least-less : {v : Value} → Least Has (λ a. pair (cost a) (key a)) v → Least Has' (λ a. pair (other a) (key a)) (takeOff s v)
+  pub least-less : {v : Value} → Least Has (λ a. pair (cost a) (key a)) v → Least Has' (λ a. pair (other a) (key a)) (takeOff s v)
   unfolding takeOff
   least-less {v} least = go (least .attained) (least .below)
     where
@@ -110,7 +110,7 @@ module _ {Has Has' : List ℕ → Type 0} {cost other key : List ℕ → ℕ} (s
           let rest : cost b - s ≡ other b = omega (arith, sum b has) in
           rw e
           (record {
-            below = λ a has'. taken-off s (other b) (other a) (sum b has) (sum a (back a has')) (rw e at (below a (back a has')));
+            below = λ a has'. taken-off s (other a) (omega (arith, sum b has)) (sum a (back a has')) (rw e at (below a (back a has')));
             attained = inr (b, there b has, ap (λ (c : ℕ). pair c (key b)) rest);
           })
 

@@ -41,7 +41,7 @@ attained-at-least s each (inl e) = rw e (le-refl s)
 attained-at-least s each (inr (a, has, e)) = rw e (each a has)
 
 -- in all entries
-charged-entry : {n whole : ℕ} {before after : List ℕ} (keys : List ℕ) → ChargedBelow n whole (2 ^ n) before after → (T : List Bool) →
+pub charged-entry : {n whole : ℕ} {before after : List ℕ} (keys : List ℕ) → ChargedBelow n whole (2 ^ n) before after → (T : List Bool) →
     length T ≡ n → tableAt n after keys T ≡ takeOff (surplus whole (size T)) (tableAt n before keys T)
 unfolding tableAt
 charged-entry {n} {whole} keys done T of-items =

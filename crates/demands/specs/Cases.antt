@@ -1,5 +1,5 @@
--- Document 01's section 'K1 to K13, to be proved', with the example of document 02 (a): one table of cases, and one statement
--- about the definitions.
+-- Document 01's section 'K1 to K13, to be proved', with the examples of document 02 (a) and (c): one table of cases, and one
+-- statement about the definitions.
 use Prim.Native.Nat.{ℕ}
 use mathlib.Core.Path.{_≡_, refl}
 use mathlib.Core.List.{List, [], _∷_, _++_, map}
@@ -8,19 +8,22 @@ use Rattle.ranges.specs.Limits.{mayNotBeRefused}
 use Rattle.instance.specs.Node.{Problem, taskCount, span, spanFrom}
 use Rattle.refusals.specs.Refusals.{Reading, refused, accepted, numberOf, placeOf, room}
 use Rattle.formats.specs.Formats.{times}
-use Rattle.formats.specs.Taking.{between, takeWord, takeTested, takeEnd}
+use Rattle.formats.specs.Taking.{between, takeWord, takeTested, takeUnlessEnded, takeEnd}
 use Rattle.instance.specs.SiteFile.{problemOf, siteFile, idlePower, settings, level, lastAfter, levels, period, isPenalty, task, tasks}
+use Rattle.instance.specs.SiteFile.{withDeadline, withDeadlines, isDeadlineCount, deadlineSection, deadlines}
 use Rattle.text.specs.Text.{wordsOf, numbers, firstFault, faulty, begins, isDigit, isBlank, valueAfter}
 use Rattle.refusals.specs.declared.Refusal.{Refusal}
 use Rattle.laws.specs.Lists.{listOf, joined, onto}
 use Rattle.laws.specs.Multiples.{lcm}
-use Rattle.laws.specs.Search.{first}
+use Rattle.laws.specs.Search.{first, every}
 use Rattle.laws.specs.Sums.{sum}
 use Rattle.plan_rules.specs.Plans.{isMust, badChoice, choicesPass, fits, coresFit, planPasses}
 use Rattle.plan_rules.specs.Quantities.{keeps, ticks, jobTicks, ticksOn, jobs, loadOn, coreLoad}
 use Rattle.prices.specs.Prices.{busyEnergy, keptCount, isAwake, idleTicks, coreEnergy, energy, penalty, cost, priceOf}
+use Rattle.edf.specs.Demand.{jobsDue, demandAt, meetsDemand}
 use Rattle.dispatch.specs.Rows.{dueAt, afterRelease, earliest, chosen, afterRun, step, dispatched, row}
-use Rattle.tables.specs.Tables.{coreTasks, tableSize, tableOf}
+use Rattle.plan_rules.specs.CoreOfPlan.{coreTasks}
+use Rattle.tables.specs.Tables.{tableSize, tableOf}
 use Rattle.prices.specs.declared.amounts.Price.{Price}
 use Rattle.prices.specs.declared.amounts.Priced.{Priced}
 use Rattle.prices.specs.declared.amounts.Priced.the-variants as Priced
@@ -107,6 +110,15 @@ k2 = usual k2-tasks
 abbrev k2-idle : List ℕ
 k2-idle = (4 ∷ 1 ∷ 1 ∷ 1 ∷ 50 ∷ []) ++ xscale ++ k2-tasks
 
+-- K2 with these deadlines, of document 02 (c)
+abbrev k2-due : ℕ → ℕ → List ℕ
+k2-due first second = k2 ++ (2 ∷ first ∷ second ∷ [])
+
+-- (c) "Two tasks of 4 ticks and period 10" that may not be refused, one level of speed 100 and power 10, with these deadlines
+abbrev two-due : ℕ → ℕ → List ℕ
+two-due first second =
+    3 ∷ 1 ∷ 1 ∷ 1 ∷ 1 ∷ 100 ∷ 10 ∷ 2 ∷ 10 ∷ 400 ∷ must ∷ 10 ∷ 400 ∷ must ∷ 2 ∷ first ∷ second ∷ []
+
 -- "3 1 1 1", "5 150 80 400 170 600 400 800 900 1000 1600", "2 10 2400 5000 20 6000 4294967295", a line feed after each
 abbrev k2-text : List ℕ
 k2-text =
@@ -154,12 +166,21 @@ cases =
     -- (a): "K2 with idle power 50 costs 7,300, same choices."
     case k2-idle (plan (3 ∷ 3 ∷ []) 7300) ∷
     case k2-idle (price 7300 0 7300) ∷
+    -- (c): "Two tasks of 4 ticks and period 10, deadlines 4 and 7, do not fit; 4 and 8 do."
+    case (two-due 4 7) (refusal 5 0) ∷
+    case (two-due 4 8) (plan (1 ∷ 1 ∷ []) 80) ∷
+    case (two-due 4 8) (table (1 ∷ 1 ∷ 1 ∷ 1 ∷ 2 ∷ 2 ∷ 2 ∷ 2 ∷ 0 ∷ 0 ∷ [])) ∷
+    -- (c): K2 with deadlines 4 and 10
+    case (k2-due 4 10) (plan (3 ∷ 5 ∷ []) 12800) ∷
+    case (k2-due 4 10) (table (1 ∷ 1 ∷ 1 ∷ 1 ∷ 2 ∷ 2 ∷ 2 ∷ 2 ∷ 2 ∷ 2 ∷ 1 ∷ 1 ∷ 1 ∷ 1 ∷ 0 ∷ 0 ∷ 0 ∷ 0 ∷ 0 ∷ 0 ∷ [])) ∷
     []
 
 pub K1-to-K13 : map (λ c. defined (c .words) (c .claim)) cases ≡ map (λ c. c .claim) cases
 unfolding wordsOf numbers firstFault faulty begins isDigit isBlank valueAfter problemOf siteFile idlePower settings level lastAfter levels period
-    isPenalty task tasks times between takeWord takeTested takeEnd
-    span spanFrom lcm first listOf joined onto sum room isMust badChoice choicesPass fits coresFit planPasses
+    isPenalty task tasks withDeadline withDeadlines isDeadlineCount deadlineSection deadlines
+    times between takeWord takeTested takeUnlessEnded takeEnd
+    span spanFrom lcm first every listOf joined onto sum room isMust badChoice choicesPass
+    jobsDue demandAt meetsDemand fits coresFit planPasses
     keeps ticks jobTicks ticksOn jobs loadOn coreLoad busyEnergy keptCount isAwake idleTicks coreEnergy energy penalty cost priceOf dueAt afterRelease earliest chosen afterRun
     step dispatched row coreTasks tableOf planOutcome choiceLists isAllowed better firstCheapest bestPlan
 K1-to-K13 = refl

@@ -1,6 +1,7 @@
 pub mod ArithmeticLaws
 pub mod Demands
 pub mod SleepDemands
+pub mod DeadlineDemands
 pub mod TextCalls
 pub mod TextCallLaws
 pub mod TextEndingLaws

@@ -16,14 +16,15 @@ use Rattle.dispatch.specs.Rows.{slotOf}
 use Rattle.drawings.specs.ServedRowLaws.{serves-same, drawing-of-rows}
 use Rattle.drawings.specs.ServedRows.{RowServes}
 use Rattle.tables.specs.TableLaws.{length-tableOf, slotAt-tableOf}
-use Rattle.tables.specs.Tables.{coreTasks, tableOf, slotAt}
+use Rattle.plan_rules.specs.CoreOfPlan.{coreTasks}
+use Rattle.tables.specs.Tables.{tableOf, slotAt}
 use Rattle.refusals.specs.VerdictLaws.{andThen-accepts}
 
 -- "These are the choices and tables that pass the check."
 pub check-accepts-exactly-drawings : (p : Problem) → Periodic p → (plan table : List ℕ) →
     (check p plan table ≡ Accepted) ↔ Drawing p plan table
 check-accepts-exactly-drawings p periodic plan table =
-    Iff·trans (check-accepts p periodic plan table) (drawing-of-parts p plan table periodic, parts-of-drawing p plan table)
+    Iff·trans (check-accepts p periodic plan table) (drawing-of-parts p periodic plan table, parts-of-drawing p periodic plan table)
 
 -- "for a plan that 01 does not refuse under 7, the check passes exactly those tables in which each job of a kept task has
 -- exactly its ticks between release and deadline on its core, and every other slot is idle"

@@ -1,6 +1,6 @@
 -- "Exactly its ticks as slots": the ticks of a window that show a number can be listed as `ExactSlots` asks exactly when
 -- there are as many of them as the window's count says.
-use Prim.Native.Nat.{ℕ, zero, suc, _+_, _≤_, _<_}
+use Prim.Native.Nat.{ℕ, zero, suc, _+_, _-_, _≤_, _<_}
 use mathlib.Core.Bool.{Bool, true, false, cond}
 use mathlib.Core.List.{List, [], _∷_, _++_, List·Memᴰ, List·Memᴰ·head, List·Memᴰ·tail, List·Memᴰ·not-nil, List·Memᴰ·cases-cons, List·Memᴰ·append-cases, List·Memᴰ·eq-of-singleton, Memᴰ·append-left, Memᴰ·append-right}
 use mathlib.Core.Logic.{_↔_, ⊎-elim}
@@ -9,8 +9,10 @@ use native.Mathlib.Nat.{add-suc, add-zero, eq-or-lt-of-le, le-of-suc-le-suc, le-
 use native.Mathlib.Omega.{arith}
 use lib.Dec.{eqb}
 use lib.ListN.{length, length-append}
-use borrow.Author.Tests.{eqb-true, eqb-false}
+use borrow.Author.Tests.{eqb-true, eqb-false, ne-eqb}
+use Rattle.laws.specs.CountLaws.{none-counted}
 use Rattle.laws.specs.Search.{count}
+use Rattle.laws.specs.SearchFacts.{count-of-none}
 use Rattle.drawings.specs.Drawings.{Rising, none, more, ExactSlots}
 
 -- the members of a rising list are no smaller than its low end
@@ -130,4 +132,14 @@ module _ (slots : ℕ → ℕ) (number release : ℕ) where
   count-is-exact width ticks = (
     λ same. subst (λ n. ExactSlots slots number release (release + width) n) same (counted-slots width),
     λ exact. exact-slots-unique (counted-slots width) exact,
+  )
+
+  -- where the count is 0, no tick shows the number, and the other way
+  pub count-is-none : (width : ℕ) → (count (λ x. eqb (slots (release + x)) number) width ≡ 0) ↔
+      ((t : ℕ) → release ≤ t → t < release + width → slots t ≡ number → ⊥)
+  count-is-none width = (
+    λ none t from before shown.
+        let here : release + (t - release) ≡ t = omega arith in
+        eqb-false _ _ (none-counted _ _ none (t - release) (omega arith)) (ap slots here ∙ shown),
+    λ none. count-of-none _ _ (λ x l. ne-eqb _ _ (none (release + x) (omega arith) (omega arith))),
   )

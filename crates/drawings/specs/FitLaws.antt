@@ -1,28 +1,28 @@
 -- A core fits exactly when some row serves its jobs, and a plan passes exactly when some table makes it a drawing.
-use Prim.Native.Nat.{ℕ, _≤_, _<_}
+use Prim.Native.Nat.{ℕ, _+_, _-_, _<_}
 use mathlib.Core.Bool.{true, not}
 use mathlib.Core.List.{List}
 use mathlib.Core.Logic.{_↔_, ⊎-elim, inl, inr}
-use mathlib.Core.Path.{_≡_, refl, ap}
-use native.Mathlib.Nat.{le-refl}
-use borrow.Author.Tests.{leb-true, le-leb, not-false}
-use Rattle.laws.specs.Sums.{sum}
+use mathlib.Core.Path.{_≡_, ap, _∙_}
+use native.Mathlib.Omega.{arith}
+use borrow.Author.Tests.{not-false}
 use Rattle.instance.specs.Node.{Problem, span}
 use Rattle.refusals.specs.declared.Verdict.the-variants.{Accepted}
 use Rattle.plan_rules.specs.AllowedPlanLaws.{choices-pass}
 use Rattle.drawings.specs.CheckTheorem.{check-accepts-exactly-drawings, tabulated-table-passes}
 use Rattle.checks.specs.Checks.{check}
-use Rattle.edf.specs.Demand.{WellFormed, WholePeriods, Demand, NamesTask, Serves, loadOf}
-use Rattle.drawings.specs.DrawingLaws.{parts-of-drawing}
+use Rattle.edf.specs.Demand.{WellFormed, WholePeriods, Demand, NamesTask, Serves}
 use Rattle.drawings.specs.Drawings.{Drawing}
-use Rattle.tables.specs.Periods.{Periodic, period-positive}
+use Rattle.tables.specs.Periods.{Periodic}
 use Rattle.plan_rules.specs.Plans.{choicesPass, fits, coresFit, planPasses}
-use Rattle.plan_rules.specs.Quantities.{jobs, loadOn, coreLoad}
+use Rattle.plan_rules.specs.Quantities.{jobs}
 use Rattle.dispatch.specs.Rows.{slotOf}
-use Rattle.edf.specs.SchedulingTheorems.{edf-serves-every-job, edf-slots-name-tasks-with-ticks, load-is-demand, served-meets-demand, served-load-is-within-span}
+use Rattle.edf.specs.SchedulingTheorems.{edf-serves-every-job, edf-no-slot-after-due, edf-slots-name-tasks-with-ticks, one-span-decides-demand, served-meets-demand}
 use Rattle.drawings.specs.ServedRowLaws.{drawing-serves-cores}
 use Rattle.drawings.specs.ServedRows.{OwedSlot, RowServes}
-use Rattle.tables.specs.Tables.{coreTasks, tableOf, slotAt}
+use Rattle.plan_rules.specs.CoreOfPlan.{coreTasks}
+use Rattle.plan_rules.specs.Windows.{releaseOf}
+use Rattle.tables.specs.Tables.{tableOf, slotAt}
 use Rattle.refusals.specs.VerdictLaws.{andThen-accepts, none-refused}
 
 -- the tasks of a core as the scheduling theorems have them
@@ -30,7 +30,7 @@ module _ (p : Problem) (periodic : Periodic p) (plan : List ℕ) (k : ℕ) where
   pub windows-well-formed : WellFormed (coreTasks p plan k)
   unfolding coreTasks
   windows-well-formed =
-      record { window-above-0 = period-positive p periodic; window-within-period = λ i h. le-refl _ }
+      record { window-above-0 = periodic .window-above-0; window-within-period = periodic .window-within-period }
 
   pub periods-whole : WholePeriods (coreTasks p plan k) (span p)
   unfolding coreTasks
@@ -39,10 +39,6 @@ module _ (p : Problem) (periodic : Periodic p) (plan : List ℕ) (k : ℕ) where
   pub row-serves-core-tasks : (slots : ℕ → ℕ) → RowServes p plan k slots → Serves slots (span p) (coreTasks p plan k)
   unfolding coreTasks jobs
   row-serves-core-tasks slots serves = record { each-job = serves .each-job }
-
-  load-of-core : coreLoad p plan k ≡ sum (loadOf (coreTasks p plan k) (span p)) (coreTasks p plan k .size)
-  unfolding coreTasks coreLoad loadOn jobs
-  load-of-core = refl
 
   named-task-is-owed : {slot : ℕ} → NamesTask (coreTasks p plan k) slot → OwedSlot p plan k slot
   unfolding coreTasks
@@ -57,30 +53,29 @@ module _ (p : Problem) (periodic : Periodic p) (plan : List ℕ) (k : ℕ) where
         each-job = λ i j h l. edf-serves-every-job core windows-well-formed demand i j h;
         idle-or-owed = λ t h.
             ⊎-elim (λ idle. inl idle) (λ s. inr (named-task-is-owed s)) (edf-slots-name-tasks-with-ticks core t);
+        none-late = λ i j h l t due next shown.
+            let here : releaseOf p i j + (t - releaseOf p i j) ≡ t = omega arith in
+            edf-no-slot-after-due core windows-well-formed demand i j h (t - releaseOf p i j) (omega arith) (omega arith)
+            (ap (slotOf core) here ∙ shown);
       }
+
+  demand-of-served-row : (slots : ℕ → ℕ) → RowServes p plan k slots → Demand (coreTasks p plan k)
+  demand-of-served-row slots serves =
+      served-meets-demand (coreTasks p plan k) (span p) slots windows-well-formed periods-whole (row-serves-core-tasks slots serves)
 
   -- where some row serves a core, however it was drawn, earliest deadline first serves it
   pub edf-serves-if-any-row-does : (slots : ℕ → ℕ) → RowServes p plan k slots → RowServes p plan k (slotOf (coreTasks p plan k))
-  edf-serves-if-any-row-does slots serves =
-      edf-row-serves
-      (served-meets-demand (coreTasks p plan k) (span p) slots windows-well-formed periods-whole (row-serves-core-tasks slots serves))
+  edf-serves-if-any-row-does slots serves = edf-row-serves (demand-of-served-row slots serves)
 
-  fitting-core-meets-demand : coreLoad p plan k ≤ span p → Demand (coreTasks p plan k)
-  unfolding coreTasks
-  fitting-core-meets-demand fit =
-      load-is-demand (coreTasks p plan k) (span p) periods-whole (λ i h. refl) (rw load-of-core at fit)
-
-  served-core-load : (slots : ℕ → ℕ) → RowServes p plan k slots → coreLoad p plan k ≤ span p
-  served-core-load slots serves =
-      rw load-of-core
-      (served-load-is-within-span (coreTasks p plan k) (span p) slots windows-well-formed periods-whole (row-serves-core-tasks slots serves))
-
-  -- "A core fits" exactly when some row serves its jobs: through this alone drawings know of loads.
-  pub core-fits-iff-served : (fits p plan k ≡ true) ↔ ((slots : ℕ → ℕ) × RowServes p plan k slots)
+  pub core-fits-iff-demand-is-met : (fits p plan k ≡ true) ↔ Demand (coreTasks p plan k)
   unfolding fits
+  core-fits-iff-demand-is-met = one-span-decides-demand (coreTasks p plan k) (span p) windows-well-formed periods-whole
+
+  -- (c) "A core fits exactly when some row gives each job its ticks in time"
+  pub core-fits-iff-served : (fits p plan k ≡ true) ↔ ((slots : ℕ → ℕ) × RowServes p plan k slots)
   core-fits-iff-served = (
-    λ fit. (slotOf (coreTasks p plan k), edf-row-serves (fitting-core-meets-demand (leb-true _ _ fit))),
-    λ served. le-leb _ _ (served-core-load (served .0) (served .1)),
+    λ fit. (slotOf (coreTasks p plan k), edf-row-serves (core-fits-iff-demand-is-met .0 fit)),
+    λ served. core-fits-iff-demand-is-met .1 (demand-of-served-row (served .0) (served .1)),
   )
 
 module _ (p : Problem) (plan : List ℕ) where
@@ -97,8 +92,7 @@ module _ (p : Problem) (plan : List ℕ) where
 
 module _ (p : Problem) (periodic : Periodic p) (plan : List ℕ) where
   pub passing-core-meets-demand : planPasses p plan ≡ Accepted → (k : ℕ) → k < p .cores → Demand (coreTasks p plan k)
-  unfolding fits
-  passing-core-meets-demand passes k h = fitting-core-meets-demand p periodic plan k (leb-true _ _ (passing-core-fits p plan passes k h))
+  passing-core-meets-demand passes k h = core-fits-iff-demand-is-met p periodic plan k .0 (passing-core-fits p plan passes k h)
 
   pub passing-table-passes : planPasses p plan ≡ Accepted → check p plan (tableOf p plan) ≡ Accepted
   passing-table-passes passes =
@@ -111,7 +105,7 @@ module _ (p : Problem) (periodic : Periodic p) (plan : List ℕ) where
   unfolding planPasses
   drawn-plan-passes {table} d =
       andThen-accepts _ _ .1 (
-        choices-pass p plan .1 (parts-of-drawing p plan table d .0),
+        choices-pass p plan .1 (d .allowed),
         cores-fit-iff p plan .1 (λ k h.
             core-fits-iff-served p periodic plan k .1 (slotAt p table k, drawing-serves-cores p periodic plan table d k h)),
       )

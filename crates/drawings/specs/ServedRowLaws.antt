@@ -4,7 +4,7 @@ use mathlib.Core.Bool.{Bool, true, false, cond}
 use mathlib.Core.List.{List, [], _∷_, List·Memᴰ, List·Memᴰ·not-nil}
 use mathlib.Core.Logic.{_⊎_, inl, inr, ⊎-elim}
 use mathlib.Core.Path.{_≡_, refl, sym, ap, _∙_, subst}
-use native.Mathlib.Nat.{zero-lt-suc}
+use native.Mathlib.Nat.{lt-of-lt-of-le, zero-lt-suc}
 use native.Mathlib.Omega.{arith}
 use lib.Dec.{eqb}
 use lib.ListN.{length}
@@ -16,10 +16,10 @@ use Rattle.instance.specs.Node.{Problem, taskCount, taskAt, span}
 use Rattle.checks.specs.CheckLaws.{KeptSlot}
 use Rattle.plan_rules.specs.KeepsLaws.{keeps-iff, ticks-where-kept, kept-where-ticks, core-of-kept}
 use Rattle.checks.specs.Checks.{jobSlots}
-use Rattle.drawings.specs.DrawingLaws.{drawing-of-parts, parts-of-drawing}
+use Rattle.drawings.specs.DrawingLaws.{drawing-of-parts, parts-of-drawing, no-late-slots, drawing-shows-none-late}
 use Rattle.plan_rules.specs.AllowedPlans.{AllowedPlan}
 use Rattle.drawings.specs.Drawings.{Drawing, JobSlot}
-use Rattle.tables.specs.Periods.{Periodic, tick-of-job}
+use Rattle.tables.specs.Periods.{Periodic, tick-of-job, next-release-in-span}
 use Rattle.plan_rules.specs.Quantities.{coreOf, keeps, jobs, jobTicks, ticksOn}
 use Rattle.plan_rules.specs.Windows.{releaseOf, window}
 use Rattle.tables.specs.Tables.{slotAt}
@@ -46,6 +46,8 @@ module _ (p : Problem) (periodic : Periodic p) (plan : List ℕ) where
             ∙ serves .each-job i j h l;
         idle-or-owed = λ t h.
             subst (λ (s : ℕ). (s ≡ 0) ⊎ OwedSlot p plan k s) (same t h) (serves .idle-or-owed t h);
+        none-late = λ i j h l t due next shown.
+            serves .none-late i j h l t due next (same t (lt-of-lt-of-le next (next-release-in-span p periodic i j h l)) ∙ shown);
       }
 
 module _ (p : Problem) (periodic : Periodic p) (plan table : List ℕ) where
@@ -53,7 +55,7 @@ module _ (p : Problem) (periodic : Periodic p) (plan table : List ℕ) where
       ((k : ℕ) → k < p .cores → RowServes p plan k (slotAt p table k)) → Drawing p plan table
   unfolding jobSlots
   drawing-of-rows allowed size serves =
-      drawing-of-parts p plan table periodic (
+      drawing-of-parts p periodic plan table (
         allowed,
         record {
           table-size = size;
@@ -62,7 +64,11 @@ module _ (p : Problem) (periodic : Periodic p) (plan table : List ℕ) where
         },
         λ i j h kept l.
             let k = coreOf p plan i in
-            serves k (core-of-kept p plan allowed i h kept) .each-job i j h l ∙ ticks-where-kept p plan k i kept refl,
+            let its-row = serves k (core-of-kept p plan allowed i h kept) in
+            record {
+              in-window = its-row .each-job i j h l ∙ ticks-where-kept p plan k i kept refl;
+              none-late = no-late-slots p periodic plan table i j h .1 (its-row .none-late i j h l);
+            },
       )
 
   -- no slot of row k names a task that is not kept on k
@@ -90,7 +96,7 @@ module _ (p : Problem) (periodic : Periodic p) (plan table : List ℕ) where
           (λ (c : ℕ).
           count (λ x. eqb (slotAt p table c (releaseOf p i j + x)) (suc i)) (window (taskAt p i)) ≡ jobTicks p plan i)
           (kept .1)
-          (parts-of-drawing p plan table d .2 i j g (kept .0) l)
+          (parts-of-drawing p periodic plan table d .2 i j g (kept .0) l .in-window)
       go false e =
           count-of-none _ _ (λ x w.
           ne-eqb _ _ (unkept-has-no-slot d k i (releaseOf p i j + x) h (tick-of-job p periodic i j x g l w) e))
@@ -115,4 +121,5 @@ module _ (p : Problem) (periodic : Periodic p) (plan table : List ℕ) where
         each-job = λ i j. drawing-serves-job d k i j h;
         idle-or-owed = λ t l.
             ⊎-elim (λ idle. inl idle) (λ s. inr (job-slot-is-owed-slot d k t s)) (d .drawn .others-idle k t h l);
+        none-late = λ i j. drawing-shows-none-late p periodic plan table d k i j h;
       }

@@ -10,7 +10,9 @@ use Rattle.plan_rules.specs.Quantities.{keeps, jobTicks, ticksOn}
 use Rattle.edf.specs.SchedulingTheorems.{row-depends-on-kept-tasks}
 use Rattle.plan_rules.specs.KeepsLaws.{kept-where-ticks}
 use Rattle.tables.specs.TableLaws.{slotAt-tableOf}
-use Rattle.tables.specs.Tables.{coreTasks, tableOf, slotAt}
+use Rattle.plan_rules.specs.CoreOfPlan.{coreTasks}
+use Rattle.plan_rules.specs.Windows.{window}
+use Rattle.tables.specs.Tables.{tableOf, slotAt}
 
 -- a plan for a problem, and one of its cores
 pub record CorePlan : Type 0 where
@@ -26,6 +28,7 @@ pub record SameKeptTask (a b : CorePlan) (i : ℕ) : Type 0 where
   pub is-task : i < taskCount (b .problem)
   pub kept : keptThere b i ≡ true
   pub same-period : taskAt (a .problem) i .period ≡ taskAt (b .problem) i .period
+  pub same-window : window (taskAt (a .problem) i) ≡ window (taskAt (b .problem) i)
   pub same-ticks : jobTicks (a .problem) (a .plan) i ≡ jobTicks (b .problem) (b .plan) i
 
 pub record KeepsAlso (b a : CorePlan) : Type 0 where
@@ -43,7 +46,7 @@ module _ (a b : CorePlan) where
             record {
               is-task = same .is-task;
               same-period = same .same-period;
-              same-window = same .same-period;
+              same-window = same .same-window;
               same-ticks = rw (kept, same .kept) (same .same-ticks);
             };
       }

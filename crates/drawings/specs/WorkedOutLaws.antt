@@ -18,7 +18,8 @@ use Rattle.edf.specs.PendingJobLaws.{unfinished-is-latest, ready-is-unfinished}
 use Rattle.tables.specs.Periods.{Periodic, row-of-index, tick-of-index, slot-of-index}
 use Rattle.plan_rules.specs.Plans.{planPasses}
 use Rattle.tables.specs.TableLaws.{length-tableOf, slotAt-tableOf}
-use Rattle.tables.specs.Tables.{coreTasks, tableOf, slotAt}
+use Rattle.plan_rules.specs.CoreOfPlan.{coreTasks}
+use Rattle.tables.specs.Tables.{tableOf, slotAt}
 use Rattle.plan_rules.specs.Windows.{dueOf}
 use Rattle.drawings.specs.WorkedOut.{Pending, EarliestDueRuns, WorkedOut}
 

@@ -2,8 +2,9 @@
 -- from ticks to slots, and job j of task i stands in the window of ticks j·p up to, but without, j·p + d.
 use Prim.Native.Nat.{ℕ, suc, _+_, _-_, _*_, _/_, _%_, _≤_, _<_, _∣_}
 use mathlib.Core.Path.{_≡_}
-use lib.Dec.{eqb}
-use Rattle.laws.specs.Search.{count}
+use mathlib.Core.Bool.{Bool}
+use lib.Dec.{leb, eqb}
+use Rattle.laws.specs.Search.{count, every}
 use Rattle.laws.specs.Sums.{sum}
 use Rattle.dispatch.specs.Rows.{CoreTasks}
 
@@ -25,13 +26,25 @@ jobsDue core i x = (x + (core .period i - core .window i)) / core .period i
 abbrev pub ticksDue : CoreTasks → ℕ → ℕ → ℕ
 ticksDue core x i = core .ticks i * jobsDue core i x
 
+-- what is due by tick x: the demand
+unfoldable pub demandAt : CoreTasks → ℕ → ℕ
+demandAt core x = sum (ticksDue core x) (core .size)
+
+-- whether by no tick of a span more is due than there are ticks up to it
+unfoldable pub meetsDemand : CoreTasks → ℕ → Bool
+meetsDemand core span = every (λ x. leb (demandAt core x) x) (suc span)
+
 -- by no tick x are more than x ticks due
 pub record Demand (core : CoreTasks) : Type 0 where
-  pub met-by : (x : ℕ) → sum (ticksDue core x) (core .size) ≤ x
+  pub met-by : (x : ℕ) → demandAt core x ≤ x
 
 -- "jobs × ticks": what task i asks for over a span
 abbrev pub loadOf : CoreTasks → ℕ → ℕ → ℕ
 loadOf core span i = span / core .period i * core .ticks i
+
+-- and what all tasks ask for
+abbrev pub spanLoad : CoreTasks → ℕ → ℕ
+spanLoad core span = sum (loadOf core span) (core .size)
 
 -- a slot that holds the number of a task with ticks: of one that is kept on this core
 pub record NamesTask (core : CoreTasks) (slot : ℕ) : Type 0 where

@@ -1,5 +1,6 @@
 pub mod Demand
 pub mod JobsDueLaws
+pub mod DemandLaws
 pub mod OnTime
 pub mod OnTimeSteps
 pub mod EdfLaws

@@ -11,7 +11,7 @@ use borrow.Author.Tests.{eqb-true, eqb-false}
 use Rattle.laws.specs.Below.{lt-or-le}
 use Rattle.laws.specs.DivisionLaws.{suc-div-of-multiple, suc-div-of-other}
 use Rattle.laws.specs.SumLaws.{sum-mono, sum-falls}
-use Rattle.edf.specs.Demand.{WellFormed, Demand, jobsDue, ticksDue}
+use Rattle.edf.specs.Demand.{WellFormed, Demand, demandAt, jobsDue, ticksDue}
 use Rattle.dispatch.specs.DispatchLaws.{afterRelease-at-release, afterRelease-between, afterRun-le, afterRun-self}
 use Rattle.dispatch.specs.Earliest.{Choice}
 use Rattle.edf.specs.JobsDueLaws.{period-above-0, counted-of-due, jobsDue-mono, jobsDue-later}
@@ -92,7 +92,7 @@ nothing-left-by b due number i ready later = go (eq-zero-or-pos ready)
 
 module _ (core : CoreTasks) (wf : WellFormed core) (demand : Demand core) where
   pub on-time-start : (ready : ℕ → ℕ) → ((i : ℕ) → i < core .size → ready i ≤ core .ticks i) → OnTime core 0 0 ready
-  unfolding owed laterJobs dueAt
+  unfolding owed laterJobs dueAt demandAt
   on-time-start ready full =
       record {
         room-by = λ b h.
@@ -105,7 +105,7 @@ module _ (core : CoreTasks) (wf : WellFormed core) (demand : Demand core) where
   -- where nothing that is left is due by b, the demand condition is enough
   room-for-later-jobs : (t b : ℕ) (left : ℕ → ℕ) → suc t ≤ b →
       ((i : ℕ) → i < core .size → leftBy b (dueAt core t i) (left i) ≡ 0) → ahead core t left b + suc t ≤ b
-  unfolding owed
+  unfolding owed demandAt
   room-for-later-jobs t b left h none =
       let each : (i : ℕ) → i < core .size → owed core t left b i ≤ ticksDue core (b - suc t) i =
       λ i l. omega (arith, none i l, mul-le-mul-left (core .ticks i) (laterJobs-le core wf t b i l h))

@@ -1,16 +1,16 @@
 -- Where the demand condition holds, the only job of a task that can be unfinished is the one released last: earliest
 -- deadline first has given the earlier ones all their ticks.
-use Prim.Native.Nat.{ℕ, zero, suc, _+_, _-_, _*_, _/_, _%_, _≤_, _<_}
+use Prim.Native.Nat.{ℕ, zero, suc, _+_, _*_, _/_, _%_, _≤_, _<_}
 use mathlib.Core.Bool.{Bool}
 use mathlib.Core.Logic.{⊎-elim}
-use mathlib.Core.Path.{_≡_, ap}
+use mathlib.Core.Path.{_≡_, ap, _∙_}
 use native.Mathlib.Nat.{div-add-mod', eq-or-lt-of-le, le-div-iff-mul-le, mod-lt, mul-le-mul-right, suc-mul, zero-mul}
 use native.Mathlib.Omega.{arith}
 use lib.Dec.{eqb}
 use borrow.Author.Tests.{ne-eqb}
-use Rattle.laws.specs.CountLaws.{count-split}
+use Rattle.laws.specs.CountLaws.{count-split, count-of-front}
 use Rattle.laws.specs.Search.{count}
-use Rattle.laws.specs.SearchFacts.{count-of-none, count-same}
+use Rattle.laws.specs.SearchFacts.{count-same}
 use Rattle.dispatch.specs.DispatchLaws.{readyAt, ready-le-ticks}
 use Rattle.dispatch.specs.Rows.{CoreTasks, slotOf}
 use Rattle.edf.specs.Demand.{WellFormed, Demand, slotsGiven}
@@ -21,13 +21,9 @@ module _ (core : CoreTasks) (wf : WellFormed core) (demand : Demand core) (i : �
   -- a job has its ticks by the next release
   slots-of-period : (j : ℕ) → slotsSoFar core i j (core .period i) ≡ core .ticks i
   slots-of-period j =
-      let period = core .period i in
-      let window = core .window i in
-      let its-slot : ℕ → Bool = λ x. eqb (slotOf core (j * period + x)) (suc i) in
-      let none-after : count (λ x. its-slot (window + x)) (period - window) ≡ 0 =
-      count-of-none _ _ (λ x h. ne-eqb _ _ (no-slot-after-due core wf demand i j l (window + x) (omega arith) (omega arith))) in
-      let whole : window + (period - window) ≡ period = omega (arith, wf .window-within-period i l) in
-      omega (arith, ap (count its-slot) whole, count-split its-slot window (period - window), job-served core wf demand i j l)
+      count-of-front _ (core .window i) (core .period i) (wf .window-within-period i l)
+      (λ x due before. ne-eqb _ _ (no-slot-after-due core wf demand i j l x due before))
+      ∙ job-served core wf demand i j l
 
   given-by-release : (j : ℕ) → slotsGiven (slotOf core) i (j * core .period i) ≡ j * core .ticks i
   unfolding slotsGiven count

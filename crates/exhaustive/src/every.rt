@@ -1,4 +1,5 @@
 // Every plan is priced, in choice order, and the first of least cost is kept.
+use crate::fits::unfit_core;
 use crate::site::Site;
 use crate::tried::Tried;
 use crate::tried::after_plans;
@@ -7,6 +8,8 @@ use crate::tried::none_tried;
 use crate::tried::refused;
 use crate::tried::with_cheaper;
 use crate::tried::with_other;
+use crate::tried::with_other_fit;
+use instance::Instance;
 use prices::Price;
 use prices::Priced;
 use refusals::Refusal;
@@ -53,16 +56,45 @@ fn price_front(words: &[u32], choices: &[u32; MOST_TASKS], n: usize) -> Priced {
     Priced::Refused(Refusal::NoPlan)
 }
 
-fn after_trying(
-    words: &[u32],
+// A plan that pricing finds to fit is taken where it fits tick by tick.
+fn after_price(
+    inst: Instance,
+    price: Price,
     choices: &[u32; MOST_TASKS],
-    n: usize,
     so_far: Tried,
     plan: &mut [u32; MOST_TASKS],
 ) -> Tried {
-    match price_front(words, choices, n) {
-        Priced::Refused(_) => so_far,
-        Priced::Cost(price) => with_plan(so_far, price, choices, n, plan),
+    if unfit_core(inst, choices) == 0 {
+        return with_plan(so_far, price, choices, inst.taskcount, plan);
+    }
+    with_other_fit(so_far)
+}
+
+// A plan that pricing refuses: with 8 where a core does not fit, which is then the lowest tick by tick too.
+fn after_refusal(
+    inst: Instance,
+    why: Refusal,
+    choices: &[u32; MOST_TASKS],
+    so_far: Tried,
+) -> Tried {
+    if refusals::refusal_number(why) == 8 {
+        if refusals::refusal_place(why) != unfit_core(inst, choices) {
+            return with_other_fit(so_far);
+        }
+    }
+    so_far
+}
+
+fn after_trying(
+    words: &[u32],
+    inst: Instance,
+    choices: &[u32; MOST_TASKS],
+    so_far: Tried,
+    plan: &mut [u32; MOST_TASKS],
+) -> Tried {
+    match price_front(words, choices, inst.taskcount) {
+        Priced::Refused(why) => after_refusal(inst, why, choices, so_far),
+        Priced::Cost(price) => after_price(inst, price, choices, so_far, plan),
     }
 }
 
@@ -95,14 +127,14 @@ fn step(choices: &mut [u32; MOST_TASKS], n: usize, most: u32) -> bool {
     false
 }
 
-fn try_all(words: &[u32], n: usize, most: u32, plan: &mut [u32; MOST_TASKS]) -> Tried {
+fn try_all(words: &[u32], inst: Instance, most: u32, plan: &mut [u32; MOST_TASKS]) -> Tried {
     let mut so_far = none_tried();
     let mut choices = [0; MOST_TASKS];
     let mut tried = 0;
     while tried < MOST_PLANS {
-        so_far = after_trying(words, &choices, n, so_far, plan);
+        so_far = after_trying(words, inst, &choices, so_far, plan);
         tried += 1;
-        if !step(&mut choices, n, most) {
+        if !step(&mut choices, inst.taskcount, most) {
             return after_plans(so_far, tried, true);
         }
     }
@@ -142,7 +174,8 @@ fn plan_site(
     plan: &mut [u32; MOST_TASKS],
     table: &mut [ranges::Slot; TABLE_ROOM],
 ) -> Tried {
-    let tried = try_all(words, site.tasks, site.most, plan);
+    let read = instance::read_instance(words);
+    let tried = try_all(words, read.instance, site.most, plan);
     if tried.priced != 0 {
         tabulate_front(words, plan, site.tasks, table);
     }

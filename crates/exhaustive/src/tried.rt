@@ -2,12 +2,14 @@
 use prices::Price;
 
 // The answer as five numbers: the refusal's number and place, energy, penalty and cost; and how many plans were tried, how
-// many of them were priced, which is not refused, how many of these cost as little as the best, and whether all were tried.
+// many of them were priced, which is not refused, how many of these cost as little as the best, of how many pricing finds another
+// core that does not fit than is found tick by tick, and whether all were tried.
 pub struct Tried {
     pub answer: [u64; 5],
     pub tried: u64,
     pub priced: u64,
     pub cheapest: u64,
+    pub fits_differ: u64,
     pub complete: bool,
 }
 
@@ -18,6 +20,7 @@ pub(crate) fn none_tried() -> Tried {
         tried: 0,
         priced: 0,
         cheapest: 0,
+        fits_differ: 0,
         complete: false,
     }
 }
@@ -29,6 +32,7 @@ pub(crate) fn refused(answer: [u64; 5]) -> Tried {
         tried: 0,
         priced: 0,
         cheapest: 0,
+        fits_differ: 0,
         complete: true,
     }
 }
@@ -45,6 +49,7 @@ pub(crate) fn with_cheaper(so_far: Tried, price: Price) -> Tried {
         tried: so_far.tried,
         priced: std::num::wrapping_add_u64(so_far.priced, 1),
         cheapest: 1,
+        fits_differ: so_far.fits_differ,
         complete: so_far.complete,
     }
 }
@@ -57,6 +62,13 @@ pub(crate) fn with_other(so_far: Tried, price: Price) -> Tried {
     if price.cost == answer[4] {
         next.cheapest = std::num::wrapping_add_u64(so_far.cheapest, 1);
     }
+    next
+}
+
+// With a plan of which pricing finds another core that does not fit.
+pub(crate) fn with_other_fit(so_far: Tried) -> Tried {
+    let mut next = so_far;
+    next.fits_differ = std::num::wrapping_add_u64(so_far.fits_differ, 1);
     next
 }
 

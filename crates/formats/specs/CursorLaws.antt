@@ -13,7 +13,8 @@ use Rattle.refusals.specs.declared.Verdict.the-variants.{Accepted, Refused}
 use Rattle.formats.specs.Cursors.{atStart, heldOr, from, Leaves, refuses, takes, Gets, refusedUnless, Repeats}
 use Rattle.formats.specs.Formats.{times}
 use Rattle.formats.specs.Taking.{Taken, refused, taken, Take, continue, takeTested}
-use Rattle.formats.specs.Written.{Format}
+use Rattle.formats.specs.Written.{Format, Outcome}
+use Rattle.formats.specs.Written as Written
 use Rattle.formats.specs.declared.Cursor.{Cursor}
 
 module _ {A : Type 0} (all : List ℕ) (c : Cursor) (take : Take A) where
@@ -67,6 +68,21 @@ accepted-before {all} {c} {after} {take} gets now = go (c .verdict) refl
     go Accepted none = none
     go (Refused r) held =
         let z : _≡_ {A = ℕ} 0 1 = cc (from-held all c take held, gets-taken gets now) in absurd (omega arith)
+
+-- what is taken is what the words passed write
+pub gets-written : {fault : ℕ} {A : Type 0} (format : Format fault A) {all : List ℕ} {c after : Cursor} {a : A} →
+    Gets all c (format .take) a after → after .verdict ≡ Accepted → format .Writes a (drop (c .at) all) (drop (after .at) all)
+gets-written {fault} {A} format {all} {c} {after} {a} gets now =
+    go (format .sound (c .at) (drop (c .at) all))
+    (sym (from-accepted all c (format .take) (accepted-before gets now)) ∙ gets-taken gets now)
+  where
+    go : {t : Taken A} → Outcome fault (format .Writes) (c .at) (drop (c .at) all) t → t ≡ taken a (after .at) (drop (after .at) all) →
+        format .Writes a (drop (c .at) all) (drop (after .at) all)
+    go (Written.turned r number place) same = let z : _≡_ {A = ℕ} 0 1 = cc in absurd (omega arith)
+    go (Written.took {a = b} {rest} writes consumed) same =
+        let value : b ≡ a = cc in
+        let left : rest ≡ drop (after .at) all = cc in
+        rw (value, left) at writes
 
 -- how words are taken matters only where no refusal is held
 pub gets-other : {A : Type 0} {all : List ℕ} {c after : Cursor} {take : Take A} {a : A} (other : Take A) →

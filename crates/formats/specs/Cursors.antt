@@ -3,7 +3,8 @@ use Prim.Native.Nat.{ℕ, _-_, _≤_}
 use mathlib.Core.Bool.{Bool, cond}
 use mathlib.Core.List.{List, []}
 use mathlib.Core.Path.{_≡_}
-use lib.ListN.{drop}
+use lib.Dec.{leb}
+use lib.ListN.{length, drop}
 use Rattle.refusals.specs.Refusals.{_andThen_}
 use Rattle.refusals.specs.declared.Refusal.{Refusal}
 use Rattle.refusals.specs.declared.Verdict.{Verdict}
@@ -40,6 +41,10 @@ pub record GetsWord (all : List ℕ) (c : Cursor) (low high : ℕ) (r : Got) : T
   pub gets : Gets all c (takeWord (between low high)) (r .value) (r .cursor)
   pub at-least : low ≤ high → low ≤ r .value
   pub at-most : r .value ≤ high
+
+-- whether no word stands at the cursor or after it
+abbrev pub endsAt : List ℕ → Cursor → Bool
+endsAt all c = leb (length all) (c .at)
 
 abbrev pub turnedDown : Refusal → ℕ → ℕ → Got
 turnedDown r at high = record { value = high; cursor = record { verdict = Refused r; at = at } }

@@ -5,6 +5,7 @@ mod word;
 use refusals::Verdict;
 pub use word::cursor_at_start;
 pub use word::end_next;
+pub use word::list_ends;
 pub use word::refuse_unless;
 pub use word::word_next;
 

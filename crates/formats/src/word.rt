@@ -4,7 +4,7 @@ use crate::Got;
 use refusals::Refusal;
 use refusals::Verdict;
 ghost use mathlib.Core.Path.{_≡_};
-ghost use Rattle.formats.specs.Cursors.{atStart, Gets, GetsWord, turnedDown, refusedUnless};
+ghost use Rattle.formats.specs.Cursors.{atStart, endsAt, Gets, GetsWord, turnedDown, refusedUnless};
 ghost use Rattle.formats.specs.Taking.{takeEnd};
 
 // Before the first word.
@@ -79,6 +79,13 @@ pub fn refuse_unless(passes: bool, why: Refusal, cursor: Cursor) -> Cursor
         verdict: Verdict::Refused(why),
         at,
     }
+}
+
+// Whether the list ends at the cursor; what it says beside a refusal has no meaning.
+pub fn list_ends(words: &[u32], cursor: Cursor) -> bool
+    ensures { λ r. ⌜ r ≡ endsAt (now (words .entry)) cursor ⌝ }
+{
+    words.len() <= cursor.at
 }
 
 // The cursor, if nothing is left.

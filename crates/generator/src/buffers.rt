@@ -1,6 +1,10 @@
-// How much of a buffer is lent; buffers compared whole; what kind of table stands in one.
+// Buffers: how much of one is lent; two compared whole; what kind of table stands in one.
 use crate::draw::below;
 use ranges::Slot;
+
+// Room for the longest list that is drawn, and a word more: five settings, a level count and four levels, a task count and four
+// tasks, their count again and four deadlines.
+pub const WORDS_ROOM: usize = 5 + 9 + 13 + 5 + 1;
 
 // Room for one choice of each task.
 pub const PLAN_ROOM: usize = ranges::MOST_TASKS as usize;
@@ -8,9 +12,18 @@ pub const PLAN_ROOM: usize = ranges::MOST_TASKS as usize;
 // Room for the table of a drawn instance.
 pub const TABLE_ROOM: usize = 128;
 
+pub type Words = [u32; WORDS_ROOM];
+
 pub type Choices = [u32; PLAN_ROOM];
 
 pub type Table = [Slot; TABLE_ROOM];
+
+// Puts a word at a place, where there is room.
+pub(crate) fn put(words: &mut Words, at: usize, word: u32) {
+    if at < WORDS_ROOM {
+        words[at] = word;
+    }
+}
 
 // Room for a result of `size` elements: all there is, exactly enough, or now and then too little.
 pub fn draw_room(size: usize, most: usize, state: &mut u32) -> usize {

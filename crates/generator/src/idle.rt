@@ -2,7 +2,9 @@
 use crate::draw::below;
 use crate::draw::times;
 use crate::draw::up_to;
+use crate::site_words::word;
 use crate::tally;
+use crate::tally::Counts;
 use crate::tally::add;
 use crate::tally::add_if;
 use ranges::SETTINGS_WITH_IDLE;
@@ -22,22 +24,14 @@ pub(crate) fn idle_power(state: &mut u32) -> u32 {
     }
 }
 
-// The word at a place of the list, 0 past its end.
-pub(crate) fn word(words: &[u32], at: usize) -> u32 {
-    if at < words.len() {
-        return words[at];
-    }
-    0
-}
-
-fn count_power(idle: u32, least: u32, largest: u32, counts: &mut [u64; 31]) {
+fn count_power(idle: u32, least: u32, largest: u32, counts: &mut Counts) {
     add(counts, tally::IDLE_GIVEN, 1);
     add_if(counts, tally::IDLE_BELOW_LEVELS, 0 < idle && idle < least);
     add_if(counts, tally::IDLE_ABOVE_LEVELS, largest < idle);
 }
 
 // Counts a list that was accepted, with so many levels.
-pub fn count_idle(words: &[u32], levels: u32, counts: &mut [u64; 31]) {
+pub fn count_idle(words: &[u32], levels: u32, counts: &mut Counts) {
     if word(words, 0) == SETTINGS_WITH_IDLE {
         let last = 5 + times(2, levels) as usize;
         count_power(word(words, 4), word(words, 7), word(words, last), counts);

@@ -1,10 +1,16 @@
 // Instances as words: 0 to 4 tasks, 1 to 3 cores, 1 to 4 levels. Numbers are small, so that costs are often equal and cores
 // are often exactly full; periods divide 24, so that a table has at most 72 slots.
+use crate::buffers::WORDS_ROOM;
+use crate::buffers::Words;
+use crate::buffers::put;
+use crate::deadlines::put_deadlines;
+use crate::deadlines::spoil_deadlines;
 use crate::draw::below;
 use crate::draw::times;
 use crate::draw::up_to;
 use crate::idle::BELOW_LEVELS;
 use crate::idle::idle_power;
+use crate::site_words::deadlines_at;
 use ranges::MAY_NOT_BE_REFUSED;
 use ranges::SETTINGS_WITH_IDLE;
 use ranges::SETTINGS_WITHOUT_IDLE;
@@ -24,14 +30,8 @@ const TASKS: [u32; 16] = [0, 1, 1, 2, 2, 2, 3, 3, 3, 3, 3, 4, 4, 4, 4, 4];
 // Words that are in few ranges.
 const ODD_WORDS: [u32; 8] = [0, 0, 5, 5, 13, 4095, 4095, 100_000_001];
 
-fn put(words: &mut [u32; 32], at: usize, word: u32) {
-    if at < 32 {
-        words[at] = word;
-    }
-}
-
 // The number of settings, the two weights, the cores, and in one list of three idle power; answers where the next word goes.
-fn put_settings(words: &mut [u32; 32], state: &mut u32) -> usize {
+fn put_settings(words: &mut Words, state: &mut u32) -> usize {
     words[0] = SETTINGS_WITHOUT_IDLE;
     words[1] = up_to(state, 3);
     words[2] = up_to(state, 3);
@@ -45,7 +45,7 @@ fn put_settings(words: &mut [u32; 32], state: &mut u32) -> usize {
 }
 
 // Levels whose speeds rise by 1 to 3, and powers by 1 to 4; answers where the next word goes.
-fn put_levels(words: &mut [u32; 32], from: usize, count: u32, state: &mut u32) -> usize {
+fn put_levels(words: &mut Words, from: usize, count: u32, state: &mut u32) -> usize {
     let mut at = from;
     let mut speed = 0;
     let mut power = BELOW_LEVELS;
@@ -86,14 +86,14 @@ fn new_task(state: &mut u32) -> [u32; 3] {
     [period, cycles, penalty(state)]
 }
 
-fn put_task(words: &mut [u32; 32], at: usize, task: [u32; 3]) {
+fn put_task(words: &mut Words, at: usize, task: [u32; 3]) {
     put(words, at, task[0]);
     put(words, std::num::wrapping_add_usize(at, 1), task[1]);
     put(words, std::num::wrapping_add_usize(at, 2), task[2]);
 }
 
-// One task in five equals the one before it. Answers where the list ends.
-fn put_tasks(words: &mut [u32; 32], from: usize, count: u32, state: &mut u32) -> usize {
+// One task in five equals the one before it. Answers where the next word goes.
+fn put_tasks(words: &mut Words, from: usize, count: u32, state: &mut u32) -> usize {
     let mut task = [0u32; 3];
     let mut at = from;
     let mut i = 0;
@@ -108,34 +108,42 @@ fn put_tasks(words: &mut [u32; 32], from: usize, count: u32, state: &mut u32) ->
     at
 }
 
-fn put_instance(words: &mut [u32; 32], state: &mut u32) -> usize {
+fn put_instance(words: &mut Words, state: &mut u32) -> usize {
     let first = put_settings(words, state);
     let levels = up_to(state, 4);
     put(words, first, levels);
     let at = put_levels(words, std::num::wrapping_add_usize(first, 1), levels, state);
     let tasks = TASKS[below(state, 16) as usize];
     put(words, at, tasks);
-    put_tasks(words, std::num::wrapping_add_usize(at, 1), tasks, state)
+    let end = put_tasks(words, std::num::wrapping_add_usize(at, 1), tasks, state);
+    put_deadlines(words, end, tasks, state)
 }
 
-fn put_odd_word(words: &mut [u32; 32], state: &mut u32) {
+fn put_odd_word(words: &mut Words, state: &mut u32) {
     let word = ODD_WORDS[below(state, 8) as usize];
-    put(words, below(state, 28) as usize, word);
+    put(words, below(state, 32) as usize, word);
 }
 
-// The list with a word too many, another length, 4,095 for the last period, or a word changed: mostly one that reading
-// refuses.
-fn spoil(words: &mut [u32; 32], end: usize, state: &mut u32) -> usize {
-    match below(state, 8) {
+// 4,095 for the last period.
+fn put_long_period(words: &mut Words) {
+    let end = deadlines_at(&words[..]);
+    put(words, std::num::wrapping_sub_usize(end, 3), 4095);
+}
+
+// The list with a word too many, another length, 4,095 for the last period, deadlines damaged, or a word changed: mostly one
+// that reading refuses.
+fn spoil(words: &mut Words, end: usize, state: &mut u32) -> usize {
+    match below(state, 12) {
         0 => {
             put(words, end, below(state, 5));
             std::num::wrapping_add_usize(end, 1)
         }
-        1 => below(state, 32) as usize,
+        1 => below(state, WORDS_ROOM as u32) as usize,
         2 | 3 => {
-            put(words, std::num::wrapping_sub_usize(end, 3), 4095);
+            put_long_period(words);
             end
         }
+        4..=7 => spoil_deadlines(words, end, state),
         _ => {
             put_odd_word(words, state);
             end
@@ -144,7 +152,7 @@ fn spoil(words: &mut [u32; 32], end: usize, state: &mut u32) -> usize {
 }
 
 // Draws an instance, one in ten spoilt, and answers how many words it has.
-pub fn draw_instance(words: &mut [u32; 32], state: &mut u32) -> usize {
+pub fn draw_instance(words: &mut Words, state: &mut u32) -> usize {
     let end = put_instance(words, state);
     if below(state, 10) == 0 {
         return spoil(words, end, state);

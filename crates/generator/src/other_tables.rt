@@ -4,17 +4,29 @@ use crate::buffers::TABLE_ROOM;
 use crate::buffers::Table;
 use crate::draw::below;
 use crate::draw::times;
-use crate::idle::word;
+use crate::site_words::deadline_of;
+use crate::site_words::level_count;
+use crate::site_words::period_of;
+use crate::site_words::ticks_at;
 use ranges::Slot;
 
 // In place of the slot of its window that a job tries first: it tries them from the end.
 const FROM_THE_END: u32 = 24;
+
+// The task that comes first, the slot of a window that each job tries first, and whether the windows go on after the due ticks, up
+// to the next release: then the check may have to refuse the table.
+struct Order {
+    turn: u32,
+    first: u32,
+    late: bool,
+}
 
 // A kept task: its number, its row's first slot, and the slot of a window that it tries first.
 struct Kept {
     number: Slot,
     row: u32,
     period: u32,
+    window: u32,
     ticks: u32,
     first: u32,
 }
@@ -28,11 +40,11 @@ fn rest(a: u32, b: u32) -> u32 {
 }
 
 // The slot of a window that is tried after x others.
-fn slot_of_window(first: u32, period: u32, x: u32) -> u32 {
+fn slot_of_window(first: u32, window: u32, x: u32) -> u32 {
     if first == FROM_THE_END {
-        return std::num::wrapping_sub_u32(period, std::num::wrapping_add_u32(x, 1));
+        return std::num::wrapping_sub_u32(window, std::num::wrapping_add_u32(x, 1));
     }
-    rest(std::num::wrapping_add_u32(first, x), period)
+    rest(std::num::wrapping_add_u32(first, x), window)
 }
 
 // Takes a slot that is free, for a job with ticks left; answers the ticks left then.
@@ -46,16 +58,20 @@ fn take_slot(table: &mut Table, t: usize, number: Slot, left: u32) -> u32 {
     left
 }
 
-// Turn y of a task, in which its job tries one slot; answers the ticks that the job has left then.
+// Turn y of a task, in which its job tries one slot, or none once it has tried its whole window; answers the ticks that the job
+// has left then.
 fn take_turn(table: &mut Table, task: Kept, y: u32, left: u32) -> u32 {
     let x = rest(y, task.period);
-    let slot = slot_of_window(task.first, task.period, x);
+    let slot = slot_of_window(task.first, task.window, x);
     let release = std::num::wrapping_add_u32(task.row, std::num::wrapping_sub_u32(y, x));
     let at = std::num::wrapping_add_u32(release, slot) as usize;
     if x == 0 {
         return take_slot(table, at, task.number, task.ticks);
     }
-    take_slot(table, at, task.number, left)
+    if x < task.window {
+        return take_slot(table, at, task.number, left);
+    }
+    left
 }
 
 // All jobs of a task: as many turns as its row has slots.
@@ -76,46 +92,44 @@ fn row_of(choice: u32, levels: u32, span: u32) -> u32 {
     times(std::num::wrapping_sub_u32(choice, 1) / levels, span)
 }
 
-// The speed of a kept task's level, one of so many that come after the settings and their count.
-fn speed_of(words: &[u32], settings: u32, choice: u32, levels: u32) -> u32 {
-    let level = rest(std::num::wrapping_sub_u32(choice, 1), levels);
-    word(words, 2 + settings as usize + 2 * level as usize)
+fn window_of(words: &[u32], number: Slot, late: bool) -> u32 {
+    if late {
+        return period_of(words, number);
+    }
+    deadline_of(words, number)
 }
 
-// The task with this number, from 1, and this choice: its three words come after the levels and those of the tasks before.
-fn kept_task(words: &[u32], span: u32, choice: u32, number: Slot, first: u32) -> Kept {
-    let settings = word(words, 0);
-    let levels = word(words, 1 + settings as usize);
-    let at = settings as usize + 2 * levels as usize + 3 * number as usize;
+// The task with this number, from 1, and this choice.
+fn kept_task(words: &[u32], span: u32, choice: u32, number: Slot, order: Order) -> Kept {
+    let levels = level_count(words);
+    let level = rest(std::num::wrapping_sub_u32(choice, 1), levels);
     Kept {
         number,
         row: row_of(choice, levels, span),
-        period: word(words, at),
-        ticks: plan_rules::ticks_of(
-            word(words, at + 1),
-            speed_of(words, settings, choice, levels),
-        ),
-        first,
+        period: period_of(words, number),
+        window: window_of(words, number, order.late),
+        ticks: ticks_at(words, number, level),
+        first: order.first,
     }
 }
 
-fn fill_task(table: &mut Table, words: &[u32], span: u32, choice: u32, i: usize, first: u32) {
+fn fill_task(table: &mut Table, words: &[u32], span: u32, choice: u32, i: usize, order: Order) {
     if choice == 0 {
         return;
     }
     if i < PLAN_ROOM {
         let number = (i + 1) as Slot;
-        fill_row(table, kept_task(words, span, choice, number, first), span);
+        fill_row(table, kept_task(words, span, choice, number, order), span);
     }
 }
 
 // All tasks, from task `turn` on and round.
-fn fill_tasks(table: &mut Table, words: &[u32], span: u32, plan: &[u32], turn: u32, first: u32) {
+fn fill_tasks(table: &mut Table, words: &[u32], span: u32, plan: &[u32], order: Order) {
     let mut i = 0;
     while i < plan.len() {
-        let next = std::num::wrapping_add_usize(turn as usize, i) % plan.len();
+        let next = std::num::wrapping_add_usize(order.turn as usize, i) % plan.len();
         if next < plan.len() {
-            fill_task(table, words, span, plan[next], next, first);
+            fill_task(table, words, span, plan[next], next, order);
         }
         i += 1;
     }
@@ -136,6 +150,10 @@ pub(crate) fn fill_table(
     plan: &[u32],
     state: &mut u32,
 ) {
-    let first = draw_first(state);
-    fill_tasks(table, words, span, plan, below(state, 4), first);
+    let order = Order {
+        turn: below(state, 4),
+        first: draw_first(state),
+        late: below(state, 4) == 0,
+    };
+    fill_tasks(table, words, span, plan, order);
 }

@@ -8,6 +8,7 @@ use crate::buffers::tables_differ;
 use crate::draw::up_to;
 use crate::other_tables::fill_table;
 use crate::tally;
+use crate::tally::Counts;
 use crate::tally::add;
 use crate::tally::add_if;
 use prices::Priced;
@@ -43,14 +44,14 @@ fn is_other(words: &[u32], plan: &[u32], table: &Table) -> bool {
 }
 
 // What a drawing's plan costs, where the answered plan costs `least`.
-fn count_price(priced: Priced, least: u64, counts: &mut [u64; 31]) {
+fn count_price(priced: Priced, least: u64, counts: &mut Counts) {
     match priced {
         Priced::Cost(price) => add_if(counts, tally::CHEAPER_DRAWINGS, price.cost < least),
         Priced::Refused(_) => add(counts, tally::UNFIT_DRAWINGS, 1),
     }
 }
 
-fn count_drawing(words: &[u32], plan: &[u32], table: &Table, least: u64, counts: &mut [u64; 31]) {
+fn count_drawing(words: &[u32], plan: &[u32], table: &Table, least: u64, counts: &mut Counts) {
     add(counts, tally::DRAWINGS, 1);
     add_if(counts, tally::OTHER_DRAWINGS, is_other(words, plan, table));
     count_price(prices::price(words, plan), least, counts);
@@ -64,7 +65,7 @@ fn try_table(
     plan: &[u32],
     least: u64,
     state: &mut u32,
-    counts: &mut [u64; 31],
+    counts: &mut Counts,
 ) {
     let mut table = [0; TABLE_ROOM];
     fill_table(&mut table, words, span, plan, state);
@@ -83,7 +84,7 @@ fn try_front(
     n: usize,
     least: u64,
     state: &mut u32,
-    counts: &mut [u64; 31],
+    counts: &mut Counts,
 ) {
     let all = &front[..];
     if n <= all.len() {
@@ -100,7 +101,7 @@ fn try_drawn_plan(
     most: u32,
     least: u64,
     state: &mut u32,
-    counts: &mut [u64; 31],
+    counts: &mut Counts,
 ) {
     let mut plan = [0; PLAN_ROOM];
     draw_plan(&mut plan, n, std::num::wrapping_add_u32(most, 1), state);
@@ -116,7 +117,7 @@ pub fn try_drawn_plans(
     most: u32,
     least: u64,
     state: &mut u32,
-    counts: &mut [u64; 31],
+    counts: &mut Counts,
 ) {
     try_drawn_plan(words, span, slots, n, most, least, state, counts);
     try_drawn_plan(words, span, slots, n, most, least, state, counts);
@@ -141,7 +142,7 @@ pub fn try_answered(
     n: usize,
     least: u64,
     state: &mut u32,
-    counts: &mut [u64; 31],
+    counts: &mut Counts,
 ) {
     try_front(words, span, slots, front, n, least, state, counts);
     try_front(words, span, slots, front, n, least, state, counts);

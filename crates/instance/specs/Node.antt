@@ -30,7 +30,7 @@ abbrev pub noLevel : Level
 noLevel = record { speed = 0; power = 0 }
 
 abbrev pub noTask : Task
-noTask = record { period = 0; cycles = 0; penalty = 0 }
+noTask = record { period = 0; cycles = 0; penalty = 0; deadline = 0 }
 
 abbrev pub levelAt : Problem → ℕ → Level
 levelAt p l = getD (p .levels) l noLevel

@@ -1,4 +1,4 @@
--- A word between two numbers is in their range, and a penalty is what the paper says.
+-- A word between two numbers is in their range, and a penalty and a count of deadlines are what the papers say.
 use Prim.Native.Nat.{ℕ, _≤_}
 use mathlib.Core.Path.{_≡_, refl}
 use mathlib.Core.Bool.{Bool, true, false, _||_, or-true, or-false, and-eq-true-iff}
@@ -9,7 +9,7 @@ use borrow.Author.Tests.{leb-true, le-leb, eqb-true, eq-eqb, ne-eqb}
 use Rattle.ranges.specs.Limits
 use Rattle.formats.specs.Taking.{between}
 use Rattle.formats.specs.WordLaws.{between-passes}
-use Rattle.instance.specs.SiteFile.{isPenalty}
+use Rattle.instance.specs.SiteFile.{isPenalty, isDeadlineCount}
 use Rattle.instance.specs.Valid.{InRange}
 
 pub between-in-range : {low high w : ℕ} → between low high w ≡ true → InRange low high w
@@ -46,3 +46,22 @@ penalty-in-range {w} is = go (is-penalty-in-range is)
 pub other-is-penalty : (w : ℕ) → 1 ≤ w → w ≢ Limits.mayNotBeRefused → leb w Limits.mostPenalty ≡ isPenalty w
 unfolding isPenalty between
 other-is-penalty w above other = rw (le-leb 1 w above, ne-eqb w Limits.mayNotBeRefused other, or-false)
+
+pub deadline-count-says : {n count : ℕ} → isDeadlineCount n count ≡ true → (count ≡ 0) ⊎ (count ≡ n)
+unfolding isDeadlineCount
+deadline-count-says {n} {count} = go (eqb count 0) refl
+  where
+    go : (b : Bool) → eqb count 0 ≡ b → (b || eqb count n) ≡ true → (count ≡ 0) ⊎ (count ≡ n)
+    go true b e = inl (eqb-true count 0 b)
+    go false b e = inr (eqb-true count n e)
+
+pub deadline-count-in-range : {n count : ℕ} → isDeadlineCount n count ≡ true → InRange 0 n count
+deadline-count-in-range {n} {count} is = go (deadline-count-says is)
+  where
+    go : (count ≡ 0) ⊎ (count ≡ n) → InRange 0 n count
+    go (inl none) = omega arith
+    go (inr all) = omega arith
+
+pub task-count-is-deadline-count : (n : ℕ) → isDeadlineCount n n ≡ true
+unfolding isDeadlineCount
+task-count-is-deadline-count n = rw (eq-eqb n n refl, or-true)

@@ -10,9 +10,10 @@ use Rattle.refusals.specs.declared.Verdict.the-variants.{Accepted}
 use Rattle.formats.specs.Cursors.{Gets, Repeats}
 use Rattle.formats.specs.declared.Cursor.{Cursor}
 use Rattle.instance.specs.Node.{noLevel, noTask, spanFrom}
-use Rattle.instance.specs.SiteFile.{SiteFormat, Settings, level, lastAfter, levels, task, tasks}
+use Rattle.instance.specs.SiteFile.{SiteFormat, Settings, level, lastAfter, levels, task, tasks, withDeadlines}
 use Rattle.instance.specs.declared.Level.{Level}
 use Rattle.instance.specs.declared.Task.{Task}
+use Rattle.instance.specs.declared.deadlines.DeadlinesGot.{DeadlinesGot}
 use Rattle.instance.specs.declared.levels.LevelGot.{LevelGot}
 use Rattle.instance.specs.declared.levels.LevelsGot.{LevelsGot}
 use Rattle.instance.specs.declared.site.SettingsGot.{SettingsGot}
@@ -76,7 +77,23 @@ pub record TasksSoFar (all : List ℕ) (count : ℕ) (start c : Cursor) (array :
 abbrev pub tasksIn : TasksGot → List Task
 tasksIn r = take (r .count) (r .tasks)
 
+-- `count` tasks stand at the front of the array
+pub record TasksHeld (array : List Task) (count : ℕ) : Type 0 where
+  pub count-within : count ≤ Limits.mostTasks
+  pub filled : Filled Limits.mostTasks noTask array count
+
 pub record GetsTasks (all : List ℕ) (c : Cursor) (r : TasksGot) : Type 0 where
   pub gets : Gets all c (tasks .take) (tasksIn r) (r .cursor)
-  pub filled : Filled Limits.mostTasks noTask (r .tasks) (r .count)
+  pub held : TasksHeld (r .tasks) (r .count)
   pub spans : r .cursor .verdict ≡ Accepted → r .span ≡ spanFrom 1 (tasksIn r)
+
+-- i of `count` tasks have their deadlines, and those of the others follow at `c`
+pub record DeadlinesSoFar (all : List ℕ) (array : List Task) (count : ℕ) (start c : Cursor) (due : List Task) (i : ℕ) : Type 0 where
+  pub at-most : i ≤ count
+  pub filled : Filled Limits.mostTasks noTask due i
+  pub gets : Gets all start (withDeadlines (take i array) .take) (take i due) c
+
+-- `count` tasks with deadlines, taken by a format
+pub record GetsDeadlines (all : List ℕ) (c : Cursor) (format : SiteFormat (List Task)) (count : ℕ) (r : DeadlinesGot) : Type 0 where
+  pub gets : Gets all c (format .take) (take count (r .tasks)) (r .cursor)
+  pub filled : Filled Limits.mostTasks noTask (r .tasks) count

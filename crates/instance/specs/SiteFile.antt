@@ -1,15 +1,16 @@
--- The paper's section 'Site file', the words: "sections stand in a fixed order, each after its count", and of 'Refused
--- input' the rows 2, 3 and 4: "words are taken from the front, each tested for 2, 3, 4".
+-- Document 01's section 'Site file', the words, with (a) and (c) of document 02: "sections stand in a fixed order, each after
+-- its count", and of 'Refused input' the rows 2, 3 and 4: "words are taken from the front, each tested for 2, 3, 4".
 use Prim.Native.Nat.{ℕ, suc}
 use mathlib.Core.Bool.{Bool, cond, _||_}
 use mathlib.Core.List.{List, [], _∷_}
 use mathlib.Core.Path.{refl}
 use lib.Dec.{leb, eqb}
+use lib.ListN.{length}
 use Rattle.laws.specs.Multiples.{lcm}
 use Rattle.ranges.specs.Limits
 use Rattle.refusals.specs.Refusals.{Reading}
 use Rattle.refusals.specs.declared.Refusal.the-variants.{SpanTooLong}
-use Rattle.formats.specs.Formats.{_>>=_, done, word, passing, tested, times, end}
+use Rattle.formats.specs.Formats.{_>>=_, done, word, passing, tested, times, unlessEnded, end}
 use Rattle.formats.specs.Taking.{Taken, refused, taken, between}
 use Rattle.formats.specs.Written.{Format}
 use Rattle.instance.specs.Node.{Problem, noLevel, spanFrom}
@@ -68,13 +69,13 @@ period span = tested (word 1 Limits.mostPeriod) (λ p. leb (lcm span p) Limits.m
 unfoldable pub isPenalty : ℕ → Bool
 isPenalty w = between 1 Limits.mostPenalty w || eqb w Limits.mayNotBeRefused
 
--- a task, after tasks of this span
+-- a task, after tasks of this span; until a deadline is read it is due when its period ends
 unfoldable pub task : ℕ → SiteFormat Task
 task span = do
   p ← period span
   cycles ← word 1 Limits.mostCycles
   penalty ← passing isPenalty
-  done (record { period = p; cycles = cycles; penalty = penalty })
+  done (record { period = p; cycles = cycles; penalty = penalty; deadline = p })
 
 -- "tasks | 0 to 12"
 unfoldable pub tasks : SiteFormat (List Task)
@@ -82,14 +83,47 @@ tasks = do
   count ← word 0 Limits.mostTasks
   times (λ before. task (spanFrom 1 before)) count []
 
+-- the same task with another deadline
+abbrev pub dueWithin : ℕ → Task → Task
+dueWithin d t = record { period = t .period; cycles = t .cycles; penalty = t .penalty; deadline = d }
+
+-- (c) "each deadline from 1 to the task's period"
+unfoldable pub withDeadline : Task → SiteFormat Task
+withDeadline t = do
+  d ← word 1 (t .period)
+  done (dueWithin d t)
+
+unfoldable pub withDeadlines : List Task → SiteFormat (List Task)
+withDeadlines [] = done []
+withDeadlines (t ∷ ts) = do
+  due ← withDeadline t
+  others ← withDeadlines ts
+  done (due ∷ others)
+
+-- "its count 0 or the number of tasks"
+unfoldable pub isDeadlineCount : ℕ → ℕ → Bool
+isDeadlineCount n count = eqb count 0 || eqb count n
+
+-- "After the tasks comes a deadlines section": the tasks with their deadlines. "A count of 0 means deadline equals period",
+-- as the tasks have it before.
+unfoldable pub deadlineSection : List Task → SiteFormat (List Task)
+deadlineSection ts = do
+  count ← passing (isDeadlineCount (length ts))
+  cond (eqb count 0) (done ts) (withDeadlines ts)
+
+-- "A list that ends after the tasks .. means deadline equals period."
+unfoldable pub deadlines : List Task → SiteFormat (List Task)
+deadlines ts = unlessEnded ts (deadlineSection ts)
+
 -- "Its sections stand in a fixed order, each after its count", and no word is left over
 unfoldable pub siteFile : SiteFormat Problem
 siteFile = do
   s ← settings
   ls ← levels
   ts ← tasks
+  due ← deadlines ts
   nothing ← end
-  done (record { weights = s .weights; cores = s .cores; idle = s .idle; levels = ls; tasks = ts })
+  done (record { weights = s .weights; cores = s .cores; idle = s .idle; levels = ls; tasks = due })
 
 abbrev pub readingOf : Taken Problem → Reading Problem
 readingOf (refused r) = Reading.refused r

@@ -1,7 +1,7 @@
 -- Reading accepts exactly the words that write valid instances, each as the instance that they write.
 use Prim.Native.Nat.{ℕ, suc}
-use mathlib.Core.Path.{_≡_, ap}
-use mathlib.Core.List.{List, [], _∷_, _++_, append-assoc, append-nil}
+use mathlib.Core.Path.{_≡_, refl, ap, _∙_}
+use mathlib.Core.List.{List, [], _∷_, _++_, append-assoc}
 use native.Mathlib.Omega.{arith}
 use Rattle.ranges.specs.Limits
 use Rattle.refusals.specs.Refusals.{accepted}
@@ -9,26 +9,34 @@ use Rattle.formats.specs.Taking.{Taken}
 use Rattle.formats.specs.TimesLaws.{times-written, many-written}
 use Rattle.formats.specs.Written.{Outcome, took, turned, then, nothing}
 use Rattle.formats.specs.Written as Written
+use Rattle.instance.specs.DeadlinesWritten.{deadlines-written, valid-deadlines}
 use Rattle.instance.specs.LevelsWritten.{rising-in-range, rising-rises, levels-rise, rising-levels, valid-speeds, valid-powers}
 use Rattle.instance.specs.Node.{Problem, levelCount, taskCount, noLevel, span, spanFrom}
+use Rattle.instance.specs.PeriodEnds.{period-ends-count, same-count, same-span, same-words}
 use Rattle.instance.specs.RangeLaws.{between-in-range, in-range-between}
 use Rattle.instance.specs.SettingsWritten.{IdleWritten, absent, given, idle-written, idle-at-most, settings-written}
 use Rattle.instance.specs.SiteFile.{settings, level, lastAfter, levels, task, tasks, siteFile, readingOf, problemOf}
 use Rattle.instance.specs.TasksWritten.{tasks-written, valid-tasks}
-use Rattle.instance.specs.Valid.{InRange, Valid, wordsOfLevels, wordsOfTasks, three, four, Writes, sections}
+use Rattle.instance.specs.Valid.{InRange, Valid, wordsOfLevels, wordsOfTasks, three, four, WritesDeadlines, Writes, sections}
 
 record Read (p : Problem) (words : List ℕ) : Type 0 where
   valid : Valid p
   written : Writes p words
 
-writes-sections : {p : Problem} {settings-count level-count task-count : ℕ} {idle-words level-words task-words : List ℕ} →
+together : (p : Problem) (deadlines : List ℕ) →
+    wordsOfLevels (p .levels) ++ taskCount p ∷ wordsOfTasks (p .tasks) ++ deadlines
+    ≡ wordsOfLevels (p .levels) ++ (taskCount p ∷ (wordsOfTasks (p .tasks) ++ deadlines))
+together p = append-assoc (wordsOfLevels (p .levels)) (taskCount p ∷ wordsOfTasks (p .tasks))
+
+writes-sections : {p : Problem} {settings-count level-count task-count : ℕ} {idle-words level-words task-words deadline-words : List ℕ} →
     IdleWritten (p .idle) (level-count ∷ level-words) settings-count idle-words → levelCount p ≡ level-count →
-    level-words ≡ wordsOfLevels (p .levels) ++ task-count ∷ task-words → taskCount p ≡ task-count → task-words ≡ wordsOfTasks (p .tasks) ++ [] →
+    level-words ≡ wordsOfLevels (p .levels) ++ task-count ∷ task-words → taskCount p ≡ task-count →
+    task-words ≡ wordsOfTasks (p .tasks) ++ deadline-words → WritesDeadlines (p .tasks) deadline-words →
     Writes p (settings-count ∷ p .weights .energy ∷ p .weights .penalty ∷ p .cores ∷ idle-words)
-writes-sections {p} (absent none) level-count levels task-count tasks =
-    rw (← level-count, levels, ← task-count, tasks, append-nil (wordsOfTasks (p .tasks))) (sections (three none))
-writes-sections {p} (given most) level-count levels task-count tasks =
-    rw (← level-count, levels, ← task-count, tasks, append-nil (wordsOfTasks (p .tasks))) (sections four)
+writes-sections {p} {deadline-words} (absent none) level-count levels task-count tasks deadlines =
+    rw (← level-count, levels, ← task-count, tasks, ← together p deadline-words) (sections (three none) deadlines)
+writes-sections {p} {deadline-words} (given most) level-count levels task-count tasks deadlines =
+    rw (← level-count, levels, ← task-count, tasks, ← together p deadline-words) (sections four deadlines)
 
 site-file-read : {p : Problem} {words : List ℕ} (rest : List ℕ) → siteFile .Writes p words rest → Read p words
 unfolding siteFile settings levels tasks lastAfter spanFrom span
@@ -39,13 +47,15 @@ site-file-read rest
     (then (Written.word level-count l-passes) some-levels)
     (then
     (then (Written.word task-count n-passes) some-tasks)
-    (then Written.EndWrites.ended nothing)))) =
+    (then some-deadlines (then Written.EndWrites.ended nothing))))) =
     let ls = times-written (λ before. level (lastAfter noLevel before)) level-count [] some-levels in
     let ts = times-written (λ before. task (spanFrom 1 before)) task-count [] some-tasks in
     let rise = levels-rise (ls .many) in
     let spanned = tasks-written (ts .many) in
+    let dated = rw (ts .are) at (deadlines-written _ some-deadlines) in
     let idle = idle-written count (between-in-range t-passes) idle-words in
-    rw (ls .are, ts .are) (record {
+    let counts = same-count (dated .same) ∙ ts .count in
+    rw (ls .are) (record {
       valid =
           record {
             energy-weight = between-in-range e-passes;
@@ -60,28 +70,32 @@ site-file-read rest
                 };
             speed-rises = λ l below. rising-rises (rise .0 .speed-rises) l (suc l) (omega arith) below;
             power-rises = λ l below. rising-rises (rise .0 .power-rises) l (suc l) (omega arith) below;
-            task-count = rw (ts .count) (between-in-range n-passes .at-most);
-            task = spanned .task;
-            span-at-most = spanned .span-at-most (omega arith);
+            task-count = rw counts (between-in-range n-passes .at-most);
+            task = dated .task (spanned .task);
+            span-at-most = rw (same-span (dated .same) 1) (spanned .span-at-most (omega arith));
           };
-      written = writes-sections idle (ls .count) (rise .1) (ts .count) (spanned .written);
+      written =
+          writes-sections idle (ls .count) (rise .1) counts
+          (rw (same-words (dated .same)) (spanned .written))
+          (dated .written (spanned .due) refl);
     })
 
 site-file-writes : {p : Problem} {words : List ℕ} → Valid p → Writes p words → siteFile .Writes p words []
 unfolding siteFile levels tasks lastAfter spanFrom span
-site-file-writes {p} v (sections {settings = front} settings-words) =
+site-file-writes {p} v (sections {settings = front} {deadlines = back} settings-words deadline-words) =
     let task-count : InRange 0 Limits.mostTasks (taskCount p) = omega (arith, v .task-count) in
-    let ls = rising-levels [] (p .levels) (taskCount p ∷ wordsOfTasks (p .tasks)) (valid-speeds v) (valid-powers v) in
-    let ts = rw append-nil at (valid-tasks [] (p .tasks) [] (omega arith) (v .task) (v .span-at-most)) in
-    let together = append-assoc front (levelCount p ∷ wordsOfLevels (p .levels)) (taskCount p ∷ wordsOfTasks (p .tasks)) in
-    rw together
+    let ls = rising-levels [] (p .levels) (taskCount p ∷ wordsOfTasks (p .tasks) ++ back) (valid-speeds v) (valid-powers v) in
+    let ts = many-written (λ before. task (spanFrom 1 before)) (valid-tasks [] (p .tasks) back (omega arith) (v .task) (v .span-at-most)) in
+    let front-apart = append-assoc front (levelCount p ∷ wordsOfLevels (p .levels)) (taskCount p ∷ wordsOfTasks (p .tasks) ++ back) in
+    let back-apart = append-assoc (front ++ levelCount p ∷ wordsOfLevels (p .levels)) (taskCount p ∷ wordsOfTasks (p .tasks)) back in
+    rw (back-apart, front-apart)
     (then
     (settings-written v settings-words _)
     (then
     (then (Written.word _ (in-range-between (v .level-count))) (many-written (λ before. level (lastAfter noLevel before)) ls))
     (then
-    (then (Written.word _ (in-range-between task-count)) (many-written (λ before. task (spanFrom 1 before)) ts))
-    (then Written.EndWrites.ended nothing))))
+    (then (Written.word _ (in-range-between task-count)) (rw (period-ends-count (p .tasks)) at ts))
+    (then (valid-deadlines (p .tasks) (v .task) deadline-words) (then Written.EndWrites.ended nothing)))))
 
 accepted-read : (words : List ℕ) {p : Problem} → problemOf words ≡ accepted p → Read p words
 unfolding problemOf

@@ -3,21 +3,25 @@ use Prim.Native.Nat.{ℕ}
 use mathlib.Core.Path.{_≡_, sym, _∙_}
 use mathlib.Core.List.{List}
 use mathlib.Core.Logic.{_≢_}
+use lib.ListN.{take}
 use borrow.Author.Tests.{eq-eqb, ne-eqb}
 use Rattle.ranges.specs.Limits
 use Rattle.refusals.specs.Refusals.{refused}
 use Rattle.refusals.specs.declared.Refusal.{Refusal}
 use Rattle.refusals.specs.declared.Verdict.the-variants.{Accepted, Refused}
-use Rattle.formats.specs.CursorLaws.{from-start, gets-refused, gets-taken, and-then, gets-done, accepted-before}
+use Rattle.formats.specs.CursorLaws.{from-start, gets-refused, gets-taken, gets-written, and-then, gets-done, accepted-before}
 use Rattle.formats.specs.Cursors.{atStart, Gets, GetsWord}
 use Rattle.formats.specs.Taking.{takeEnd}
 use Rattle.formats.specs.declared.Cursor.{Cursor}
 use Rattle.formats.specs.declared.Got.{Got}
+use Rattle.instance.specs.DeadlinesWritten.{deadlines-written}
 use Rattle.instance.specs.Node.{Problem, span, stored}
 use Rattle.instance.specs.Outcomes.{instanceReadOf, instanceOutcome}
-use Rattle.instance.specs.Sections.{settingsIn, levelsIn, GetsLevels, tasksIn, GetsTasks}
-use Rattle.instance.specs.SiteFile.{idlePower, settings, siteFile, problemOf}
+use Rattle.instance.specs.PeriodEnds.{same-span}
+use Rattle.instance.specs.Sections.{settingsIn, levelsIn, GetsLevels, tasksIn, GetsTasks, GetsDeadlines}
+use Rattle.instance.specs.SiteFile.{idlePower, settings, deadlines, siteFile, problemOf}
 use Rattle.instance.specs.declared.Instance.{Instance}
+use Rattle.instance.specs.declared.deadlines.DeadlinesGot.{DeadlinesGot}
 use Rattle.instance.specs.declared.levels.LevelsGot.{LevelsGot}
 use Rattle.instance.specs.declared.site.SettingsGot.{SettingsGot}
 use Rattle.instance.specs.declared.tasks.TasksGot.{TasksGot}
@@ -43,16 +47,20 @@ unfolding settings
 settings-gets count energy penalty cores idle =
     and-then _ (count .gets) (and-then _ (energy .gets) (and-then _ (penalty .gets) (and-then _ (cores .gets) (and-then _ idle (gets-done _)))))
 
-module _ {words : List ℕ} {start end : Cursor} {s : SettingsGot} {l : LevelsGot} {t : TasksGot}
+module _ {words : List ℕ} {start end : Cursor} {s : SettingsGot} {l : LevelsGot} {t : TasksGot} {d : DeadlinesGot}
     (at-start : start ≡ atStart) (settings-gets : Gets words start (settings .take) (settingsIn s) (s .cursor))
     (levels-get : GetsLevels words (s .cursor) l) (tasks-get : GetsTasks words (l .cursor) t)
-    (end-gets : Gets words (t .cursor) takeEnd tt end) where
+    (deadlines-get : GetsDeadlines words (t .cursor) (deadlines (tasksIn t)) (t .count) d)
+    (end-gets : Gets words (d .cursor) takeEnd tt end) where
   abbrev read : Problem
-  read = record { weights = s .weights; cores = s .cores; idle = s .idle; levels = levelsIn l; tasks = tasksIn t }
+  read = record { weights = s .weights; cores = s .cores; idle = s .idle; levels = levelsIn l; tasks = take (t .count) (d .tasks) }
 
   site-gets : Gets words atStart (siteFile .take) read end
   unfolding siteFile
-  site-gets = rw (← at-start) (and-then _ settings-gets (and-then _ (levels-get .gets) (and-then _ (tasks-get .gets) (and-then _ end-gets (gets-done _)))))
+  site-gets =
+      rw (← at-start)
+      (and-then _ settings-gets
+      (and-then _ (levels-get .gets) (and-then _ (tasks-get .gets) (and-then _ (deadlines-get .gets) (and-then _ end-gets (gets-done _))))))
 
   pub site-refused : {r : Refusal} → end .verdict ≡ Refused r → instanceReadOf (refused r) ≡ instanceOutcome words
   unfolding instanceOutcome problemOf
@@ -68,12 +76,20 @@ module _ {words : List ℕ} {start end : Cursor} {s : SettingsGot} {l : LevelsGo
         levelcount = l .count;
         levels = l .levels;
         taskcount = t .count;
-        tasks = t .tasks;
+        tasks = d .tasks;
         span = t .span;
       }
 
+  -- deadlines leave the span as it is
+  span-is-read : end .verdict ≡ Accepted → t .span ≡ span read
+  unfolding span
+  span-is-read now =
+      let dated = accepted-before end-gets now in
+      let written = deadlines-written _ (gets-written (deadlines (tasksIn t)) (deadlines-get .gets) dated) in
+      tasks-get .spans (accepted-before (deadlines-get .gets) dated) ∙ sym (same-span (written .same) 1)
+
   held-is-stored : end .verdict ≡ Accepted → held ≡ stored read
-  unfolding stored span
+  unfolding stored
   held-is-stored now = λ i.
       record {
         weights = s .weights;
@@ -81,9 +97,9 @@ module _ {words : List ℕ} {start end : Cursor} {s : SettingsGot} {l : LevelsGo
         idle = s .idle;
         levelcount = sym (levels-get .filled .count) i;
         levels = levels-get .filled .is-padded i;
-        taskcount = sym (tasks-get .filled .count) i;
-        tasks = tasks-get .filled .is-padded i;
-        span = tasks-get .spans (accepted-before end-gets now) i;
+        taskcount = sym (deadlines-get .filled .count) i;
+        tasks = deadlines-get .filled .is-padded i;
+        span = span-is-read now i;
       }
 
   pub site-accepted : end .verdict ≡ Accepted → record { verdict = Accepted; instance = held } ≡ instanceOutcome words

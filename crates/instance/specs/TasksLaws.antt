@@ -1,51 +1,37 @@
 -- Code that takes the tasks: how it begins, goes on and ends.
-use Prim.Native.Nat.{ℕ, suc, _+_, _≤_, _<_, min}
-use mathlib.Core.Bool.{Bool, true, false, cond}
+use Prim.Native.Nat.{ℕ, _+_, _≤_, _<_, min}
 use mathlib.Core.Logic.{_≢_, inr}
 use mathlib.Core.Path.{_≡_, refl, ap}
-use mathlib.Core.List.{List, [], _∷_}
+use mathlib.Core.List.{List, []}
 use native.Mathlib.Omega.{arith}
 use lib.Dec.{leb}
 use borrow.Author.Tests.{leb-true}
 use lib.ListN.{take, set, replicate, drop}
 use Rattle.laws.specs.Multiples.{lcm}
 use Rattle.laws.specs.MultiplesLaws.{lcm-above-zero}
-use Rattle.laws.specs.PaddedLaws.{Filled, filled-none, filled-more, front-more}
+use Rattle.laws.specs.PaddedLaws.{filled-none, filled-more, front-more}
 use Rattle.ranges.specs.Limits
 use Rattle.refusals.specs.declared.Refusal.the-variants.{WordRange, SpanTooLong}
 use Rattle.refusals.specs.declared.Verdict.the-variants.{Accepted}
 use Rattle.formats.specs.CursorLaws.{and-then, gets-done, gets-tested, gets-other, accepted-before, passes-where-accepted, passed-is-kept, repeats-start, repeats-more, repeats-end}
 use Rattle.formats.specs.Cursors.{Gets, GetsWord, refusedUnless}
 use Rattle.formats.specs.Formats.{times}
-use Rattle.formats.specs.Taking.{between, takeWord, takeTested, refused, taken, continue}
+use Rattle.formats.specs.Taking.{takeWord}
+use Rattle.formats.specs.WordLaws.{passing-gets}
 use Rattle.formats.specs.declared.Cursor.{Cursor}
 use Rattle.formats.specs.declared.Got.{Got}
 use Rattle.instance.specs.Node.{noTask, spanFrom}
 use Rattle.instance.specs.RangeLaws.{in-range-between, in-range-is-penalty, penalty-in-range, other-is-penalty}
-use Rattle.instance.specs.Sections.{SpanWithinLimits, GetsTask, eachTask, TasksSoFar}
+use Rattle.instance.specs.Sections.{SpanWithinLimits, GetsTask, eachTask, TasksSoFar, TasksHeld}
 use Rattle.instance.specs.SiteFile.{isPenalty, period, task}
 use Rattle.instance.specs.SpanLaws.{span-of-more}
 use Rattle.instance.specs.declared.Task.{Task}
 use Rattle.instance.specs.declared.tasks.TaskGot.{TaskGot}
 
 -- a penalty is a word from 1 to that of a task that may not be refused, which is then tested
-penalty-is-tested : (at : ℕ) (words : List ℕ) →
-    takeTested (takeWord (between 1 Limits.mayNotBeRefused)) isPenalty WordRange at words ≡ takeWord isPenalty at words
-unfolding takeTested takeWord
-penalty-is-tested at [] = refl
-penalty-is-tested at (w ∷ words) = go (between 1 Limits.mayNotBeRefused w) (isPenalty w) refl refl
-  where
-    go : (within passes : Bool) → between 1 Limits.mayNotBeRefused w ≡ within → isPenalty w ≡ passes →
-        continue (cond within (taken w (suc at) words) (refused (WordRange at))) (λ v next rest. cond (isPenalty v) (taken v next rest) (refused (WordRange at)))
-        ≡ cond passes (taken w (suc at) words) (refused (WordRange at))
-    go true passes within is = rw is
-    go false true within is = let z : _≡_ {A = ℕ} 0 1 = cc (in-range-between (penalty-in-range is)) in absurd (omega arith)
-    go false false within is = refl
-
 module _ {all : List ℕ} {c : Cursor} {got : Got} (word : GetsWord all c 1 Limits.mayNotBeRefused got) where
   penalty-gets : Gets all c (takeWord isPenalty) (got .value) (refusedUnless (isPenalty (got .value)) (WordRange (c .at)) (got .cursor))
-  penalty-gets =
-      gets-other (takeWord isPenalty) (λ none. penalty-is-tested (c .at) (drop (c .at) all)) (gets-tested isPenalty WordRange (word .gets))
+  penalty-gets = passing-gets 1 Limits.mayNotBeRefused isPenalty (λ w is. in-range-between (penalty-in-range is)) word
 
   pub must-penalty-gets : got .value ≡ Limits.mayNotBeRefused → Gets all c (takeWord isPenalty) Limits.mayNotBeRefused (got .cursor)
   must-penalty-gets must =
@@ -67,7 +53,7 @@ module _ (span : ℕ) {all : List ℕ} {c spanned : Cursor} {longer : ℕ} {firs
   unfolding period
   period-gets = rw (spanned-is, longer-is) (gets-tested (λ p. leb (lcm span p) Limits.mostSpan) SpanTooLong (first-gets .gets))
 
-  pub task-gets : Gets all c (task span .take) (record { period = first .value; cycles = cycles .value; penalty = penalty .value }) (penalty .cursor)
+  pub task-gets : Gets all c (task span .take) (record { period = first .value; cycles = cycles .value; penalty = penalty .value; deadline = first .value }) (penalty .cursor)
   unfolding task
   task-gets = and-then _ period-gets (and-then _ (cycles-gets .gets) (and-then _ penalty-gets (gets-done _)))
 
@@ -120,8 +106,8 @@ module _ {all : List ℕ} {count : ℕ} {start c : Cursor} {array : List Task} {
     pub tasks-end : Gets all start (times eachTask count [] .take) (take count array) c
     tasks-end = rw all-are at (repeats-end eachTask (so-far .repeats) all-taken)
 
-    pub tasks-filled : Filled Limits.mostTasks noTask array count
-    tasks-filled = rw all-are at (so-far .filled)
+    pub tasks-held : TasksHeld array count
+    tasks-held = record { count-within = so-far .count-within; filled = rw all-are at (so-far .filled) }
 
     pub tasks-spans : c .verdict ≡ Accepted → span ≡ spanFrom 1 (take count array)
     tasks-spans = rw all-are at (so-far .spans)

@@ -1,11 +1,13 @@
--- Document 01's section 'Site file', with (a) of document 02, as what holds of an instance, and the words that the instance is written in. Nothing
--- here reads: that what is read is valid and written so, and that whatever is valid and written so is read, are laws.
+-- Document 01's section 'Site file', with (a) and (c) of document 02, as what holds of an instance, and the words that the
+-- instance is written in. Nothing here reads: that what is read is valid and written so, and that whatever is valid and
+-- written so is read, are laws.
 use Prim.Native.Nat.{ℕ, suc, _≤_, _<_}
 use mathlib.Core.Path.{_≡_}
 use mathlib.Core.Logic.{_⊎_}
 use mathlib.Core.List.{List, [], _∷_, _++_}
+use lib.ListN.{length, getD}
 use Rattle.ranges.specs.Limits
-use Rattle.instance.specs.Node.{Problem, levelCount, taskCount, levelAt, taskAt, span}
+use Rattle.instance.specs.Node.{Problem, levelCount, taskCount, levelAt, taskAt, noTask, span}
 use Rattle.instance.specs.declared.Level.{Level}
 use Rattle.instance.specs.declared.Task.{Task}
 
@@ -24,6 +26,8 @@ pub record ValidTask (t : Task) : Type 0 where
   pub period : InRange 1 Limits.mostPeriod (t .period)
   pub cycles : InRange 1 Limits.mostCycles (t .cycles)
   pub penalty : InRange 1 Limits.mostPenalty (t .penalty) ⊎ (t .penalty ≡ Limits.mayNotBeRefused)
+  -- (c) "each deadline from 1 to the task's period"
+  pub deadline : InRange 1 (t .period) (t .deadline)
 
 pub record Valid (p : Problem) : Type 0 where
   -- "energy weight 1 to 1,000; penalty weight 1 to 1,000; M 1 to 4"
@@ -58,7 +62,22 @@ pub data WritesSettings (p : Problem) : List ℕ → Type 0 where
       WritesSettings p (Limits.settingsWithoutIdle ∷ p .weights .energy ∷ p .weights .penalty ∷ p .cores ∷ [])
   four : WritesSettings p (Limits.settingsWithIdle ∷ p .weights .energy ∷ p .weights .penalty ∷ p .cores ∷ p .idle ∷ [])
 
+unfoldable pub wordsOfDeadlines : List Task → List ℕ
+wordsOfDeadlines [] = []
+wordsOfDeadlines (t ∷ ts) = t .deadline ∷ wordsOfDeadlines ts
+
+-- "deadline equals period"
+pub record DueAtPeriodEnd (ts : List Task) : Type 0 where
+  pub each : (i : ℕ) → i < length ts → getD ts i noTask .deadline ≡ getD ts i noTask .period
+
+-- (c) "A list that ends after the tasks, or a count of 0, means deadline equals period": such tasks are written in three
+-- ways, any others in one.
+pub data WritesDeadlines (ts : List Task) : List ℕ → Type 0 where
+  ended : DueAtPeriodEnd ts → WritesDeadlines ts []
+  counted-0 : DueAtPeriodEnd ts → WritesDeadlines ts (0 ∷ [])
+  each-task : WritesDeadlines ts (length ts ∷ wordsOfDeadlines ts)
+
 -- Which lists of words write an instance. "Its sections stand in a fixed order, each after its count."
 pub data Writes (p : Problem) : List ℕ → Type 0 where
-  sections : {settings : List ℕ} → WritesSettings p settings →
-      Writes p (settings ++ levelCount p ∷ wordsOfLevels (p .levels) ++ taskCount p ∷ wordsOfTasks (p .tasks))
+  sections : {settings deadlines : List ℕ} → WritesSettings p settings → WritesDeadlines (p .tasks) deadlines →
+      Writes p (settings ++ levelCount p ∷ wordsOfLevels (p .levels) ++ taskCount p ∷ wordsOfTasks (p .tasks) ++ deadlines)

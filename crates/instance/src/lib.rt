@@ -1,4 +1,5 @@
 // What the words of a site's file say: an instance, or a refusal.
+mod deadlines;
 mod levels;
 mod multiples;
 mod site;
@@ -13,11 +14,13 @@ pub struct Level {
     pub power: u32,
 }
 
-// A task: its period in ticks, the cycles of a job, and the penalty for each job not run.
+// A task: its period in ticks, the cycles of a job, the penalty for each job not run, and the ticks from a job's release to its
+// due tick.
 pub struct Task {
     pub period: u32,
     pub cycles: u32,
     pub penalty: u32,
+    pub deadline: u32,
 }
 
 pub struct Weights {

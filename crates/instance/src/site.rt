@@ -4,6 +4,7 @@ use crate::InstanceRead;
 use crate::Level;
 use crate::Task;
 use crate::Weights;
+use crate::deadlines::deadlines_next;
 use crate::levels::levels_next;
 use crate::tasks::tasks_next;
 use formats::Cursor;
@@ -81,13 +82,15 @@ fn no_instance(why: Refusal) -> InstanceRead
                 period: 0,
                 cycles: 0,
                 penalty: 0,
+                deadline: 0,
             }; ranges::MOST_TASKS as usize],
             span: 0,
         },
     }
 }
 
-// The instance that the words are, or why they are none: the settings, the levels, the tasks, and nothing more.
+// The instance that the words are, or why they are none: the settings, the levels, the tasks, their
+// deadlines where the list goes on, and nothing more.
 pub fn read_instance(words: &[u32]) -> InstanceRead
     ensures { λ r. ⌜ r ≡ instanceOutcome (now (words .entry)) ⌝ }
     ensures promise { λ r. ⌜ ReadingEnds (now (words .entry)) (r .verdict) ⌝ }
@@ -95,14 +98,17 @@ pub fn read_instance(words: &[u32]) -> InstanceRead
     let settings = settings_next(words, cursor_at_start());
     let levelsection = levels_next(words, settings.cursor);
     let tasksection = tasks_next(words, levelsection.cursor);
-    let end = end_next(words, tasksection.cursor);
+    let undated = tasksection.tasks;
+    let taskcount = tasksection.count;
+    let dated = deadlines_next(words, tasksection.cursor, undated, taskcount);
+    let end = end_next(words, dated.cursor);
     let verdict = end.verdict;
     if let Verdict::Refused(why) = verdict {
         return no_instance(why);
     }
     let weights = settings.weights;
     let levels = levelsection.levels;
-    let tasks = tasksection.tasks;
+    let tasks = dated.tasks;
     InstanceRead {
         verdict: Verdict::Accepted,
         instance: Instance {
@@ -111,7 +117,7 @@ pub fn read_instance(words: &[u32]) -> InstanceRead
             idle: settings.idle,
             levelcount: levelsection.count,
             levels,
-            taskcount: tasksection.count,
+            taskcount,
             tasks,
             span: tasksection.span,
         },

@@ -85,6 +85,7 @@ fn task_next(words: &[u32], cursor: Cursor, span: u32) -> TaskGot
             period: period.value,
             cycles: cycles.value,
             penalty: penalty.value,
+            deadline: period.value,
         },
         span: limited,
         cursor: after,
@@ -101,6 +102,7 @@ pub(crate) fn tasks_next(words: &[u32], cursor: Cursor) -> TasksGot
         period: 0,
         cycles: 0,
         penalty: 0,
+        deadline: 0,
     }; ranges::MOST_TASKS as usize];
     let mut span: u32 = 1;
     let mut i: usize = 0;

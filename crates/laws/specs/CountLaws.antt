@@ -1,13 +1,14 @@
 -- Laws of counts.
-use Prim.Native.Nat.{ℕ, zero, suc, _+_, _*_, _≤_, _<_, zero-le}
+use Prim.Native.Nat.{ℕ, zero, suc, _+_, _-_, _*_, _≤_, _<_, zero-le}
 use mathlib.Core.Bool.{Bool, true, false, cond, not}
 use mathlib.Core.Logic.{_⊎_, inl, inr}
-use mathlib.Core.Path.{_≡_, refl, _∙_}
+use mathlib.Core.Path.{_≡_, refl, ap, _∙_}
 use native.Mathlib.Nat.{le-step, le-refl, le-dest, add-zero, add-suc, mul-le-mul-right, suc-mul, zero-mul}
 use native.Mathlib.Omega.{arith}
 use lib.Dec.{eqb}
 use borrow.Author.Tests.{eqb-true, eq-eqb, ne-eqb}
 use Rattle.laws.specs.Search.{count}
+use Rattle.laws.specs.SearchFacts.{count-of-none}
 use Rattle.laws.specs.Sums.{sum}
 use Rattle.laws.specs.SumLaws.{sum-add, sum-zero}
 use Rattle.laws.specs.SumOrderLaws.{sum-of-one-term}
@@ -25,6 +26,21 @@ count-is-sum p (suc n) = omega (arith, count-is-sum p n)
 
 pub count-mono : (p : ℕ → Bool) (m n : ℕ) → m ≤ n → count p m ≤ count p n
 count-mono p m n l = let rest = le-dest l in rw (← rest .1) (rw count-split (omega arith))
+
+pub none-counted : (p : ℕ → Bool) (n : ℕ) → count p n ≡ 0 → (k : ℕ) → k < n → p k ≡ false
+unfolding count
+none-counted p n none k l = go (p k) refl (count-mono p (suc k) n l)
+  where
+    go : (b : Bool) → p k ≡ b → count p k + cond (p k) 1 0 ≤ count p n → p k ≡ false
+    go true e some = let one = rw e at some in absurd (omega arith)
+    go false e some = e
+
+-- none passes from d on
+pub count-of-front : (q : ℕ → Bool) (d p : ℕ) → d ≤ p → ((x : ℕ) → d ≤ x → x < p → q x ≡ false) → count q p ≡ count q d
+count-of-front q d p l none =
+    let whole : d + (p - d) ≡ p = omega arith in
+    let after : count (λ x. q (d + x)) (p - d) ≡ 0 = count-of-none _ _ (λ x h. none (d + x) (omega arith) (omega arith)) in
+    omega (arith, ap (count q) whole, count-split q d (p - d))
 
 -- m windows of length d, one in each p, all before x: if each has c or more, all have m times c or more
 pub windows-le-count : (q : ℕ → Bool) (p d c m x : ℕ) → d ≤ p → ((j : ℕ) → j < m → j * p + d ≤ x) →

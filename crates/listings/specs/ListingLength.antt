@@ -33,7 +33,8 @@ use Rattle.plan_rules.specs.Quantities.{choiceAt, isRefused, coreOf, levelOf, j
 use Rattle.prices.specs.Prices.{priceOf}
 use Rattle.dispatch.specs.Rows.{CoreTasks, slotOf}
 use Rattle.tables.specs.TableLaws.{slotAt-tableOf}
-use Rattle.tables.specs.Tables.{coreTasks, tableOf, slotAt}
+use Rattle.plan_rules.specs.CoreOfPlan.{coreTasks}
+use Rattle.tables.specs.Tables.{tableOf, slotAt}
 use Rattle.planner.specs.BestPlanLaws.{best-plan-passes}
 use Rattle.planner.specs.CostBounds.{passing-cost-below}
 use Rattle.planner.specs.Planning.{bestPlan}

@@ -1,27 +1,20 @@
 -- Which plans may be given, from the fields of the struct that holds the problem, test by test as the code makes them.
 use Prim.Native.Nat.{ℕ, _*_, _≤_}
-use mathlib.Core.Bool.{Bool, true, false, not, _&&_, _||_}
+use mathlib.Core.Bool.{Bool, true, false, _&&_, _||_}
 use mathlib.Core.List.{List}
-use mathlib.Core.Path.{_≡_, refl, ap, ap₂, _∙_}
+use mathlib.Core.Path.{_≡_, refl, ap, ap₂}
 use native.Mathlib.Nat.{mul-le-mul}
 use native.Mathlib.Omega.{arith}
-use lib.Dec.{leb, ltb, eqb}
-use borrow.Author.Tests.{lt-ltb, le-ltb, leb-true, leb-false, eq-eqb, ne-eqb}
-use Rattle.instance.specs.Held.{problemIn, Sound, held-levelcount, held-span}
+use lib.Dec.{ltb, eqb}
+use borrow.Author.Tests.{le-ltb, eq-eqb, ne-eqb}
+use Rattle.instance.specs.Held.{problemIn, Sound, held-levelcount}
 use Rattle.ranges.specs.Limits.{mostCores, mostLevels, mayNotBeRefused}
-use Rattle.instance.specs.Node.{taskAt, span}
+use Rattle.instance.specs.Node.{taskAt}
 use Rattle.instance.specs.declared.Instance.{Instance}
 use Rattle.instance.specs.declared.Task.{Task}
 use Rattle.plan_rules.specs.HeldQuantities.{level-count-at-most}
-use Rattle.plan_rules.specs.Plans.{isMust, mostChoice, badChoice, fits}
-use Rattle.plan_rules.specs.Quantities.{choiceAt, coreLoad}
-
-above-is-not-at-most : (a b : ℕ) → ltb a b ≡ not (leb b a)
-above-is-not-at-most a b = go (leb b a) refl
-  where
-    go : (at-most : Bool) → leb b a ≡ at-most → ltb a b ≡ not at-most
-    go true t = le-ltb a b (leb-true b a t)
-    go false t = lt-ltb a b (leb-false b a t)
+use Rattle.plan_rules.specs.Plans.{isMust, mostChoice, badChoice}
+use Rattle.plan_rules.specs.Quantities.{choiceAt}
 
 or-nothing : (a : Bool) → a ≡ a || false
 or-nothing true = refl
@@ -55,9 +48,3 @@ module _ (inst : Instance) (s : Sound inst) where
   held-bad-choice plan i task same =
       ap₂ (λ (most penalty : ℕ). ltb most (choiceAt plan i) || (eqb (choiceAt plan i) 0 && eqb penalty mayNotBeRefused)) held-most-choice
       (ap (λ (t : Task). t .penalty) same)
-
-  pub load-above-span-does-not-fit : (plan : List ℕ) (k load : ℕ) → load ≡ coreLoad (problemIn inst) plan k →
-      ltb (inst .span) load ≡ not (fits (problemIn inst) plan k)
-  unfolding fits
-  load-above-span-does-not-fit plan k load e =
-      ap₂ ltb (held-span inst s) e ∙ above-is-not-at-most (span (problemIn inst)) (coreLoad (problemIn inst) plan k)

@@ -1,9 +1,11 @@
 pub mod Quantities
 pub mod Windows
+pub mod CoreOfPlan
 pub mod Plans
 pub mod AllowedPlans
 pub mod AllowedPlanLaws
 pub mod PlanLaws
+pub mod FitLaws
 pub mod KeepsLaws
 pub mod RefusalLaws
 pub mod HeldQuantities
@@ -12,3 +14,4 @@ pub mod HeldPlans
 pub mod KeptColumns
 pub mod KeptColumnLaws
 pub mod KeptSumLaws
+pub mod KeptDemandLaws

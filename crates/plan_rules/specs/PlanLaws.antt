@@ -1,17 +1,19 @@
 -- What choices name, and what a plan that passes has.
 use Prim.Native.Nat.{ℕ, suc, pred, _+_, _*_, _<_, _≤_}
+use mathlib.Core.Bool.{true, not}
 use mathlib.Core.List.{List}
+use mathlib.Core.Logic.{_↔_}
 use mathlib.Core.Path.{_≡_, ap}
 use native.Mathlib.Nat.{div-add-mod', div-lt-iff-lt-mul, mod-lt, pos-of-ne-zero}
 use native.Mathlib.Omega.{arith}
 use lib.Arith.{digits-div, digits-mod}
-use borrow.Author.Tests.{leb-true, not-false}
-use Rattle.instance.specs.Node.{Problem, levelCount, span}
+use borrow.Author.Tests.{not-false}
+use Rattle.instance.specs.Node.{Problem, levelCount}
 use Rattle.refusals.specs.declared.Verdict.the-variants.{Accepted}
 use Rattle.plan_rules.specs.AllowedPlanLaws.{choices-pass}
 use Rattle.plan_rules.specs.AllowedPlans.{AllowedPlan}
 use Rattle.plan_rules.specs.Plans.{mostChoice, fits, coresFit, planPasses}
-use Rattle.plan_rules.specs.Quantities.{choiceAt, coreOf, levelOf, coreLoad}
+use Rattle.plan_rules.specs.Quantities.{choiceAt, coreOf, levelOf}
 use Rattle.refusals.specs.VerdictLaws.{andThen-accepts, none-refused}
 
 -- "0 refused, else (core − 1) × H + level", with core and level counted from 0 as here: such a choice names that core and
@@ -39,16 +41,20 @@ choice-in-range-names p plan i kept within =
       its-number = omega (arith, div-add-mod' (pred (choiceAt plan i)) (levelCount p));
     }
 
+module _ (p : Problem) (plan : List ℕ) where
+  pub cores-fit-iff : (coresFit p plan ≡ Accepted) ↔ ((k : ℕ) → k < p .cores → fits p plan k ≡ true)
+  unfolding coresFit
+  cores-fit-iff = (
+    λ e k h. not-false _ (none-refused _ _ _ .0 e k h),
+    λ fit. none-refused _ _ _ .1 (λ k h. ap not (fit k h)),
+  )
+
 pub record PassingPlan (p : Problem) (plan : List ℕ) : Type 0 where
   pub allowed : AllowedPlan p plan
-  -- "A core fits when its kept tasks' jobs × ticks add up to at most L."
-  pub load-at-most : (k : ℕ) → k < p .cores → coreLoad p plan k ≤ span p
+  pub core-fits : (k : ℕ) → k < p .cores → fits p plan k ≡ true
 
 pub passing-plan : (p : Problem) (plan : List ℕ) → planPasses p plan ≡ Accepted → PassingPlan p plan
-unfolding planPasses coresFit fits
+unfolding planPasses
 passing-plan p plan e =
     let both = andThen-accepts _ _ .0 e in
-    record {
-      allowed = choices-pass p plan .0 (both .0);
-      load-at-most = λ k h. leb-true _ _ (not-false _ (none-refused _ _ _ .0 (both .1) k h));
-    }
+    record { allowed = choices-pass p plan .0 (both .0); core-fits = cores-fit-iff p plan .0 (both .1) }

@@ -2,7 +2,7 @@
 use Prim.Native.Nat.{ℕ, suc, min, _*_}
 use mathlib.Core.Bool.{Bool, cond, not, _&&_, _||_}
 use mathlib.Core.List.{List}
-use lib.Dec.{leb, ltb, eqb}
+use lib.Dec.{ltb, eqb}
 use lib.ListN.{length}
 use Rattle.laws.specs.Search.{first}
 use Rattle.ranges.specs.Limits.{mayNotBeRefused}
@@ -11,7 +11,9 @@ use Rattle.refusals.specs.Refusals.{_andThen_}
 use Rattle.refusals.specs.declared.Refusal.the-variants.{GivenPlan, CoreOverloaded}
 use Rattle.refusals.specs.declared.Verdict.{Verdict}
 use Rattle.refusals.specs.declared.Verdict.the-variants.{Accepted, Refused}
-use Rattle.plan_rules.specs.Quantities.{choiceAt, isRefused, coreLoad}
+use Rattle.edf.specs.Demand.{meetsDemand}
+use Rattle.plan_rules.specs.CoreOfPlan.{coreTasks}
+use Rattle.plan_rules.specs.Quantities.{choiceAt, isRefused}
 
 -- "a task that may not be refused"
 unfoldable pub isMust : Problem → ℕ → Bool
@@ -34,9 +36,10 @@ choicesPass p plan =
     (cond (ltb i n) (Refused (GivenPlan i)) Accepted)
     (Refused (GivenPlan (min (length plan) n)))
 
--- "A core fits when its kept tasks' jobs × ticks add up to at most L."
+-- (c) "A core fits exactly when some row gives each job its ticks in time": that is a theorem (`drawings/specs/FitLaws`). The test
+-- is of what is due by each tick of the span.
 unfoldable pub fits : Problem → List ℕ → ℕ → Bool
-fits p plan k = leb (coreLoad p plan k) (span p)
+fits p plan k = meetsDemand (coreTasks p plan k) (span p)
 
 -- 8: the number of the lowest core that does not fit
 unfoldable pub coresFit : Problem → List ℕ → Verdict

@@ -3,9 +3,9 @@ use Prim.Native.Nat.{ℕ, _+_, _*_}
 use Rattle.instance.specs.Node.{Problem, taskAt}
 use Rattle.instance.specs.declared.Task.{Task}
 
--- "Job j (from 0) is released at j·p and due at (j+1)·p": from release to due tick, the relative deadline
+-- (c) "The due tick is release plus deadline everywhere": from release to due tick, the relative deadline
 abbrev pub window : Task → ℕ
-window t = t .period
+window t = t .deadline
 
 abbrev pub releaseOf : Problem → ℕ → ℕ → ℕ
 releaseOf p i j = j * taskAt p i .period

@@ -1,6 +1,6 @@
 // Which plans may be given: the refusals 7 and 8.
 use crate::columns::kept_tasks;
-use crate::quantities::of_all_jobs;
+use demand::unmet_tick;
 use instance::Instance;
 use ranges::MAY_NOT_BE_REFUSED;
 use refusals::Refusal;
@@ -13,8 +13,7 @@ ghost use lib.ListN.{length};
 ghost use Rattle.ranges.specs.Limits.{mayNotBeRefused};
 ghost use Rattle.instance.specs.Held.{Sound, problemIn};
 ghost use Rattle.instance.specs.Node.{taskCount};
-ghost use Rattle.plan_rules.specs.Plans.{choicesPass, coresFit, planPasses};
-ghost use Rattle.plan_rules.specs.Quantities.{coreLoad};
+ghost use Rattle.plan_rules.specs.Plans.{choicesPass, coresFit, fits, planPasses};
 
 // Whether a choice is above every choice that names a core and a level, or refuses a task that may not be refused.
 fn is_bad_choice(choice: u32, penalty: u32, most: u32) -> bool
@@ -55,20 +54,18 @@ pub fn choices_pass(inst: Instance, plan: &[u32]) -> Verdict
     Verdict::Accepted
 }
 
-// What the tasks that the plan keeps on core k, counted from 0, ask of it over a span.
-fn core_load(inst: Instance, plan: &[u32], k: usize) -> u64
+// Whether core k, counted from 0, fits.
+fn core_fits(inst: Instance, plan: &[u32], k: usize) -> bool
     requires { ⌜ Sound inst ⌝ }
     requires { ⌜ length (now plan) ≡ taskCount (problemIn inst) ⌝ }
-    ensures { λ r. ⌜ r ≡ coreLoad (problemIn inst) (now (plan .entry)) k ⌝ }
+    ensures { λ r. ⌜ r ≡ fits (problemIn inst) (now (plan .entry)) k ⌝ }
 {
     let kept = kept_tasks(inst, plan, k);
-    let mut load = 0;
-    let mut j = 0;
-    while j < kept.count {
-        load += of_all_jobs(inst.span, kept.periods[j], kept.ticks[j]);
-        j += 1;
-    }
-    load
+    let n = kept.count;
+    let periods = kept.periods;
+    let windows = kept.windows;
+    let ticks = kept.ticks;
+    unmet_tick(inst.span, &periods[..n], &windows[..n], &ticks[..n]) == 0
 }
 
 fn cores_fit(inst: Instance, plan: &[u32]) -> Verdict
@@ -79,8 +76,7 @@ fn cores_fit(inst: Instance, plan: &[u32]) -> Verdict
     let cores = inst.cores as usize;
     let mut k = 0;
     while k < cores {
-        let load = core_load(inst, plan, k);
-        if (inst.span as u64) < load {
+        if !core_fits(inst, plan, k) {
             return Verdict::Refused(Refusal::CoreOverloaded(k + 1));
         }
         k += 1;

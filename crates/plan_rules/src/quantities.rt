@@ -39,7 +39,7 @@ pub fn of_all_jobs(span: u32, period: u32, each: u32) -> u64
 pub fn window_of(task: Task) -> u32
     ensures { λ r. ⌜ r ≡ window task ⌝ }
 {
-    task.period
+    task.deadline
 }
 
 // The core that a choice names, counted from 0.

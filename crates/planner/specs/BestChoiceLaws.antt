@@ -7,7 +7,7 @@ use native.Mathlib.Nat.{mul-zero}
 use native.Mathlib.Omega.{arith}
 use Rattle.laws.specs.Lists.{onto}
 use Rattle.instance.specs.Node.{Problem, taskCount, levelCount, span}
-use Rattle.instance.specs.Valid.{Valid}
+use Rattle.instance.specs.Valid.{Valid, DueAtPeriodEnd}
 use Rattle.assignment.specs.AlikeLaws.{Alike, cost-alike, best-alike}
 use Rattle.assignment.specs.Assignment.{Options, Best, totalCost}
 use Rattle.assignment.specs.Keys.{digits}
@@ -63,7 +63,7 @@ module _ (p : Problem) where
       after ≡ onto (digits (taskCount p) (worth .key)) before → Chosen p before after (Found.Cheapest (worth .cost))
   key-is-chosen best written = best-chosen (best .is-best) (best .costs) written
 
-  found-is-chosen : (before after : List ℕ) (r : Found) → BestFound (optionsOf p) before after r → Chosen p before after r
+  pub found-is-chosen : (before after : List ℕ) (r : Found) → BestFound (optionsOf p) before after r → Chosen p before after r
   found-is-chosen before after (Found.Cheapest cost) best = best-chosen (best .is-best) (best .costs) (best .written)
   found-is-chosen before after Found.NoPlan (none-allowed, unchanged) =
       record { found = rw (none-is-none p none-allowed); written = rw (none-is-none p none-allowed) unchanged }
@@ -80,16 +80,16 @@ module _ {p : Problem} {load cost refusal : List ℕ} {must : List Bool} (v : Va
         refusals-limited = offered-refusal-at-most v o;
       }
 
-  -- on light sites without idle power
-  pub light-is-best : p .idle ≡ 0 → {worth : Worth} →
+  -- on light sites without idle power and early deadlines
+  pub light-is-best : p .idle ≡ 0 → DueAtPeriodEnd (p .tasks) → {worth : Worth} →
       ((cores : ℕ) → 0 < cores → BestKey (loadOptions cores (levelCount p) (span p) (offersOf load cost (taskCount p)) (itemsOf refusal must (taskCount p))) (taskCount p) worth) →
       BestKey (optionsOf p) (taskCount p) worth
   unfolding idleCost
-  light-is-best none light =
+  light-is-best none due light =
       let free : idleCost p ≡ 0 = rw none (mul-zero (p .weights .energy)) in
       let best = rw (offered-items o) at (light (p .cores) (v .cores .at-least)) in
       let alone = rw free at (offered-alone v (o .levels)) in
-      key-alike (rw free at (awake-alike p)) (key-alike (free-alike (p .cores) (optionsOf p .items) alone (offers-beside-items p)) best)
+      key-alike (rw free at (awake-alike p v due)) (key-alike (free-alike (p .cores) (optionsOf p .items) alone (offers-beside-items p)) best)
 
   module _ {costs₀ keys₀ costs keys : List ℕ} (filled : CoreFilled p costs₀ keys₀ costs keys) where
     pub search-ready : SearchReady (shapeOf p) refusal must costs keys

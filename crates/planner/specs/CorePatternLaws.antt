@@ -8,7 +8,11 @@ use native.Mathlib.Omega.{arith}
 use lib.Dec.{eqb, eqb·suc-zero}
 use lib.ListN.{length}
 use Rattle.laws.specs.SumLaws.{sum-cong}
-use Rattle.instance.specs.Node.{Problem, levelCount, taskCount, taskAt, levelAt}
+use Rattle.instance.specs.Node.{Problem, levelCount, taskCount, taskAt, levelAt, span}
+use Rattle.dispatch.specs.Rows.{CoreTasks}
+use Rattle.edf.specs.Demand.{meetsDemand}
+use Rattle.plan_rules.specs.CoreOfPlan.{coreTasks}
+use Rattle.plan_rules.specs.Windows.{window}
 use Rattle.plan_rules.specs.Plans.{fits}
 use Rattle.plan_rules.specs.Quantities.{choiceAt, keeps, jobs, ticks, jobTicks, ticksOn, loadOn, coreLoad}
 use Rattle.prices.specs.Prices.{busyEnergy, keptCount, isAwake, idleTicks, coreEnergy}
@@ -68,9 +72,25 @@ module _ (p : Problem) (plan : List ℕ) (k : ℕ) where
   unfolding coreLoad
   coreLoad-of-pattern = sum-cong _ _ (taskCount p) (λ i h. load-of-pattern i)
 
+  ticks-of-pattern : (i : ℕ) → ticksOn p (corePattern (levelCount p) k plan) 0 i ≡ ticksOn p plan k i
+  unfolding ticksOn keeps jobTicks
+  ticks-of-pattern i =
+      rw (corePattern-at (levelCount p) k plan i)
+      (same-on-core (λ b l. cond b (ticks (taskAt p i .cycles) (levelAt p l .speed)) 0) (λ l m. refl) (levelCount p) k (choiceAt plan i))
+
+  tasks-of-pattern : coreTasks p (corePattern (levelCount p) k plan) 0 ≡ coreTasks p plan k
+  unfolding coreTasks
+  tasks-of-pattern = λ j.
+      record {
+        size = taskCount p;
+        period = λ i. taskAt p i .period;
+        window = λ i. window (taskAt p i);
+        ticks = λ i. ticks-of-pattern i j;
+      }
+
   pub fits-of-pattern : fits p (corePattern (levelCount p) k plan) 0 ≡ fits p plan k
   unfolding fits
-  fits-of-pattern = rw coreLoad-of-pattern
+  fits-of-pattern = ap (λ (core : CoreTasks). meetsDemand core (span p)) tasks-of-pattern
 
   busy-of-pattern : busyEnergy p (corePattern (levelCount p) k plan) 0 ≡ busyEnergy p plan k
   unfolding busyEnergy loadOn ticksOn keeps jobTicks loadIf energyIf

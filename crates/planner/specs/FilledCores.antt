@@ -6,7 +6,7 @@ use native.Mathlib.Omega.{arith}
 use lib.ListN.{length}
 use Rattle.ranges.specs.Limits.{mostLevels}
 use Rattle.instance.specs.Node.{Problem, levelCount, span, taskCount}
-use Rattle.instance.specs.Valid.{Valid}
+use Rattle.instance.specs.Valid.{Valid, DueAtPeriodEnd}
 use Rattle.assignment.specs.AlikeLaws.{core-table-alike}
 use Rattle.assignment.specs.CoreTables.{CoreTable}
 use Rattle.assignment.specs.Sets.{tableAt}
@@ -51,9 +51,9 @@ module _ {p : Problem} {load cost : List ℕ} (v : Valid p) (o : LevelsOffered p
         charge-ready (p .cores) (optionsOf p .items) keys (offered-alone v o) (offers-beside-items p) (item-count p) alone-table (v .task-count)
         (filled .tabled .costs-for-all)
 
-    pub core-filled : {after : List ℕ} → ChargedBelow (taskCount p) (idleCost p * span p) (2 ^ taskCount p) costs after → length after ≡ length costs →
+    pub core-filled : DueAtPeriodEnd (p .tasks) → {after : List ℕ} → ChargedBelow (taskCount p) (idleCost p * span p) (2 ^ taskCount p) costs after → length after ≡ length costs →
         CoreFilled p costs₀ keys₀ after keys
-    core-filled charged same-length =
+    core-filled due charged same-length =
         record {
           limited =
               one-core-table
@@ -61,7 +61,7 @@ module _ {p : Problem} {load cost : List ℕ} (v : Valid p) (o : LevelsOffered p
               (charged-limited charged (filled .costs-limited))
               (λ T of-items. charged-keyed keys charged T of-items (filled .keyed T of-items));
           least =
-              core-table-alike (awake-alike p)
+              core-table-alike (awake-alike p v due)
               (charged-core-table (p .cores) (optionsOf p .items) keys (offered-alone v o) (offers-beside-items p) (item-count p) alone-table charged);
           other-costs =
               record {

@@ -7,6 +7,7 @@ use lib.ListN.{length}
 use Rattle.laws.specs.Lists.{onto}
 use Rattle.ranges.specs.Limits.{mostLevels}
 use Rattle.instance.specs.Held.{Sound, problemIn, held-taskcount, held-levelcount, held-span}
+use Rattle.instance.specs.Valid.{DueAtPeriodEnd}
 use Rattle.instance.specs.Node.{levelCount, span, taskCount}
 use Rattle.instance.specs.declared.Instance.{Instance}
 use Rattle.plan_rules.specs.HeldPlans.{held-cores}
@@ -48,12 +49,12 @@ module _ (inst : Instance) (s : Sound inst) where
     unfolding problemIn
     held-offer-fits = rw (held-taskcount inst s, held-levelcount inst s, held-span inst s) (offer-fits (s .valid) o)
 
-    pub held-light-best : inst .idle ≡ 0 → {worth : Worth} →
+    pub held-light-best : inst .idle ≡ 0 → DueAtPeriodEnd (problemIn inst .tasks) → {worth : Worth} →
         ((cores : ℕ) → 0 < cores → BestKey (loadOptions cores (inst .levelcount) (inst .span) (offersOf load cost (inst .taskcount)) (itemsOf refusal must (inst .taskcount))) (inst .taskcount) worth) →
         BestKey (optionsOf (problemIn inst)) (taskCount (problemIn inst)) worth
     unfolding problemIn
-    held-light-best free light =
-        light-is-best (s .valid) o free (rw (held-taskcount inst s, held-levelcount inst s, held-span inst s) at light)
+    held-light-best free due light =
+        light-is-best (s .valid) o free due (rw (held-taskcount inst s, held-levelcount inst s, held-span inst s) at light)
 
     module _ {costs₀ keys₀ costs keys : List ℕ} (filled : CoreFilled (problemIn inst) costs₀ keys₀ costs keys) where
       pub held-search-ready : SearchReady (shapeIn inst) refusal must costs keys
@@ -81,9 +82,9 @@ module _ (inst : Instance) (s : Sound inst) where
       unfolding problemIn idleCost
       held-charge-ready = rw (held-taskcount inst s, held-span inst s) (ready-to-charge (s .valid) o tables)
 
-      pub held-core-filled : {after : List ℕ} →
+      pub held-core-filled : DueAtPeriodEnd (problemIn inst .tasks) → {after : List ℕ} →
           ChargedBelow (inst .taskcount) (inst .weights .energy * inst .idle * inst .span) (2 ^ inst .taskcount) costs after →
           length after ≡ length costs → CoreFilled (problemIn inst) costs₀ keys₀ after keys
       unfolding problemIn idleCost
-      held-core-filled charged same-length =
-          core-filled (s .valid) o tables (rw (held-taskcount inst s, held-span inst s) at charged) same-length
+      held-core-filled due charged same-length =
+          core-filled (s .valid) o tables due (rw (held-taskcount inst s, held-span inst s) at charged) same-length

@@ -24,3 +24,7 @@ pub mod BestChoices
 pub mod BestChoiceLaws
 pub mod HeldChoices
 pub mod PlanLaws
+pub mod TimedOptions
+pub mod EarlyLaws
+pub mod TimedLaws
+pub mod TimedChoices

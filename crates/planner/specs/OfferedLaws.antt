@@ -1,11 +1,13 @@
 -- What is offered for a problem is what its cores admit and cost, and what its refusals cost.
 use Prim.Native.Nat.{ℕ, zero, suc, pred, _+_, _*_, _/_, _%_, _≤_, _<_}
-use mathlib.Core.Bool.{Bool, cond, not, _&&_}
+use mathlib.Core.Bool.{Bool, true, false, cond, not, _&&_}
 use mathlib.Core.List.{List, [], _∷_}
 use mathlib.Core.Path.{_≡_, refl, sym, ap, _∙_}
 use native.Mathlib.Nat.{div-eq-of-lt, mod-eq-of-lt, mul-zero, mul-add, mul-assoc, le-of-eq}
 use native.Mathlib.Omega.{arith}
-use lib.Dec.{eqb, eqb·suc-zero}
+use mathlib.Core.Logic.{_↔_}
+use lib.Dec.{leb, eqb, eqb·suc-zero}
+use borrow.Author.Tests.{leb-true, le-leb}
 use lib.ListN.{length, getD}
 use lib.Seq.{take-all}
 use Rattle.laws.specs.JoinedLaws.{length-listOf, getD-listOf, listOf-same, take-is-listOf}
@@ -13,10 +15,11 @@ use Rattle.laws.specs.Lists.{listOf}
 use Rattle.laws.specs.SumLaws.{sum-cong, sum-scaled}
 use Rattle.laws.specs.SumOrderLaws.{sum-from-first, total-is-sum}
 use Rattle.laws.specs.Sums.{sum}
+use Rattle.laws.specs.Truth.{false-not-true, not-true-is-false}
 use Rattle.ranges.specs.Limits.{mostLevels}
 use Rattle.instance.specs.Node.{Problem, levelCount, levelAt, noTask, taskAt, taskCount, span}
-use Rattle.instance.specs.Valid.{Valid}
-use Rattle.plan_rules.specs.Plans.{fits}
+use Rattle.instance.specs.Valid.{Valid, DueAtPeriodEnd}
+use Rattle.plan_rules.specs.FitLaws.{fits-iff-load}
 use Rattle.plan_rules.specs.Quantities
 use Rattle.plan_rules.specs.Quantities.{choiceAt, isRefused, levelOf, ticks, jobs, jobTicks, ticksOn, loadOn, coreLoad}
 use Rattle.prices.specs.Prices.{busyEnergy, keptCount, isAwake, idleTicks, coreEnergy}
@@ -32,7 +35,7 @@ use Rattle.planner.specs.OptionsLaws.{item-count, item-at}
 use Rattle.planner.specs.OptionsOf.{jobsOf, loadAt, itemOf, offerOf, offersIn, idleCost, optionsOf}
 
 -- a pattern has no choice above the levels
-keeps-choice : {most : ℕ} {T : List Bool} {pattern : List ℕ} → Keeps most T pattern → (i : ℕ) → choiceAt pattern i ≤ most
+pub keeps-choice : {most : ℕ} {T : List Bool} {pattern : List ℕ} → Keeps most T pattern → (i : ℕ) → choiceAt pattern i ≤ most
 keeps-choice done i = omega arith
 keeps-choice (refused k) zero = omega arith
 keeps-choice (refused k) (suc i) = keeps-choice k i
@@ -46,6 +49,11 @@ size-is-sum [] = refl
 size-is-sum (c ∷ pattern) =
     ap (λ (k : ℕ). cond (not (eqb c 0)) 1 0 + k) (size-is-sum pattern)
     ∙ sym (sum-from-first (λ i. cond (not (isRefused (c ∷ pattern) i)) 1 0) (length pattern))
+
+-- a test that passes exactly where a number is at most another is the test of that
+decided : (a b : ℕ) (t : Bool) → (t ≡ true) ↔ (a ≤ b) → leb a b ≡ t
+decided a b true iff = le-leb a b (iff .0 refl)
+decided a b false iff = not-true-is-false _ (λ e. false-not-true refl (iff .1 (leb-true a b e)))
 
 module _ (p : Problem) where
   module _ (i : ℕ) where
@@ -85,7 +93,7 @@ module _ (p : Problem) where
         ∙ rw (length-listOf offer (taskCount p))
         (sum-cong _ _ _ (λ i h. rw (getD-listOf offer (taskCount p) i (offer 0) h) (same i h)))
 
-    tasks-load : patternLoad (offersIn p) pattern ≡ coreLoad p pattern 0
+    pub tasks-load : patternLoad (offersIn p) pattern ≡ coreLoad p pattern 0
     unfolding patternLoad coreLoad loadOn ticksOn Quantities.keeps jobTicks loadOf
     tasks-load =
         by-task entryLoad patternLoad (λ pattern. refl) (λ offer offers c pattern. refl) (loadOn p pattern 0)
@@ -110,18 +118,24 @@ module _ (p : Problem) where
     unfolding idleLoad idleTicks isAwake
     tasks-idle = rw (tasks-kept, tasks-load) refl
 
-  -- the cores of the problem's options admit and cost what awake cores do
-  pub awake-alike : Alike (awakeOptions (p .cores) (levelCount p) (span p) (idleCost p) (offersIn p) (optionsOf p .items)) (optionsOf p)
-  unfolding awakeOptions optionsOf fits coreEnergy idleCost
-  awake-alike =
+  -- awake cores cost what the problem's cores do
+  pub awake-cost : {T : List Bool} {pattern : List ℕ} → Keeps (levelCount p) T pattern → length T ≡ taskCount p →
+      patternCost (offersIn p) pattern + idleCost p * idleLoad (span p) (offersIn p) pattern ≡ p .weights .energy * coreEnergy p pattern 0
+  unfolding coreEnergy idleCost
+  awake-cost keeps of-items = rw (tasks-cost keeps of-items, tasks-idle keeps of-items, mul-add, mul-assoc) refl
+
+  -- where no deadline is before the period's end, the cores of the problem's options admit and cost what awake cores do
+  pub awake-alike : Valid p → DueAtPeriodEnd (p .tasks) → Alike (awakeOptions (p .cores) (levelCount p) (span p) (idleCost p) (offersIn p) (optionsOf p .items)) (optionsOf p)
+  unfolding awakeOptions optionsOf
+  awake-alike v due =
       record {
         same-cores = refl;
         same-levels = refl;
         same-items = refl;
-        same-admits = λ T of-items pattern keeps. rw (tasks-load keeps (of-items ∙ item-count p));
-        same-cost = λ T of-items pattern admitted.
-            let beside = of-items ∙ item-count p in
-            rw (tasks-cost (admitted .keeps) beside, tasks-idle (admitted .keeps) beside, mul-add, mul-assoc) refl;
+        same-admits = λ T of-items pattern keeps.
+            rw (tasks-load keeps (of-items ∙ item-count p))
+            (decided _ _ _ (fits-iff-load p v pattern 0 (λ i h. due .each i h)));
+        same-cost = λ T of-items pattern admitted. awake-cost (admitted .keeps) (of-items ∙ item-count p);
       }
 
   pub offers-beside-items : length (offersIn p) ≡ length (optionsOf p .items)

@@ -2,5 +2,6 @@
 mod best;
 mod options;
 mod planning;
+mod timings;
 
 pub use planning::plan;

@@ -9,6 +9,7 @@ use Rattle.laws.specs.SumBounds.{sum-at-most, sum-of-products-at-most}
 use Rattle.ranges.specs.Limits.{mostCores, mostCycles, mostIdlePower, mostPower, mostSpan, mostTasks, mayNotBeRefused}
 use Rattle.instance.specs.Node.{Problem, levelAt, taskAt, taskCount, span}
 use Rattle.instance.specs.Valid.{Valid}
+use Rattle.plan_rules.specs.FitLaws.{load-of-passing-plan}
 use Rattle.plan_rules.specs.PlanLaws.{PassingPlan}
 use Rattle.plan_rules.specs.QuantityBounds.{jobs-at-most, loadOn-at-most}
 use Rattle.plan_rules.specs.Quantities.{isRefused, levelOf, jobs, loadOn, coreLoad}
@@ -106,6 +107,6 @@ module _ (p : Problem) (v : Valid p) (plan : List ℕ) where
       omega (
         arith,
         sum-at-most (coreEnergy p plan) (mostSpan * mostPower) (p .cores) (λ k h.
-            fitting-core-energy-at-most k (passing .load-at-most k h)),
+            fitting-core-energy-at-most k (load-of-passing-plan p v plan passing k h)),
         v .cores .at-most,
       )

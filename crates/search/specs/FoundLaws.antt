@@ -67,6 +67,19 @@ module _ {shape : Shape} {refusal : List ℕ} {must : List Bool} {coreCosts core
     pub none-told : {before : List ℕ} → noCost ≤ cost → Searched shape refusal must coreCosts coreKeys before before NoPlan
     none-told dear = record { told = rw (← is, words-none cost key dear) (refl, refl) }
 
+-- a value that answers for the options is told as the best plan
+pub told-is-best : (n : ℕ) (o : Options) (v : Value) (before after : List ℕ) (found : Found) → length (o .items) ≡ n →
+    Tells n v before after found → BestAnswers o v → BestFound o before after found
+told-is-best n o none before after found counted (is, same) answers = rw is (answers, same)
+told-is-best n o (pair cost key) before after found counted (is, written) (first, costs) =
+    rw is
+    (record {
+      plan = digits n key;
+      is-best = rw counted at first;
+      costs = rw counted at costs;
+      written = written;
+    })
+
 -- What the search answers is the best plan of any options with these cores, levels and items, where the table holds the least
 -- value of each set over the patterns that one of their cores admits.
 pub search-is-best : {shape : Shape} {refusal : List ℕ} {must : List Bool} {coreCosts coreKeys before after : List ℕ} {found : Found} →
@@ -75,7 +88,7 @@ pub search-is-best : {shape : Shape} {refusal : List ℕ} {must : List Bool} {co
     CoreTable o (tableAt (shape .items) coreCosts coreKeys) → BestFound o before after found
 unfolding foundValue
 search-is-best {shape} {refusal} {must} {coreCosts} {coreKeys} {before} {after} {found} ready searched o same-cores same-levels same-items core =
-    go (foundValue shape refusal must coreCosts coreKeys) (searched .told)
+    told-is-best (shape .items) o (foundValue shape refusal must coreCosts coreKeys) before after found counted (searched .told)
     (subst (BestAnswers o) value
     (search-finds-best o (tableAt (shape .items) coreCosts coreKeys) core (rw same-cores (ready .shape-limited .some-core))
     (rw (same-cores, same-levels) (few-choices ready))))
@@ -86,14 +99,3 @@ search-is-best {shape} {refusal} {must} {coreCosts} {coreKeys} {before} {after} 
 
     counted : length (o .items) ≡ shape .items
     counted = rw same-items (items-counted refusal must (shape .items))
-
-    go : (v : Value) → Tells (shape .items) v before after found → BestAnswers o v → BestFound o before after found
-    go none (is, same) answers = rw is (answers, same)
-    go (pair cost key) (is, written) (first, costs) =
-        rw is
-        (record {
-          plan = digits (shape .items) key;
-          is-best = rw counted at first;
-          costs = rw counted at costs;
-          written = written;
-        })

@@ -53,7 +53,7 @@ pub record FirstDigit (left power rest : ℕ) : Type 0 where
   pub small : rest / (power / 33) < 33
   pub others : digits left rest ≡ rest / (power / 33) ∷ digits places (rest % (power / 33))
 
-first-digit : (left power rest : ℕ) → 0 < left → power ≡ keyBase ^ left → rest < keyBase ^ left → FirstDigit left power rest
+pub first-digit : (left power rest : ℕ) → 0 < left → power ≡ keyBase ^ left → rest < keyBase ^ left → FirstDigit left power rest
 unfolding keyBase digits
 first-digit zero power rest some is-power below = absurd (omega arith)
 first-digit (suc l) power rest some is-power below =

@@ -13,7 +13,7 @@ ghost use Rattle.values.specs.Worths.{worthOf};
 
 // What the best plan is worth, from the table of one core. Of an odd number of cores the lower half has one more; no half has
 // more than two, so that one table of two cores serves both.
-pub(crate) fn least_of_table(
+pub fn least_of_table(
     shape: Shape,
     refusal: &[u64],
     must: &[bool],

@@ -3,7 +3,7 @@
 mod best;
 mod plan;
 
-use best::least_of_table;
+pub use best::least_of_table;
 pub use plan::write_plan;
 use values::NO_COST;
 ghost use Prim.Native.Nat.{_≤_};

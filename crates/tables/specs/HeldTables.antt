@@ -14,7 +14,8 @@ use Rattle.laws.specs.PartLaws.{length-part}
 use Rattle.instance.specs.Node.{Problem, span}
 use Rattle.dispatch.specs.Rows.{row}
 use Rattle.tables.specs.TableLaws.{row-length}
-use Rattle.tables.specs.Tables.{coreTasks, tableOf, tableSize}
+use Rattle.plan_rules.specs.CoreOfPlan.{coreTasks}
+use Rattle.tables.specs.Tables.{tableOf, tableSize}
 use Rattle.instance.specs.Held.{problemIn, Sound, held-span}
 use Rattle.ranges.specs.Limits.{mostCores, mostSpan}
 use Rattle.instance.specs.Valid.{Valid}

@@ -2,6 +2,7 @@
 use Prim.Native.Nat.{ℕ, _≤_, _<_}
 use mathlib.Core.List.{List}
 use mathlib.Core.Path.{_≡_, sym, _∙_}
+use native.Mathlib.Nat.{le-trans}
 use native.Mathlib.Omega.{arith}
 use lib.ListN.{length, getD, take}
 use lib.Seq.{getD-take, length-take-le}
@@ -12,8 +13,9 @@ use Rattle.dispatch.specs.Columns.{ColumnsOk, columnRow, columnTasks}
 use Rattle.dispatch.specs.Rows.{CoreTasks, row}
 use Rattle.dispatch.specs.SelectedTasks.{Selected, row-of-selected}
 use Rattle.plan_rules.specs.KeptColumns.{KeptColumns, placeOf}
+use Rattle.plan_rules.specs.Windows.{window}
 use Rattle.plan_rules.specs.KeepsLaws.{kept-where-ticks}
-use Rattle.tables.specs.Tables.{coreTasks}
+use Rattle.plan_rules.specs.CoreOfPlan.{coreTasks}
 use Rattle.plan_rules.specs.declared.columns.KeptTasks.{KeptTasks}
 use Rattle.plan_rules.specs.KeptColumnLaws.{is-task}
 
@@ -40,7 +42,7 @@ module _ (p : Problem) (v : Valid p) (plan : List ℕ) (k : ℕ) (kept : KeptTas
       let of-periods = length-front (kept .periods) (columns .places .of-periods) in
       let period : (i : ℕ) → i < n → getD (take n (kept .periods)) i 0 ≡ taskAt p (placeOf kept i) .period =
       λ i l. getD-take n (kept .periods) i 0 l ∙ columns .held i l .same-period in
-      let its-window : (i : ℕ) → i < n → getD (take n (kept .windows)) i 0 ≡ taskAt p (placeOf kept i) .period =
+      let its-window : (i : ℕ) → i < n → getD (take n (kept .windows)) i 0 ≡ window (taskAt p (placeOf kept i)) =
       λ i l. getD-take n (kept .windows) i 0 l ∙ columns .held i l .same-window in
       record {
         few-tasks = omega (arith, of-periods, places-enough);
@@ -51,7 +53,10 @@ module _ (p : Problem) (v : Valid p) (plan : List ℕ) (k : ℕ) (kept : KeptTas
           periods-ok = record {
             above-0 = λ i l. let j = rw of-periods at l in rw (period i j) (v .task (placeOf kept i) (is-task p plan k kept columns i j) .period .at-least);
           };
-          window-bounded = λ i l. let j = rw of-periods at l in rw (its-window i j) (v .task (placeOf kept i) (is-task p plan k kept columns i j) .period .at-most);
+          window-bounded = λ i l.
+              let j = rw of-periods at l in
+              let its-task = v .task (placeOf kept i) (is-task p plan k kept columns i j) in
+              rw (its-window i j) (le-trans (its-task .deadline .at-most) (its-task .period .at-most));
         };
       }
 

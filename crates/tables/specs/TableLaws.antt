@@ -6,7 +6,8 @@ use lib.ListN.{length}
 use Rattle.laws.specs.JoinedLaws.{length-listOf, getD-listOf, length-joined, getD-joined}
 use Rattle.instance.specs.Node.{Problem, span}
 use Rattle.dispatch.specs.Rows.{slotOf, row}
-use Rattle.tables.specs.Tables.{coreTasks, tableOf, slotAt}
+use Rattle.plan_rules.specs.CoreOfPlan.{coreTasks}
+use Rattle.tables.specs.Tables.{tableOf, slotAt}
 
 module _ (p : Problem) (plan : List ℕ) where
   pub row-length : (k : ℕ) → length (row (coreTasks p plan k) (span p)) ≡ span p

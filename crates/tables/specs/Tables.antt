@@ -3,19 +3,9 @@ use Prim.Native.Nat.{ℕ, _+_, _*_}
 use mathlib.Core.List.{List}
 use lib.ListN.{getD}
 use Rattle.laws.specs.Lists.{joined}
-use Rattle.instance.specs.Node.{Problem, taskCount, taskAt, span}
-use Rattle.plan_rules.specs.Quantities.{ticksOn}
-use Rattle.dispatch.specs.Rows.{CoreTasks, row}
-use Rattle.plan_rules.specs.Windows.{window}
-
-unfoldable pub coreTasks : Problem → List ℕ → ℕ → CoreTasks
-coreTasks p plan k =
-    record {
-      size = taskCount p;
-      period = λ i. taskAt p i .period;
-      window = λ i. window (taskAt p i);
-      ticks = ticksOn p plan k;
-    }
+use Rattle.instance.specs.Node.{Problem, span}
+use Rattle.plan_rules.specs.CoreOfPlan.{coreTasks}
+use Rattle.dispatch.specs.Rows.{row}
 
 abbrev pub tableSize : Problem → ℕ
 tableSize p = p .cores * span p

@@ -16,7 +16,8 @@ ghost use Rattle.instance.specs.Held.{Sound, problemIn};
 ghost use Rattle.instance.specs.Node.{taskCount};
 ghost use Rattle.dispatch.specs.Rows.{row};
 ghost use Rattle.tables.specs.Outcomes.{tableOutcome, TablingEnds};
-ghost use Rattle.tables.specs.Tables.{coreTasks, tableOf, tableSize};
+ghost use Rattle.plan_rules.specs.CoreOfPlan.{coreTasks};
+ghost use Rattle.tables.specs.Tables.{tableOf, tableSize};
 
 // The row of core k, counted from 0.
 fn fill_core(inst: Instance, plan: &[u32], k: usize, slots: &mut [Slot])

@@ -8,6 +8,8 @@ use ranges::MOST_TEXT_WORDS;
 use refusals::Verdict;
 use text::TextRead;
 
+const MOST_TASKS: usize = ranges::MOST_TASKS as usize;
+
 fn print_words(words: &[u32]) {
     print(b"words");
     show::words(words);
@@ -52,7 +54,21 @@ fn print_sizes(cores: u32, idle: u32, levels: usize, tasks: usize, span: u32) {
         tasks as u64,
         span as u64,
     ];
-    print_filled(b"cores # idle # levels # tasks # span #\n", &numbers);
+    print_filled(
+        b"cores # idle # levels # tasks # span # deadlines",
+        &numbers,
+    );
+}
+
+fn print_deadlines(inst: Instance) {
+    let mut i = 0;
+    while i < MOST_TASKS {
+        if i < inst.taskcount {
+            let task = inst.tasks[i];
+            show::print_word(task.deadline);
+        }
+        i += 1;
+    }
 }
 
 fn print_instance(inst: Instance) {
@@ -63,9 +79,11 @@ fn print_instance(inst: Instance) {
         inst.taskcount,
         inst.span,
     );
+    print_deadlines(inst);
+    print(b"\n");
 }
 
-// The instance that a list of words is: cores, idle power, levels, tasks and span.
+// The instance that a list of words is: cores, idle power, levels, tasks, span and the deadline of each task.
 pub(crate) fn words(list: &[u32]) {
     let read = instance::read_instance(list);
     let verdict = read.verdict;

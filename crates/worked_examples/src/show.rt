@@ -9,7 +9,7 @@ pub(crate) fn refusal(r: Refusal) {
     print_filled(b"refused # #\n", &numbers);
 }
 
-fn print_word(word: u32) {
+pub(crate) fn print_word(word: u32) {
     print_field(b" ", word as u64);
 }
 

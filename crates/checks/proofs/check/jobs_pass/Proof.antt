@@ -2,7 +2,7 @@
 use Prim.Native.Nat.{ℕ, suc, _-_, _≤_, _<_}
 use mathlib.Core.Bool.{false, not}
 use mathlib.Core.Path.{_≡_, ap, sym, _∙_}
-use native.Mathlib.Nat.{le-refl, le-of-eq, mod-lt}
+use native.Mathlib.Nat.{le-refl, mod-lt}
 use native.Mathlib.Numerals.{add-one}
 use native.Mathlib.Omega.{arith}
 use borrow.Author.Count.{below-none, below-more}
@@ -13,7 +13,7 @@ use Rattle.instance.specs.Node.{taskCount}
 use Rattle.instance.specs.declared.Task.{Task}
 use Rattle.refusals.specs.declared.Refusal.the-variants.{JobSlots}
 use Rattle.checks.specs.Checks.{isServed, jobsPass}
-use Rattle.checks.specs.HeldJobs.{held-job-ticks, held-row-within, task-served-is-served}
+use Rattle.checks.specs.HeldJobs.{held-job-ticks, held-row-within, held-window, held-window-within-period, task-served-is-served}
 use Rattle.plan_rules.specs.HeldQuantities.{level-count-above-zero, level-count-at-most}
 use Rattle.refusals.specs.VerdictLaws.{found-is-refused, none-found-passes}
 use borrow.Author.Needs.{needs}
@@ -41,7 +41,7 @@ tested c = let start = c .before .before .before .before .before .before .before
     let its-period = ap (λ (t : Task). t .period) (held-task _ s i h) in
     let each = c .before .ticks-of .ensures ∙ held-job-ticks _ s (start .args .plan .now) i h _ (c .before .before .before .before .level-of .ensures) in
     ap not (sym (c .is-served .ensures
-    ∙ task-served-is-served (problemIn (start .args .t1)) (start .args .plan .now) (start .args .table .now) i (held-span _ s) (held-levelcount _ s) its-period (c .before .before .window-of .ensures ∙ its-period) each))
+    ∙ task-served-is-served (problemIn (start .args .t1)) (start .args .plan .now) (start .args .table .now) i (held-span _ s) (held-levelcount _ s) its-period (held-window _ s i h _ (c .before .before .window-of .ensures)) each))
 
 loop-holds : tie.Need-loop-holds Inv-loop μ-loop
 loop-holds c = (omega arith, below-none _)
@@ -89,7 +89,7 @@ is-served-requires : tie.Need-is-served-requires Inv-loop μ-loop
 is-served-requires c κs = let start = c .before .before .before .before .before .before .before .before .before .before in
     let s = start .pre .0 in
     let h = is-task (c .before .before .before .before .before .before) in
-    (level-count-above-zero _ s, (le-of-eq (c .before .window-of .ensures), held-row-within _ s _ _ h (start .pre .1 .0) _ (start .pre .1 .1)))
+    (level-count-above-zero _ s, (held-window-within-period _ s _ h _ (c .before .window-of .ensures), held-row-within _ s _ _ h (start .pre .1 .0) _ (start .pre .1 .1)))
 
 returns : tie.Need-returns Inv-loop μ-loop
 unfolding jobsPass

@@ -4,10 +4,10 @@ use Rattle.exhaustive.proofs.every.try_all.Statement.{statement}
 use Rattle.exhaustive.proofs.every.try_all.Tie as tie
 
 abbrev Inv-loop : tie.InvT-loop
-Inv-loop words n most plan₀ so-far₀ choices₀ tried₀ plan so-far choices tried = tried ≤ 30000
+Inv-loop words inst most plan₀ so-far₀ choices₀ tried₀ plan so-far choices tried = tried ≤ 30000
 
 abbrev μ-loop : tie.MeasureT-loop
-μ-loop words n most plan₀ so-far₀ choices₀ tried₀ plan so-far choices tried = 30000 - tried
+μ-loop words inst most plan₀ so-far₀ choices₀ tried₀ plan so-far choices tried = 30000 - tried
 
 none-tried-requires : tie.Need-none-tried-requires Inv-loop μ-loop
 none-tried-requires c κs = search needs

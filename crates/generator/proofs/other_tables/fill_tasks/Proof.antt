@@ -5,13 +5,16 @@ use Rattle.generator.proofs.other_tables.fill_tasks.Statement.{statemen
 use Rattle.generator.proofs.other_tables.fill_tasks.Tie as tie
 
 abbrev Inv-loop : tie.InvT-loop
-Inv-loop table₀ words span plan turn first i₀ table i = i ≤ length plan
+Inv-loop table₀ words span plan order i₀ table i = i ≤ length plan
 
 abbrev μ-loop : tie.MeasureT-loop
-μ-loop table₀ words span plan turn first i₀ table i = length plan - i
+μ-loop table₀ words span plan order i₀ table i = length plan - i
 
 loop-holds : tie.Need-loop-holds Inv-loop μ-loop
 loop-holds c = search needs
+
+cast-wrapping-add-usize : tie.Need-cast-wrapping-add-usize Inv-loop μ-loop
+cast-wrapping-add-usize c = search needs
 
 wrapping-add-usize-requires : tie.Need-wrapping-add-usize-requires Inv-loop μ-loop
 wrapping-add-usize-requires c κs = search needs
@@ -47,6 +50,7 @@ fill-tasks-spec =
     Inv-loop
     μ-loop
     loop-holds
+    cast-wrapping-add-usize
     wrapping-add-usize-requires
     rem-next
     mul-fill-task

@@ -18,6 +18,9 @@ levels-next-requires c κs = search needs
 tasks-next-requires : tie.Need-tasks-next-requires
 tasks-next-requires c κs = search needs
 
+deadlines-next-requires : tie.Need-deadlines-next-requires
+deadlines-next-requires c κs = c .before .tasks-next .ensures .held
+
 end-next-requires : tie.Need-end-next-requires
 end-next-requires c κs = search needs
 
@@ -32,10 +35,11 @@ returns c =
     outcome-is-promised _ _
     (c .no-instance .ensures
     ∙ site-refused
-    (c .before .before .before .before .before .before .before .before .cursor-at-start .ensures)
-    (c .before .before .before .before .before .before .before .settings-next .ensures)
-    (c .before .before .before .before .before .before .levels-next .ensures)
-    (c .before .before .before .before .before .tasks-next .ensures)
+    (c .before .before .before .before .before .before .before .before .before .before .cursor-at-start .ensures)
+    (c .before .before .before .before .before .before .before .before .before .settings-next .ensures)
+    (c .before .before .before .before .before .before .before .before .levels-next .ensures)
+    (c .before .before .before .before .before .before .before .tasks-next .ensures)
+    (c .before .before .before .before .before .deadlines-next .ensures)
     (c .before .before .before .before .end-next .ensures)
     (c .before .before .verdict .given .1))
 
@@ -46,10 +50,11 @@ returns-2 : tie.Need-returns-2
 returns-2 c =
     outcome-is-promised _ _
     (site-accepted
-    (c .before .before .before .before .before .before .before .before .before .cursor-at-start .ensures)
-    (c .before .before .before .before .before .before .before .before .settings-next .ensures)
-    (c .before .before .before .before .before .before .before .levels-next .ensures)
-    (c .before .before .before .before .before .before .tasks-next .ensures)
+    (c .before .before .before .before .before .before .before .before .before .before .before .cursor-at-start .ensures)
+    (c .before .before .before .before .before .before .before .before .before .before .settings-next .ensures)
+    (c .before .before .before .before .before .before .before .before .before .levels-next .ensures)
+    (c .before .before .before .before .before .before .before .before .tasks-next .ensures)
+    (c .before .before .before .before .before .before .deadlines-next .ensures)
     (c .before .before .before .before .before .end-next .ensures)
     (c .before .before .before .enum-told .given .1))
 
@@ -61,6 +66,7 @@ read-instance-spec =
     settings-next-requires
     levels-next-requires
     tasks-next-requires
+    deadlines-next-requires
     end-next-requires
     enum-known-verdict
     no-instance-requires

@@ -5,7 +5,7 @@ use borrow.Author.Needs.{needs}
 use Rattle.formats.specs.CursorLaws.{and-then}
 use Rattle.instance.specs.Sections.{TasksSoFar}
 use Rattle.instance.specs.SiteFile.{tasks}
-use Rattle.instance.specs.TasksLaws.{tasks-begin, tasks-more, tasks-end, tasks-filled, tasks-spans}
+use Rattle.instance.specs.TasksLaws.{tasks-begin, tasks-more, tasks-end, tasks-held, tasks-spans}
 use Rattle.instance.proofs.tasks.tasks_next.Statement.{statement}
 use Rattle.instance.proofs.tasks.tasks_next.Tie as tie
 
@@ -50,7 +50,7 @@ returns c =
     let all-taken = c .loop-test .left in
     record {
       gets = and-then _ (c .before .before .before .before .word-next .ensures .gets) (tasks-end inv all-taken);
-      filled = tasks-filled inv all-taken;
+      held = tasks-held inv all-taken;
       spans = tasks-spans inv all-taken;
     }
 

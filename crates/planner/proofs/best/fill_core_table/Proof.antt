@@ -14,7 +14,7 @@ cast-t9 c = search needs
 fill-knapsacks-requires : tie.Need-fill-knapsacks-requires
 fill-knapsacks-requires c κs =
     let start = c .before .before .before .before .before .before .before in
-    held-knapsacks-fit _ (start .pre .0) (start .pre .1 .0) (start .pre .1 .1 .0) (start .pre .1 .1 .1)
+    held-knapsacks-fit _ (start .pre .0) (start .pre .1 .1 .0) (start .pre .1 .1 .1 .0) (start .pre .1 .1 .1 .1)
 
 cast-whole : tie.Need-cast-whole
 cast-whole c = search needs
@@ -40,7 +40,7 @@ mul-whole-2 c =
 charge-idle-once-requires : tie.Need-charge-idle-once-requires
 charge-idle-once-requires c κs =
     let start = c .before .before .before .before .before .before .before .before .before .before .before .before .before .before .before .before in
-    held-charge-ready _ (start .pre .0) (start .pre .1 .0) (c .before .before .before .before .before .before .before .before .fill-knapsacks .ensures)
+    held-charge-ready _ (start .pre .0) (start .pre .1 .1 .0) (c .before .before .before .before .before .before .before .before .fill-knapsacks .ensures)
 
 same-length : tie.Need-same-length
 same-length c = search needs
@@ -51,7 +51,7 @@ same-length-2 c = search needs
 returns : tie.Need-returns
 returns c =
     let start = c .before .before .before .before .before .before .before .before .before .before .before .before .before .before .before .before .before .before .before in
-    held-core-filled _ (start .pre .0) (start .pre .1 .0) (c .before .before .before .before .before .before .before .before .before .before .before .fill-knapsacks .ensures) (c .before .before .charge-idle-once .ensures) (c .before .before .charge-idle-once .kept .1 .1 .0)
+    held-core-filled _ (start .pre .0) (start .pre .1 .1 .0) (c .before .before .before .before .before .before .before .before .before .before .before .fill-knapsacks .ensures) (start .pre .1 .0) (c .before .before .charge-idle-once .ensures) (c .before .before .charge-idle-once .kept .1 .1 .0)
 
 pub fill-core-table-spec : {M : Type 1} → statement M
 fill-core-table-spec =

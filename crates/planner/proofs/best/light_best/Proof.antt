@@ -13,12 +13,12 @@ cast-capacity c = search needs
 light-plan-requires : tie.Need-light-plan-requires
 light-plan-requires c κs =
     let start = c .before .before .before .before .before .before .before in
-    held-offer-fits _ (start .pre .0) (start .pre .1)
+    held-offer-fits _ (start .pre .0) (start .pre .1 .1)
 
 returns-2 : tie.Need-returns-2
 returns-2 c =
     let start = c .before .before .before .before .before .before .before .before in
-    λ real. held-light-best _ (start .pre .0) (start .pre .1) (omega (arith, c .before .before .if1 .left)) (c .light-plan .ensures real)
+    λ real. held-light-best _ (start .pre .0) (start .pre .1 .1) (omega (arith, c .before .before .if1 .left)) (start .pre .1 .0) (c .light-plan .ensures real)
 
 pub light-best-spec : {M : Type 1} → statement M
 light-best-spec = tie.close (tie.spec returns cast-capacity light-plan-requires returns-2)

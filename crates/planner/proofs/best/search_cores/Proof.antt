@@ -15,7 +15,7 @@ slice-aggregate-fill-core-table-2 c = search needs
 fill-core-table-requires : tie.Need-fill-core-table-requires
 fill-core-table-requires c κs =
     let start = c .before .before .before .before .before .before .before in
-    (start .pre .0, (start .pre .1 .0 .levels, (le-refl mostSets, le-refl mostSets)))
+    (start .pre .0, (start .pre .1 .0, (start .pre .1 .1 .0 .levels, (le-refl mostSets, le-refl mostSets))))
 
 cast-t15 : tie.Need-cast-t15
 cast-t15 c = search needs
@@ -29,7 +29,7 @@ slice-aggregate-cheapest-plan-2 c = search needs
 cheapest-plan-requires : tie.Need-cheapest-plan-requires
 cheapest-plan-requires c κs =
     let start = c .before .before .before .before .before .before .before .before .before .before .before .before .before .before in
-    (held-search-ready _ (start .pre .0) (start .pre .1 .0) (c .before .before .before .before .before .before .fill-core-table .ensures), le-trans (le-of-eq (held-taskcount _ (start .pre .0))) (start .pre .1 .1))
+    (held-search-ready _ (start .pre .0) (start .pre .1 .1 .0) (c .before .before .before .before .before .before .fill-core-table .ensures), le-trans (le-of-eq (held-taskcount _ (start .pre .0))) (start .pre .1 .1 .1))
 
 same-length : tie.Need-same-length
 same-length c = search needs
@@ -37,7 +37,7 @@ same-length c = search needs
 returns : tie.Need-returns
 returns c =
     let start = c .before .before .before .before .before .before .before .before .before .before .before .before .before .before .before .before .before in
-    let chosen = held-searched-chosen _ (start .pre .0) (start .pre .1 .0) (c .before .before .before .before .before .before .before .before .before .fill-core-table .ensures) (c .before .before .cheapest-plan .ensures) in
+    let chosen = held-searched-chosen _ (start .pre .0) (start .pre .1 .1 .0) (c .before .before .before .before .before .before .before .before .before .fill-core-table .ensures) (c .before .before .cheapest-plan .ensures) in
     (chosen .found, chosen .written)
 
 pub search-cores-spec : {M : Type 1} → statement M

@@ -1,0 +1,3 @@
+pub mod UnmetTicks
+pub mod UnmetTickLaws
+pub mod ColumnDemandLaws

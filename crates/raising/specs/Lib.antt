@@ -1,0 +1,10 @@
+pub mod ExactTables
+pub mod ChargedOptions
+pub mod CoreSets
+pub mod RaisedTables
+pub mod RaisingLaws
+pub mod Rounds
+pub mod LoadLaws
+pub mod TimedSites
+pub mod SiteLaws
+pub mod StartTables

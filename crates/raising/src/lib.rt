@@ -1,0 +1,57 @@
+// The best plan where jobs may be due before their period's end. Partition and keeping search a table of lower values, at first
+// those of load alone; the entries of the plan that they find are made exact, until the found plan's all are.
+mod rounds;
+mod sets;
+
+use knapsack::Core;
+use knapsack_tables::fill_knapsacks;
+use rounds::least_in_rounds;
+use search::Found;
+use search::write_plan;
+use values::MOST_SETS;
+use values::NO_COST;
+ghost use Prim.Native.Nat.{_≤_};
+ghost use lib.ListN.{length};
+ghost use Rattle.search.specs.Found.{BestFound};
+ghost use Rattle.raising.specs.StartTables.{SiteOffered};
+ghost use Rattle.raising.specs.TimedSites.{siteOptions};
+
+// How many items there are, and how many cores and levels for each; the span, and what the idle ticks of a whole span cost.
+pub struct Site {
+    pub items: usize,
+    pub cores: usize,
+    pub levels: usize,
+    pub span: u32,
+    pub whole: u64,
+}
+
+// Finds the cheapest plan with every job done in time, of equally cheap ones the first, and writes its choices. Costs are those of
+// each item alone on an awake core.
+pub fn cheapest_in_time(
+    site: Site,
+    timings: &[u32],
+    load: &[u64],
+    cost: &[u64],
+    refusal: &[u64],
+    must: &[bool],
+    plan: &mut [u32],
+) -> Found
+    requires { ⌜ SiteOffered site (now timings) (now load) (now cost) (now refusal) (now must) ⌝ }
+    requires { ⌜ site .items ≤ length (now plan) ⌝ }
+    ensures { λ r. ⌜ BestFound (siteOptions site (now (timings .entry)) (now (cost .entry)) (now (refusal .entry)) (now (must .entry)))
+        (now (plan .entry)) (now (plan .exit)) r ⌝ }
+{
+    let mut costs = [0u64; MOST_SETS];
+    let mut keys = [0u64; MOST_SETS];
+    let core = Core {
+        levels: site.levels,
+        capacity: site.span as usize,
+    };
+    fill_knapsacks(core, site.items, load, cost, &mut costs, &mut keys);
+    let best = least_in_rounds(site, timings, cost, refusal, must, &mut costs, &mut keys);
+    if NO_COST <= best.cost {
+        return Found::NoPlan;
+    }
+    write_plan(site.items, best.key, plan);
+    Found::Cheapest(best.cost)
+}

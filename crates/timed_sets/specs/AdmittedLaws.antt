@@ -1,0 +1,52 @@
+-- Which patterns a core with due ticks admits: what the columns of a node say of them.
+use Prim.Native.Nat.{ℕ, zero, suc, _+_, _*_, _≤_, _<_}
+use mathlib.Core.Bool.{Bool, true, false}
+use mathlib.Core.List.{List, [], _∷_, _++_}
+use mathlib.Core.Path.{_≡_, refl, sym, ap, _∙_}
+use native.Mathlib.Nat.{le-trans, le-of-dvd, le-of-dvd}
+use native.Mathlib.Omega.{arith}
+use lib.ListN.{length, getD}
+use Rattle.laws.specs.JoinedLaws.{length-listOf}
+use Rattle.edf.specs.Demand.{WellFormed, WholePeriods, meetsDemand}
+use Rattle.assignment.specs.Values.{Value}
+use Rattle.timed_sets.specs.DemandBounds.{ticks-within-window}
+use Rattle.timed_sets.specs.Nodes.{timedCore, TimedItems, Stands}
+use Rattle.timed_sets.specs.PatternLaws.{timing-of, entry-between}
+use Rattle.timed_sets.specs.Reached.{Reached}
+use Rattle.timed_sets.specs.ReachedLaws.{reached-pattern}
+use Rattle.timed_sets.specs.TimedCores.{timingAt, timingIn, timingsOf, patternTasks, entryTicks}
+use Rattle.timed_sets.specs.declared.Node.{Node}
+use Rattle.timed_sets.specs.declared.Timed.{Timed}
+
+module _ {timed : Timed} {timings : List ℕ} (ready : TimedItems timed timings) where
+  pub counted : length (timingsOf timings (timed .items)) ≡ timed .items
+  unfolding timingsOf
+  counted = length-listOf (timingAt timings) (timed .items)
+
+  pub pattern-well-formed : (pattern : List ℕ) → WellFormed (patternTasks (timingsOf timings (timed .items)) pattern)
+  unfolding patternTasks
+  pattern-well-formed pattern =
+      record {
+        window-above-0 = λ i l. let within = rw counted at l in rw (timing-of timings (timed .items) i within) (ready .item i within .window-above-0);
+        window-within-period = λ i l. let within = rw counted at l in rw (timing-of timings (timed .items) i within) (ready .item i within .window-within-period);
+      }
+
+  window-within-span : (i : ℕ) → i < timed .items → timingAt timings i .window ≤ timed .span
+  window-within-span i l =
+      le-trans (ready .item i l .window-within-period) (le-of-dvd (ready .span-above-0) (ready .item i l .period-divides))
+
+  -- at a level at which a job is longer than its window nothing is reached
+  pub too-long-is-not-reached : {cost : List ℕ} {node : Node} {q : List ℕ} {T : List Bool} → Stands timed timings cost node q (true ∷ T) →
+      timingAt timings (node .item) .window < timingAt timings (node .item) .ticks (node .level) → {u : Value} →
+      Reached (timedCore timed timings cost) (q ++ (suc (node .level) ∷ [])) T 0 u → ⊥
+  unfolding patternTasks entryTicks
+  too-long-is-not-reached {cost} {node} {q} {T} stands long reached =
+      let (r, keeps, met, worth) = reached-pattern _ reached in
+      let pattern = q ++ (suc (node .level) ∷ []) ++ r in
+      let i = node .item in
+      let within : i < timed .items = omega (arith, stands .behind) in
+      let fits = ticks-within-window _ (pattern-well-formed pattern) (timed .span) met i (rw counted within)
+      (rw (timing-of timings (timed .items) i within) (window-within-span i within)) in
+      let here : getD pattern i 0 ≡ suc (node .level) = rw (stands .front) at (entry-between q (suc (node .level)) r) in
+      let bound = rw (here, timing-of timings (timed .items) i within) at fits in
+      omega arith

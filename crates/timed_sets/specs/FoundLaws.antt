@@ -1,0 +1,112 @@
+-- What is found from a node, by what is found from the nodes after it.
+use Prim.Native.Nat.{ℕ, zero, suc, _+_, _-_, _*_, _^_, _≤_, _<_}
+use mathlib.Core.Bool.{Bool, true, false}
+use mathlib.Core.List.{List, [], _∷_, _++_}
+use mathlib.Core.Logic.{_⊎_, inl, inr, _≢_}
+use mathlib.Core.Path.{_≡_, refl, sym, ap, _∙_}
+use native.Mathlib.Numerals.{add-one}
+use native.Mathlib.Omega.{arith}
+use lib.ListN.{length, getD}
+use Rattle.assignment.specs.Sets.{setNumber}
+use Rattle.assignment.specs.SetLaws.{setNumber-below}
+use Rattle.assignment.specs.Values.{Value, AtMost}
+use Rattle.knapsack.specs.Offered.{entryOf}
+use Rattle.values.specs.Worths.{worthOf}
+use Rattle.values.specs.declared.value.Worth.{Worth}
+use Rattle.timed_sets.specs.AdmittedLaws.{too-long-is-not-reached}
+use Rattle.timed_sets.specs.Nodes.{timedCore, TimedReady, Stands, passedOver, runAt, nextLevel, FoundFrom}
+use Rattle.timed_sets.specs.NodeLaws.{stands-passed, stands-run, stands-next}
+use Rattle.timed_sets.specs.Reached.{Reached}
+use Rattle.timed_sets.specs.ReachedLaws.{nothing-before, pass-over, no-level-left, level-by-level}
+use Rattle.timed_sets.specs.TimedCores.{timingAt}
+use Rattle.timed_sets.specs.declared.Node.{Node}
+use Rattle.timed_sets.specs.declared.Timed.{Timed}
+
+-- the first item is in the set: its flag is set
+data Flagged (half : ℕ) (T : List Bool) : Type 0 where
+  flagged : (T' : List Bool) → T ≡ true ∷ T' → half ≡ 2 ^ length T' → Flagged half T
+
+module _ {timed : Timed} {timings cost : List ℕ} {node : Node} {half : ℕ} (more : node .item ≢ timed .items)
+    (is-half : half ≡ 2 ^ (timed .items - node .item - 1)) where
+  -- the item is not in the set
+  pub passed-stands : node .rest < half → (q : List ℕ) (T : List Bool) → Stands timed timings cost node q T →
+      (q' : List ℕ) × (T' : List Bool) × Stands timed timings cost (passedOver node) q' T'
+  unfolding setNumber
+  passed-stands fewer q [] stands = absurd (omega (arith, stands .behind))
+  passed-stands fewer q (false ∷ T) stands = (q ++ (0 ∷ []), T, stands-passed stands)
+  passed-stands fewer q (true ∷ T) stands = absurd (full fewer (length T) (omega (arith, stands .behind)) (stands .rest))
+    where
+      full : node .rest < half → (m : ℕ) → m ≡ timed .items - node .item - 1 → node .rest ≡ 2 ^ m + setNumber m T → ⊥
+      full fewer m e rest = let same : half ≡ 2 ^ m = is-half ∙ ap (λ (k : ℕ). 2 ^ k) (sym e) in omega arith
+
+  pub found-passed : node .rest < half → {best r : Worth} →
+      ((q : List ℕ) (T : List Bool) → Stands timed timings cost (passedOver node) q T → FoundFrom timed timings cost (passedOver node) q T best r) →
+      (q : List ℕ) (T : List Bool) → Stands timed timings cost node q T → FoundFrom timed timings cost node q T best r
+  unfolding setNumber
+  found-passed fewer found q [] stands = absurd (omega (arith, stands .behind))
+  found-passed fewer found q (false ∷ T) stands =
+      record { least = pass-over _ (found (q ++ (0 ∷ [])) T (stands-passed stands) .least) }
+  found-passed fewer found q (true ∷ T) stands = absurd (full fewer (length T) (omega (arith, stands .behind)) (stands .rest))
+    where
+      full : node .rest < half → (m : ℕ) → m ≡ timed .items - node .item - 1 → node .rest ≡ 2 ^ m + setNumber m T → ⊥
+      full fewer m e rest = let same : half ≡ 2 ^ m = is-half ∙ ap (λ (k : ℕ). 2 ^ k) (sym e) in omega arith
+
+  is-flagged : half ≤ node .rest → (q : List ℕ) (T : List Bool) → Stands timed timings cost node q T → Flagged half T
+  unfolding setNumber
+  is-flagged enough q [] stands = absurd (omega (arith, stands .behind))
+  is-flagged enough q (true ∷ T) stands =
+      flagged T refl (is-half ∙ ap (λ (k : ℕ). 2 ^ k) (omega (arith, stands .behind)))
+  is-flagged enough q (false ∷ T) stands =
+      let same : half ≡ 2 ^ length T = is-half ∙ ap (λ (k : ℕ). 2 ^ k) (omega (arith, stands .behind)) in
+      absurd (omega (arith, stands .rest, setNumber-below (length T) T))
+
+  pub found-none : half ≤ node .rest → node .level ≡ timed .levels → {best : Worth} →
+      (q : List ℕ) (T : List Bool) → Stands timed timings cost node q T → FoundFrom timed timings cost node q T best best
+  found-none enough all q T stands = go (is-flagged enough q T stands)
+    where
+      go : {best : Worth} → Flagged half T → FoundFrom timed timings cost node q T best best
+      go (flagged T' e is) = rw e (record { least = no-level-left _ (omega arith) })
+
+  -- at the node's level a job is longer than its window
+  pub found-later : TimedReady timed timings cost → half ≤ node .rest → node .level ≢ timed .levels →
+      timingAt timings (node .item) .window < timingAt timings (node .item) .ticks (node .level) → {best r : Worth} →
+      ((q : List ℕ) (T : List Bool) → Stands timed timings cost (nextLevel node) q T → FoundFrom timed timings cost (nextLevel node) q T best r) →
+      (q : List ℕ) (T : List Bool) → Stands timed timings cost node q T → FoundFrom timed timings cost node q T best r
+  found-later ready enough level long {best} {r} found q T stands = go (is-flagged enough q T stands)
+    where
+      go : Flagged half T → FoundFrom timed timings cost node q T best r
+      go (flagged T' e is) =
+          rw e (record {
+            least =
+                level-by-level _ (omega (arith, stands .level))
+                (nothing-before (λ u reached. absurd (too-long-is-not-reached (ready .timed-items) (rw e at stands) long reached)))
+                (rw (e, add-one (node .level)) at (found q T (stands-next ready stands level) .least));
+          })
+
+  module _ (ready : TimedReady timed timings cost) (enough : half ≤ node .rest) (level : node .level ≢ timed .levels) {ticks its : ℕ}
+      (are-ticks : ticks ≡ timingAt timings (node .item) .ticks (node .level)) (is-cost : its ≡ entryOf cost (node .item) (node .level))
+      (within : ticks ≤ timingAt timings (node .item) .window) where
+    pub run-stands : (q : List ℕ) (T : List Bool) → Stands timed timings cost node q T →
+        (q' : List ℕ) × (T' : List Bool) × Stands timed timings cost (runAt node half ticks its) q' T'
+    run-stands q T stands = go (is-flagged enough q T stands)
+      where
+        go : Flagged half T → (q' : List ℕ) × (T' : List Bool) × Stands timed timings cost (runAt node half ticks its) q' T'
+        go (flagged T' e is) =
+            (q ++ (suc (node .level) ∷ []), T', stands-run ready (rw e at stands) half ticks its is (omega (arith, stands .level)) are-ticks is-cost within)
+
+    pub found-both : {best here r : Worth} →
+        ((q : List ℕ) (T : List Bool) → Stands timed timings cost (runAt node half ticks its) q T →
+        FoundFrom timed timings cost (runAt node half ticks its) q T best here) →
+        ((q : List ℕ) (T : List Bool) → Stands timed timings cost (nextLevel node) q T → FoundFrom timed timings cost (nextLevel node) q T here r) →
+        (q : List ℕ) (T : List Bool) → Stands timed timings cost node q T → FoundFrom timed timings cost node q T best r
+    found-both {best} {here} {r} this others q T stands = go (is-flagged enough q T stands)
+      where
+        go : Flagged half T → FoundFrom timed timings cost node q T best r
+        go (flagged T' e is) =
+            let child = stands-run ready (rw e at stands) half ticks its is (omega (arith, stands .level)) are-ticks is-cost within in
+            rw e (record {
+              least =
+                  level-by-level _ (omega (arith, stands .level))
+                  (this (q ++ (suc (node .level) ∷ [])) T' child .least)
+                  (rw (e, add-one (node .level)) at (others q T (stands-next ready stands level) .least));
+            })

@@ -1,0 +1,14 @@
+pub mod TimedCores
+pub mod Reached
+pub mod ReachedLaws
+pub mod PatternLaws
+pub mod DemandBounds
+pub mod Nodes
+pub mod NodeLaws
+pub mod AdmittedLaws
+pub mod ColumnLaws
+pub mod BoundLaws
+pub mod PromisingLaws
+pub mod WholeLaws
+pub mod FoundLaws
+pub mod SetTheorem

@@ -1,0 +1,126 @@
+-- What the search asks of timings and costs, what a node of it holds of the front of a pattern, and what it finds.
+use Prim.Native.Nat.{ℕ, suc, _+_, _-_, _*_, _^_, _≤_, _<_, _∣_}
+use mathlib.Core.Bool.{Bool, true}
+use mathlib.Core.List.{List, []}
+use mathlib.Core.Path.{_≡_}
+use lib.ListN.{length, getD, set}
+use Rattle.ranges.specs.Limits.{mostPeriod, mostSpan}
+use Rattle.edf.specs.Demand.{meetsDemand}
+use Rattle.assignment.specs.Assignment.{Item}
+use Rattle.assignment.specs.CoreTables.{Admitted, patternWorth}
+use Rattle.assignment.specs.Keys.{keyBase, planKey}
+use Rattle.assignment.specs.Limits.{mostCoreCost, mostCost, mostItems, mostLevels}
+use Rattle.assignment.specs.Sets.{setNumber, tableAt}
+use Rattle.assignment.specs.Keeping.{Keeps}
+use Rattle.partition.specs.Tables.{SmallTable}
+use Rattle.assignment.specs.Values.{Value, AtMost, Least}
+use Rattle.knapsack.specs.Offered.{entryOf, offersOf}
+use Rattle.knapsack.specs.Offers.{patternCost}
+use Rattle.values.specs.Worths.{Small, worthOf}
+use Rattle.values.specs.declared.value.Worth.{Worth}
+use Rattle.timed_sets.specs.Reached.{OneCore, worthOn, Reached, LeastFrom}
+use Rattle.timed_sets.specs.TimedCores.{timingWidth, timingAt, timingIn, timingsOf, patternTasks, entryTicks, timedOptions}
+use Rattle.timed_sets.specs.declared.Node.{Node}
+use Rattle.timed_sets.specs.declared.Timed.{Timed}
+
+-- the core that timings and costs speak of
+abbrev pub timedCore : Timed → (timings cost : List ℕ) → OneCore
+timedCore timed timings cost =
+    record {
+      levels = timed .levels;
+      admits = λ pattern. meetsDemand (patternTasks (timingsOf timings (timed .items)) pattern) (timed .span);
+      cost = patternCost (offersOf [] cost (timed .items));
+    }
+
+-- windows that are not empty and end by the next release, and periods that divide the span
+pub record TimedItem (span : ℕ) (timings : List ℕ) (i : ℕ) : Type 0 where
+  pub period-at-most : timingAt timings i .period ≤ mostPeriod
+  pub period-divides : timingAt timings i .period ∣ span
+  pub window-above-0 : 1 ≤ timingAt timings i .window
+  pub window-within-period : timingAt timings i .window ≤ timingAt timings i .period
+
+pub record TimedItems (timed : Timed) (timings : List ℕ) : Type 0 where
+  pub few-items : timed .items ≤ mostItems
+  pub few-levels : timed .levels ≤ mostLevels
+  pub span-above-0 : 0 < timed .span
+  pub span-at-most : timed .span ≤ mostSpan
+  pub timings-for-all : timed .items * timingWidth ≤ length timings
+  pub item : (i : ℕ) → i < timed .items → TimedItem (timed .span) timings i
+
+pub record TimedReady (timed : Timed) (timings cost : List ℕ) : Type 0 where
+  pub timed-items : TimedItems timed timings
+  pub costs-for-all : timed .items * mostLevels ≤ length cost
+  -- no level at which a job has its ticks within its window costs more
+  pub cheap : (i l : ℕ) → i < timed .items → l < timed .levels → timingAt timings i .ticks l ≤ timingAt timings i .window →
+      entryOf cost i l ≤ mostCost
+
+-- a node with an item to come, small enough for the steps from it
+pub record SmallNode (node : Node) : Type 0 where
+  pub item : node .item < mostItems
+  pub level : node .level ≤ mostLevels
+  pub cost : node .cost ≤ node .item * mostCost
+  pub key : node .key < keyBase ^ node .item
+  pub places : length (node .ticks) ≡ mostItems
+
+-- the node holds the front q of a pattern, with the flags T of the items after it
+pub record Stands (timed : Timed) (timings cost : List ℕ) (node : Node) (q : List ℕ) (T : List Bool) : Type 0 where
+  pub front : length q ≡ node .item
+  pub behind : node .item + length T ≡ timed .items
+  pub level : node .level ≤ timed .levels
+  pub rest : node .rest ≡ setNumber (length T) T
+  pub costs : node .cost ≡ patternCost (offersOf [] cost (timed .items)) q
+  pub key : node .key ≡ planKey q
+  pub ticks : (j : ℕ) → getD (node .ticks) j 0 ≡ entryTicks (timingIn (timingsOf timings (timed .items)) j) (getD q j 0)
+  pub cheap : node .cost ≤ node .item * mostCost
+  pub key-below : node .key < keyBase ^ node .item
+  pub places : length (node .ticks) ≡ mostItems
+
+abbrev pub passedOver : Node → Node
+passedOver node =
+    record { item = node .item + 1; level = 0; rest = node .rest; cost = node .cost; key = node .key * keyBase; ticks = node .ticks }
+
+abbrev pub runAt : Node → (half ticks cost : ℕ) → Node
+runAt node half ticks cost =
+    record {
+      item = node .item + 1;
+      level = 0;
+      rest = node .rest - half;
+      cost = node .cost + cost;
+      key = node .key * keyBase + (node .level + 1);
+      ticks = set (node .ticks) (node .item) ticks;
+    }
+
+abbrev pub nextLevel : Node → Node
+nextLevel node =
+    record { item = node .item; level = node .level + 1; rest = node .rest; cost = node .cost; key = node .key; ticks = node .ticks }
+
+abbrev pub SmallWorth : Timed → Worth → Type 0
+SmallWorth timed worth = Small (timed .items) (worth .cost) (worth .key)
+
+-- the least of the best so far and of what is reached from the node
+pub record FoundFrom (timed : Timed) (timings cost : List ℕ) (node : Node) (q : List ℕ) (T : List Bool) (best r : Worth) : Type 0 where
+  pub least : LeastFrom (Reached (timedCore timed timings cost) q T (node .level)) (worthOf best) (worthOf r)
+
+-- nothing that is reached from the node comes before the best so far
+pub record NothingBefore (timed : Timed) (timings cost : List ℕ) (node : Node) (q : List ℕ) (T : List Bool) (best : Worth) : Type 0 where
+  pub after : (u : Value) → Reached (timedCore timed timings cost) q T (node .level) u → AtMost (worthOf best) u
+
+-- a table of values that no admitted pattern of their sets comes before
+pub record LowerTimed (timed : Timed) (timings cost lowCosts lowKeys : List ℕ) : Type 0 where
+  pub few-items : timed .items ≤ mostItems
+  pub small : SmallTable (timed .items) mostCoreCost lowCosts lowKeys
+  pub lower : (S : List Bool) → length S ≡ timed .items → (pattern : List ℕ) → Keeps (timed .levels) S pattern →
+      timedCore timed timings cost .admits pattern ≡ true →
+      AtMost (tableAt (timed .items) lowCosts lowKeys S) (worthOn (timedCore timed timings cost) pattern)
+
+-- one word of each of the first i items' timings
+pub record WordColumn (items word : ℕ) (timings : List ℕ) (i : ℕ) (column : List ℕ) : Type 0 where
+  pub places : length column ≡ mostItems
+  pub at : (j : ℕ) → j < i → getD column j 0 ≡ getD timings (j * timingWidth + word) 0
+
+-- the least value of the set, whatever the cores, the loads and the refusals are
+pub record LeastInTime (timed : Timed) (set : ℕ) (timings cost : List ℕ) (r : Worth) : Type 0 where
+  pub least : (cores : ℕ) (load : List ℕ) (items : List Item) (S : List Bool) → length S ≡ timed .items → setNumber (timed .items) S ≡ set →
+      let o = timedOptions cores (timed .levels) (timed .span) (timingsOf timings (timed .items)) (offersOf load cost (timed .items)) items in
+      Least (Admitted o S) (patternWorth o) (worthOf r)
+  pub small : SmallWorth timed r

@@ -1,0 +1,124 @@
+-- The steps of a search through what is reached: each leaves the least of a known value and of all that is reached.
+use Prim.Native.Nat.{ℕ, zero, suc, _≤_, _<_}
+use mathlib.Core.Bool.{Bool, true, false}
+use mathlib.Core.List.{List, [], _∷_, _++_, append-assoc, append-nil}
+use mathlib.Core.Logic.{_⊎_, inl, inr}
+use mathlib.Core.Path.{_≡_, refl, sym, ap, _∙_}
+use native.Mathlib.Nat.{eq-or-lt-of-le}
+use native.Mathlib.Omega.{arith}
+use Rattle.laws.specs.Truth.{false-not-true}
+use Rattle.assignment.specs.Keeping.{Keeps, done, refused, kept}
+use Rattle.assignment.specs.Values.{Value, none, pair, AtMost, to-none, lesser, Least}
+use Rattle.assignment.specs.ValueLaws.{atMost-refl, atMost-trans, lesser-first, lesser-second, lesser-either}
+use Rattle.timed_sets.specs.Reached.{OneCore, worthOn, Reached, whole, passed, runs, LeastFrom}
+
+-- nothing that is reached comes before the known value
+pub nothing-before : {Has : Value → Type 0} {known : Value} → ((u : Value) → Has u → AtMost known u) → LeastFrom Has known known
+nothing-before {known} after = record { no-later = atMost-refl known; below = after; attained = inl refl }
+
+module _ (core : OneCore) where
+  pub whole-met : {q : List ℕ} {level : ℕ} {known : Value} → core .admits q ≡ true →
+      LeastFrom (Reached core q [] level) known (lesser known (worthOn core q))
+  whole-met {q} {level} {known} met =
+      record {
+        no-later = lesser-first known (worthOn core q);
+        below = below;
+        attained = attained (lesser-either known (worthOn core q));
+      }
+    where
+      below : (u : Value) → Reached core q [] level u → AtMost (lesser known (worthOn core q)) u
+      below u (whole also) = lesser-second known (worthOn core q)
+
+      attained : (lesser known (worthOn core q) ≡ known) ⊎ (lesser known (worthOn core q) ≡ worthOn core q) →
+          (lesser known (worthOn core q) ≡ known) ⊎ Reached core q [] level (lesser known (worthOn core q))
+      attained (inl e) = inl e
+      attained (inr e) = inr (rw e (whole met))
+
+  pub whole-unmet : {q : List ℕ} {level : ℕ} {known : Value} → core .admits q ≡ false → LeastFrom (Reached core q [] level) known known
+  whole-unmet {q} {level} {known} unmet = nothing-before below
+    where
+      below : (u : Value) → Reached core q [] level u → AtMost known u
+      below u (whole met) = absurd (false-not-true unmet met)
+
+  pub pass-over : {q : List ℕ} {T : List Bool} {level : ℕ} {known v : Value} → LeastFrom (Reached core (q ++ (0 ∷ [])) T 0) known v →
+      LeastFrom (Reached core q (false ∷ T) level) known v
+  pass-over {q} {T} {level} {known} {v} least =
+      record { no-later = least .no-later; below = below; attained = attained (least .attained) }
+    where
+      below : (u : Value) → Reached core q (false ∷ T) level u → AtMost v u
+      below u (passed reached) = least .below u reached
+
+      attained : (v ≡ known) ⊎ Reached core (q ++ (0 ∷ [])) T 0 v → (v ≡ known) ⊎ Reached core q (false ∷ T) level v
+      attained (inl e) = inl e
+      attained (inr reached) = inr (passed reached)
+
+  pub no-level-left : {q : List ℕ} {T : List Bool} {level : ℕ} {known : Value} → core .levels ≤ level →
+      LeastFrom (Reached core q (true ∷ T) level) known known
+  no-level-left {q} {T} {level} {known} all = nothing-before below
+    where
+      below : (u : Value) → Reached core q (true ∷ T) level u → AtMost known u
+      below u (runs l from within reached) = absurd (omega arith)
+
+  -- what is reached at this level, then what is reached at the others
+  pub level-by-level : {q : List ℕ} {T : List Bool} {level : ℕ} {known here v : Value} → level < core .levels →
+      LeastFrom (Reached core (q ++ (suc level ∷ [])) T 0) known here → LeastFrom (Reached core q (true ∷ T) (suc level)) here v →
+      LeastFrom (Reached core q (true ∷ T) level) known v
+  level-by-level {q} {T} {level} {known} {here} {v} is-level this others =
+      record {
+        no-later = atMost-trans (others .no-later) (this .no-later);
+        below = below;
+        attained = attained (others .attained) (this .attained);
+      }
+    where
+      at : (l : ℕ) {u : Value} → (suc level ≡ suc l) ⊎ (suc level < suc l) → l < core .levels → Reached core (q ++ (suc l ∷ [])) T 0 u → AtMost v u
+      at l {u} (inl same) within reached =
+          let e : l ≡ level = omega arith in atMost-trans (others .no-later) (this .below u (rw e at reached))
+      at l {u} (inr later) within reached = others .below u (runs {level = suc level} l (omega arith) within reached)
+
+      below : (u : Value) → Reached core q (true ∷ T) level u → AtMost v u
+      below u (runs l from within reached) = at l (eq-or-lt-of-le (omega arith)) within reached
+
+      first-level : (here ≡ known) ⊎ Reached core (q ++ (suc level ∷ [])) T 0 here → v ≡ here → (v ≡ known) ⊎ Reached core q (true ∷ T) level v
+      first-level (inl e) same = inl (same ∙ e)
+      first-level (inr reached) same = inr (rw same (runs {level = level} level (omega arith) is-level reached))
+
+      attained : (v ≡ here) ⊎ Reached core q (true ∷ T) (suc level) v → (here ≡ known) ⊎ Reached core (q ++ (suc level ∷ [])) T 0 here →
+          (v ≡ known) ⊎ Reached core q (true ∷ T) level v
+      attained (inl same) before = first-level before same
+      attained (inr (runs l from within reached)) before = inr (runs {level = level} l (omega arith) within reached)
+
+-- What is reached is what the admitted patterns are worth that begin so and keep exactly the flagged items.
+module _ (core : OneCore) where
+  pub reached-pattern : {q : List ℕ} {T : List Bool} {level : ℕ} {v : Value} → Reached core q T level v →
+      (r : List ℕ) × Keeps (core .levels) T r × (core .admits (q ++ r) ≡ true) × (v ≡ worthOn core (q ++ r))
+  reached-pattern {q} (whole met) = ([], done, rw (append-nil q) met, rw (append-nil q) refl)
+  reached-pattern {q} (passed reached) =
+      let (r, keeps, met, worth) = reached-pattern reached in
+      (0 ∷ r, refused keeps, rw (append-assoc q (0 ∷ []) r) at met, worth ∙ ap (worthOn core) (append-assoc q (0 ∷ []) r))
+  reached-pattern {q} (runs l from within reached) =
+      let (r, keeps, met, worth) = reached-pattern reached in
+      (suc l ∷ r, kept l within keeps, rw (append-assoc q (suc l ∷ []) r) at met, worth ∙ ap (worthOn core) (append-assoc q (suc l ∷ []) r))
+
+  pub pattern-reached : {T : List Bool} {r : List ℕ} (q : List ℕ) → Keeps (core .levels) T r → core .admits (q ++ r) ≡ true →
+      Reached core q T 0 (worthOn core (q ++ r))
+  pattern-reached q done met = rw (append-nil q) (whole (rw (append-nil q) at met))
+  pattern-reached q (refused {plan = r} keeps) met =
+      let e = append-assoc q (0 ∷ []) r in
+      passed (rw e at (pattern-reached (q ++ (0 ∷ [])) keeps (rw (sym e) at met)))
+  pattern-reached q (kept {plan = r} l within keeps) met =
+      let e = append-assoc q (suc l ∷ []) r in
+      runs {level = 0} l (omega arith) within (rw e at (pattern-reached (q ++ (suc l ∷ [])) keeps (rw (sym e) at met)))
+
+  -- from nothing on, where nothing is known: the least value of a set
+  pub least-of-set : {S : List Bool} {v : Value} → LeastFrom (Reached core [] S 0) none v →
+      Least (λ (pattern : List ℕ). Keeps (core .levels) S pattern × (core .admits pattern ≡ true)) (worthOn core) v
+  least-of-set {S} {v} least =
+      record {
+        below = λ pattern has. least .below (worthOn core pattern) (pattern-reached [] (has .0) (has .1));
+        attained = attained (least .attained);
+      }
+    where
+      attained : (v ≡ none) ⊎ Reached core [] S 0 v →
+          (v ≡ none) ⊎ ((pattern : List ℕ) × (Keeps (core .levels) S pattern × (core .admits pattern ≡ true)) × (v ≡ worthOn core pattern))
+      attained (inl e) = inl e
+      attained (inr reached) = let (r, keeps, met, worth) = reached-pattern reached in inr (r, (keeps, met), worth)

@@ -1,0 +1,56 @@
+-- A whole pattern: what is found there.
+use Prim.Native.Nat.{ℕ, _+_, _*_, _≤_, _<_}
+use mathlib.Core.Bool.{Bool, true, false}
+use mathlib.Core.List.{List, [], _∷_}
+use mathlib.Core.Logic.{_⊎_, inl, inr}
+use mathlib.Core.Path.{_≡_, refl, sym, ap, ap₂, _∙_}
+use native.Mathlib.Omega.{arith}
+use lib.ListN.{length}
+use Rattle.assignment.specs.Limits.{mostCost, mostItems}
+use Rattle.assignment.specs.Values.{Value, pair, lesser}
+use Rattle.assignment.specs.Words.{noCost, words-pair}
+use Rattle.values.specs.WorthLaws.{lesserWorth-either, lesserWorth-value}
+use Rattle.values.specs.Worths.{Small, lesserWorth, worthOf}
+use Rattle.values.specs.declared.value.Worth.{Worth}
+use Rattle.timed_sets.specs.Nodes.{timedCore, Stands, FoundFrom, SmallWorth}
+use Rattle.timed_sets.specs.Reached.{worthOn}
+use Rattle.timed_sets.specs.ReachedLaws.{whole-met, whole-unmet}
+use Rattle.timed_sets.specs.declared.Node.{Node}
+use Rattle.timed_sets.specs.declared.Timed.{Timed}
+
+abbrev pub worthAt : Node → Worth
+worthAt node = record { cost = node .cost; key = node .key }
+
+module _ {timed : Timed} {timings cost : List ℕ} {node : Node} (few : timed .items ≤ mostItems) (whole : node .item ≡ timed .items) where
+  its-worth : {q : List ℕ} {T : List Bool} → Stands timed timings cost node q T → worthOf (worthAt node) ≡ worthOn (timedCore timed timings cost) q
+  unfolding worthOn
+  its-worth stands = words-pair (node .cost) (node .key) (omega (arith, stands .cheap)) ∙ ap₂ pair (stands .costs) (stands .key)
+
+  pub found-met : {best r : Worth} → r ≡ lesserWorth best (worthAt node) → (q : List ℕ) (T : List Bool) → Stands timed timings cost node q T →
+      true ≡ timedCore timed timings cost .admits q → FoundFrom timed timings cost node q T best r
+  found-met {best} {r} is q [] stands met =
+      let value : worthOf r ≡ lesser (worthOf best) (worthOn (timedCore timed timings cost) q) =
+      ap worthOf is ∙ lesserWorth-value best (worthAt node) ∙ ap (lesser (worthOf best)) (its-worth stands) in
+      record { least = rw value (whole-met _ (sym met)) }
+  found-met is q (b ∷ T) stands met = absurd (omega (arith, stands .behind))
+
+  pub found-unmet : {best : Worth} (q : List ℕ) (T : List Bool) → Stands timed timings cost node q T → false ≡ timedCore timed timings cost .admits q →
+      FoundFrom timed timings cost node q T best best
+  found-unmet q [] stands unmet = record { least = whole-unmet _ (sym unmet) }
+  found-unmet q (b ∷ T) stands unmet = absurd (omega (arith, stands .behind))
+
+pub lesser-small : (timed : Timed) (a b r : Worth) → r ≡ lesserWorth a b → Small (timed .items) (b .cost) (b .key) → SmallWorth timed a → SmallWorth timed r
+lesser-small timed a b r is small-b small-a = go (lesserWorth-either a b)
+  where
+    go : (lesserWorth a b ≡ a) ⊎ (lesserWorth a b ≡ b) → SmallWorth timed r
+    go (inl e) = let same = is ∙ e in rw same small-a
+    go (inr e) = let same = is ∙ e in rw same small-b
+
+pub small-at : {timed : Timed} {timings cost : List ℕ} {node : Node} {q : List ℕ} {T : List Bool} → timed .items ≤ mostItems →
+    node .item ≡ timed .items → Stands timed timings cost node q T → Small (timed .items) (node .cost) (node .key)
+small-at few whole stands =
+    record {
+      at-most-none = omega (arith, stands .cheap);
+      real = λ below. rw (← whole) (stands .cheap);
+      digits = rw (← whole) (stands .key-below);
+    }

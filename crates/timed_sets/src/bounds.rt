@@ -1,0 +1,76 @@
+// What leaves a part of a pattern out of the search.
+use crate::Node;
+use crate::Timed;
+use crate::columns::is_admitted;
+use values::NO_COST;
+use values::Worth;
+use values::keys_of;
+ghost use mathlib.Core.Bool.{Bool, false};
+ghost use mathlib.Core.List.{List};
+ghost use mathlib.Core.Path.{_≡_};
+ghost use Prim.Native.Nat.{ℕ, _<_, _≤_};
+ghost use mathlib.Core.Logic.{_⊎_};
+ghost use Rattle.timed_sets.specs.Nodes.{LowerTimed, NothingBefore, Stands, TimedItems};
+
+// Whether a comes before b.
+fn comes_first(a: Worth, b: Worth) -> bool
+    ensures { λ r. ⌜ (r ≡ false → (b .cost < a .cost) ⊎ ((b .cost ≡ a .cost) × (b .key ≤ a .key))) ⌝ }
+{
+    if a.cost < b.cost {
+        return true;
+    }
+    if b.cost < a.cost {
+        return false;
+    }
+    a.key < b.key
+}
+
+// Whether what the node is worth and the table's value of the items still to come come before the best so far.
+fn bound_comes_first(
+    timed: Timed,
+    node: Node,
+    best: Worth,
+    lowcosts: &[u64],
+    lowkeys: &[u64],
+) -> bool
+    requires { ⌜ ((timings cost q : List ℕ) × (T : List Bool) × LowerTimed timed timings cost (now lowcosts) (now lowkeys)
+        × Stands timed timings cost node q T) ⌝ }
+    ensures { λ r. ⌜ ((timings cost q : List ℕ) (T : List Bool) → LowerTimed timed timings cost (now (lowcosts .entry)) (now (lowkeys .entry)) →
+        Stands timed timings cost node q T → r ≡ false → NothingBefore timed timings cost node q T best) ⌝ }
+{
+    let rest = node.rest;
+    let low = lowcosts[rest];
+    if NO_COST <= low {
+        return false;
+    }
+    let bound = Worth {
+        cost: node.cost + low,
+        key: node.key * keys_of(timed.items - node.item) + lowkeys[rest],
+    };
+    comes_first(bound, best)
+}
+
+// Whether something that goes on from the node can come before the best so far: not where its bound does not, and not where the front
+// alone asks for too much by some tick, which is tested once for all levels of the next item.
+pub(crate) fn is_promising(
+    timed: Timed,
+    node: Node,
+    best: Worth,
+    timings: &[u32],
+    lowcosts: &[u64],
+    lowkeys: &[u64],
+) -> bool
+    requires { ⌜ TimedItems timed (now timings) ⌝ }
+    requires { ⌜ ((cost q : List ℕ) × (T : List Bool) × LowerTimed timed (now timings) cost (now lowcosts) (now lowkeys)
+        × Stands timed (now timings) cost node q T) ⌝ }
+    ensures { λ r. ⌜ ((cost q : List ℕ) (T : List Bool) → LowerTimed timed (now (timings .entry)) cost (now (lowcosts .entry)) (now (lowkeys .entry)) →
+        Stands timed (now (timings .entry)) cost node q T → r ≡ false → NothingBefore timed (now (timings .entry)) cost node q T best) ⌝ }
+{
+    if !bound_comes_first(timed, node, best, lowcosts, lowkeys) {
+        return false;
+    }
+    if 0 < node.level {
+        return true;
+    }
+    is_admitted(timed, node, timings)
+}

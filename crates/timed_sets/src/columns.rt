@@ -1,0 +1,44 @@
+// The test of a whole pattern.
+use crate::Node;
+use crate::TIMING_WIDTH;
+use crate::Timed;
+use demand::unmet_tick;
+use values::MOST_ITEMS;
+ghost use mathlib.Core.Path.{_≡_};
+ghost use Prim.Native.Nat.{_*_, _≤_, _<_};
+ghost use lib.Dec.{eqb};
+ghost use lib.ListN.{length};
+ghost use mathlib.Core.List.{List};
+ghost use mathlib.Core.Bool.{Bool};
+ghost use Prim.Native.Nat.{ℕ};
+ghost use Rattle.assignment.specs.Limits.{mostItems};
+ghost use Rattle.timed_sets.specs.TimedCores.{timingWidth};
+ghost use Rattle.timed_sets.specs.Nodes.{TimedItems, Stands, WordColumn, timedCore};
+
+// One word of each item's timing: its period for 0, its window for 1.
+fn word_column(items: usize, word: usize, timings: &[u32]) -> [u32; MOST_ITEMS]
+    requires { ⌜ (items ≤ mostItems) × (items * timingWidth ≤ length (now timings)) × (word < timingWidth) ⌝ }
+    ensures { λ r. ⌜ WordColumn items word (now (timings .entry)) items r ⌝ }
+{
+    let mut column = [0; MOST_ITEMS];
+    let mut i = 0;
+    while i < items {
+        column[i] = timings[i * TIMING_WIDTH + word];
+        i += 1;
+    }
+    column
+}
+
+// Whether the core admits the node's pattern.
+pub(crate) fn is_admitted(timed: Timed, node: Node, timings: &[u32]) -> bool
+    requires { ⌜ TimedItems timed (now timings) ⌝ }
+    requires { ⌜ length (node .ticks) ≡ mostItems ⌝ }
+    ensures { λ r. ⌜ ((cost q : List ℕ) (T : List Bool) → Stands timed (now (timings .entry)) cost node q T →
+        r ≡ timedCore timed (now (timings .entry)) cost .admits q) ⌝ }
+{
+    let n = timed.items;
+    let periods = word_column(n, 0, timings);
+    let windows = word_column(n, 1, timings);
+    let ticks = node.ticks;
+    unmet_tick(timed.span, &periods[..n], &windows[..n], &ticks[..n]) == 0
+}

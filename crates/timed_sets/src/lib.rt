@@ -1,0 +1,64 @@
+// The least value of one set of items on a core whose jobs are due at given ticks: depth first over the items of the set and their
+// levels. Items are offered at what they cost alone.
+mod bounds;
+mod columns;
+mod nodes;
+mod search;
+
+use search::least_from;
+use values::MOST_ITEMS;
+use values::MOST_LEVELS;
+use values::NO_COST;
+use values::Worth;
+ghost use Prim.Native.Nat.{_^_, _<_};
+ghost use Rattle.timed_sets.specs.Nodes.{TimedReady, LowerTimed, LeastInTime};
+
+// How many items and levels there are, and how many ticks a span has.
+pub struct Timed {
+    pub items: usize,
+    pub levels: usize,
+    pub span: u32,
+}
+
+// The words of an item's timing: its period, its window, and the ticks of a job at each level.
+pub const TIMING_WIDTH: usize = MOST_LEVELS + 2;
+
+// A part of a pattern: the items before `item` have their level, those of the set `rest` are still to have one, `item` from
+// `level` on. What the part costs, its key, and the ticks of a job of each item.
+struct Node {
+    item: usize,
+    level: usize,
+    rest: usize,
+    cost: u64,
+    key: u64,
+    ticks: [u32; MOST_ITEMS],
+}
+
+// The least value of running exactly the items of a set, by its number, with every job done in time.
+pub fn least_in_time(
+    timed: Timed,
+    set: usize,
+    timings: &[u32],
+    cost: &[u64],
+    lowcosts: &[u64],
+    lowkeys: &[u64],
+) -> Worth
+    requires { ⌜ TimedReady timed (now timings) (now cost) ⌝ }
+    requires { ⌜ LowerTimed timed (now timings) (now cost) (now lowcosts) (now lowkeys) ⌝ }
+    requires { ⌜ set < 2 ^ timed .items ⌝ }
+    ensures { λ r. ⌜ LeastInTime timed set (now (timings .entry)) (now (cost .entry)) r ⌝ }
+{
+    let start = Node {
+        item: 0,
+        level: 0,
+        rest: set,
+        cost: 0,
+        key: 0,
+        ticks: [0; MOST_ITEMS],
+    };
+    let none = Worth {
+        cost: NO_COST,
+        key: 0,
+    };
+    least_from(timed, start, none, timings, cost, lowcosts, lowkeys)
+}

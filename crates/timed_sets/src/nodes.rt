@@ -1,0 +1,70 @@
+// The steps from one part of a pattern to the next.
+use crate::Node;
+use crate::TIMING_WIDTH;
+use values::KEY_BASE;
+use values::MOST_ITEMS;
+ghost use mathlib.Core.Path.{_≡_};
+ghost use Prim.Native.Nat.{suc, _+_, _*_, _≤_, _<_};
+ghost use lib.Dec.{leb};
+ghost use lib.ListN.{length, getD};
+ghost use Rattle.assignment.specs.Limits.{mostItems, mostCost};
+ghost use Rattle.timed_sets.specs.TimedCores.{timingWidth};
+ghost use Rattle.timed_sets.specs.Nodes.{passedOver, runAt, nextLevel, SmallNode};
+
+// Whether a job has its ticks within its window at a level.
+pub(crate) fn is_within_window(item: usize, level: usize, timings: &[u32]) -> bool
+    requires { ⌜ (item < mostItems) × (item * timingWidth + 2 + level < length (now timings)) ⌝ }
+    ensures { λ r. ⌜ r ≡ leb (getD (now (timings .entry)) (item * timingWidth + 2 + level) 0) (getD (now (timings .entry)) (item * timingWidth + 1) 0) ⌝ }
+{
+    timings[item * TIMING_WIDTH + 2 + level] <= timings[item * TIMING_WIDTH + 1]
+}
+
+// The core does not run the item.
+pub(crate) fn passed_over(node: Node) -> Node
+    requires { ⌜ SmallNode node ⌝ }
+    ensures { λ r. ⌜ r ≡ passedOver node ⌝ }
+{
+    let ticks = node.ticks;
+    Node {
+        item: node.item + 1,
+        level: 0,
+        rest: node.rest,
+        cost: node.cost,
+        key: node.key * KEY_BASE,
+        ticks,
+    }
+}
+
+// The core runs the item, number `half` of the sets, at the level, with so many ticks a job, at this cost.
+pub(crate) fn run_at(node: Node, half: usize, ticks: u32, cost: u64) -> Node
+    requires { ⌜ SmallNode node ⌝ }
+    requires { ⌜ (half ≤ node .rest) × (cost ≤ mostCost) ⌝ }
+    ensures { λ r. ⌜ r ≡ runAt node half ticks cost ⌝ }
+{
+    let mut column = node.ticks;
+    let at = node.item;
+    column[at] = ticks;
+    Node {
+        item: node.item + 1,
+        level: 0,
+        rest: node.rest - half,
+        cost: node.cost + cost,
+        key: node.key * KEY_BASE + (node.level as u64 + 1),
+        ticks: column,
+    }
+}
+
+pub(crate) fn next_level(node: Node) -> Node
+    requires { ⌜ SmallNode node ⌝ }
+    ensures { λ r. ⌜ r ≡ nextLevel node ⌝ }
+{
+    let ticks = node.ticks;
+    Node {
+        item: node.item,
+        level: node.level + 1,
+        rest: node.rest,
+        cost: node.cost,
+        key: node.key,
+        ticks,
+    }
+}

@@ -1,0 +1,112 @@
+// The search through the patterns that go on from a part.
+use crate::Node;
+use crate::TIMING_WIDTH;
+use crate::Timed;
+use crate::bounds::is_promising;
+use crate::columns::is_admitted;
+use crate::nodes::is_within_window;
+use crate::nodes::next_level;
+use crate::nodes::passed_over;
+use crate::nodes::run_at;
+use values::STRIDE;
+use values::Worth;
+use values::lesser;
+use values::sets_of;
+ghost use mathlib.Core.Bool.{Bool};
+ghost use mathlib.Core.List.{List};
+ghost use Prim.Native.Nat.{ℕ};
+ghost use Rattle.timed_sets.specs.Nodes.{TimedItems, TimedReady, LowerTimed, Stands, SmallWorth, FoundFrom};
+ghost use mathlib.Core.Path.{_≡_};
+ghost use lib.ListN.{length};
+ghost use Rattle.assignment.specs.Limits.{mostItems};
+ghost use Rattle.values.specs.Worths.{Small};
+
+// A whole pattern, where it comes before the best so far and the core admits it.
+fn with_whole(timed: Timed, node: Node, best: Worth, timings: &[u32]) -> Worth
+    requires { ⌜ TimedItems timed (now timings) ⌝ }
+    requires { ⌜ length (node .ticks) ≡ mostItems ⌝ }
+    ensures { λ r. ⌜ ((cost q : List ℕ) (T : List Bool) → node .item ≡ timed .items → Stands timed (now (timings .entry)) cost node q T →
+        FoundFrom timed (now (timings .entry)) cost node q T best r) ⌝ }
+    ensures { λ r. ⌜ (Small (timed .items) (node .cost) (node .key) → SmallWorth timed best → SmallWorth timed r) ⌝ }
+{
+    if is_admitted(timed, node, timings) {
+        return lesser(
+            best,
+            Worth {
+                cost: node.cost,
+                key: node.key,
+            },
+        );
+    }
+    best
+}
+
+// The least of the best so far and of the values of all admitted patterns that go on from the node.
+pub(crate) fn least_from(
+    timed: Timed,
+    node: Node,
+    best: Worth,
+    timings: &[u32],
+    cost: &[u64],
+    lowcosts: &[u64],
+    lowkeys: &[u64],
+) -> Worth
+    requires { ⌜ TimedReady timed (now timings) (now cost) ⌝ }
+    requires { ⌜ LowerTimed timed (now timings) (now cost) (now lowcosts) (now lowkeys) ⌝ }
+    requires { ⌜ ((q : List ℕ) × (T : List Bool) × Stands timed (now timings) (now cost) node q T) ⌝ }
+    requires { ⌜ SmallWorth timed best ⌝ }
+    ensures { λ r. ⌜ ((q : List ℕ) (T : List Bool) → Stands timed (now (timings .entry)) (now (cost .entry)) node q T →
+        FoundFrom timed (now (timings .entry)) (now (cost .entry)) node q T best r) ⌝ }
+    ensures { λ r. ⌜ SmallWorth timed r ⌝ }
+{
+    if !is_promising(timed, node, best, timings, lowcosts, lowkeys) {
+        return best;
+    }
+    let i = node.item;
+    if i == timed.items {
+        return with_whole(timed, node, best, timings);
+    }
+    let half = sets_of(timed.items - i - 1);
+    if node.rest < half {
+        return least_from(
+            timed,
+            passed_over(node),
+            best,
+            timings,
+            cost,
+            lowcosts,
+            lowkeys,
+        );
+    }
+    let l = node.level;
+    if l == timed.levels {
+        return best;
+    }
+    if !is_within_window(i, l, timings) {
+        return least_from(
+            timed,
+            next_level(node),
+            best,
+            timings,
+            cost,
+            lowcosts,
+            lowkeys,
+        );
+    }
+    let child = run_at(
+        node,
+        half,
+        timings[i * TIMING_WIDTH + 2 + l],
+        cost[i * STRIDE + l],
+    );
+    let here = least_from(timed, child, best, timings, cost, lowcosts, lowkeys);
+    least_from(
+        timed,
+        next_level(node),
+        here,
+        timings,
+        cost,
+        lowcosts,
+        lowkeys,
+    )
+}
