@@ -4,6 +4,7 @@ pub mod ReachedLaws
 pub mod PatternLaws
 pub mod DemandBounds
 pub mod Nodes
+pub mod Lagrangians
 pub mod NodeLaws
 pub mod AdmittedLaws
 pub mod ColumnLaws

@@ -34,6 +34,14 @@ struct Node {
     ticks: [u32; MOST_ITEMS],
 }
 
+// Prices of a tick of a job of each item, such that the ticks of an admitted pattern come to no more than the budget; and what each
+// item costs at least, its ticks at their price included.
+pub struct Lagrangian {
+    pub prices: [u64; MOST_ITEMS],
+    pub least: [u64; MOST_ITEMS],
+    pub budget: u64,
+}
+
 // The least value of running exactly the items of a set, by its number, with every job done in time.
 pub fn least_in_time(
     timed: Timed,
