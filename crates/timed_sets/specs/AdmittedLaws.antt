@@ -35,18 +35,23 @@ module _ {timed : Timed} {timings : List ℕ} (ready : TimedItems timed timings)
   window-within-span i l =
       le-trans (ready .item i l .window-within-period) (le-of-dvd (ready .span-above-0) (ready .item i l .period-divides))
 
+  -- what is reached after an item at a level has its job's ticks within its window
+  pub reached-within-window : (cost q : List ℕ) {T : List Bool} (l : ℕ) {u : Value} → length q < timed .items →
+      Reached (timedCore timed timings cost) (q ++ (suc l ∷ [])) T 0 u →
+      timingAt timings (length q) .ticks l ≤ timingAt timings (length q) .window
+  unfolding patternTasks entryTicks
+  reached-within-window cost q l within reached =
+      let (r, keeps, met, worth) = reached-pattern _ reached in
+      let pattern = q ++ (suc l ∷ []) ++ r in
+      let i = length q in
+      let fits = ticks-within-window _ (pattern-well-formed pattern) (timed .span) met i (rw counted within)
+      (rw (timing-of timings (timed .items) i within) (window-within-span i within)) in
+      rw (entry-between q (suc l) r, timing-of timings (timed .items) i within) at fits
+
   -- at a level at which a job is longer than its window nothing is reached
   pub too-long-is-not-reached : {cost : List ℕ} {node : Node} {q : List ℕ} {T : List Bool} → Stands timed timings cost node q (true ∷ T) →
       timingAt timings (node .item) .window < timingAt timings (node .item) .ticks (node .level) → {u : Value} →
       Reached (timedCore timed timings cost) (q ++ (suc (node .level) ∷ [])) T 0 u → ⊥
-  unfolding patternTasks entryTicks
   too-long-is-not-reached {cost} {node} {q} {T} stands long reached =
-      let (r, keeps, met, worth) = reached-pattern _ reached in
-      let pattern = q ++ (suc (node .level) ∷ []) ++ r in
-      let i = node .item in
-      let within : i < timed .items = omega (arith, stands .behind) in
-      let fits = ticks-within-window _ (pattern-well-formed pattern) (timed .span) met i (rw counted within)
-      (rw (timing-of timings (timed .items) i within) (window-within-span i within)) in
-      let here : getD pattern i 0 ≡ suc (node .level) = rw (stands .front) at (entry-between q (suc (node .level)) r) in
-      let bound = rw (here, timing-of timings (timed .items) i within) at fits in
+      let fits = rw (stands .front) at (reached-within-window cost q (node .level) (omega (arith, stands .front, stands .behind)) reached) in
       omega arith

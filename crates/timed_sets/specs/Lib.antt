@@ -7,6 +7,7 @@ pub mod Nodes
 pub mod Lagrangians
 pub mod NodeLaws
 pub mod AdmittedLaws
+pub mod LagrangianLaws
 pub mod ColumnLaws
 pub mod BoundLaws
 pub mod PromisingLaws
