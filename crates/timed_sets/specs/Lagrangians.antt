@@ -9,8 +9,9 @@ use lib.ListN.{length, getD}
 use Rattle.laws.specs.Sums.{sum}
 use Rattle.assignment.specs.Limits.{mostItems}
 use Rattle.knapsack.specs.Offered.{entryOf}
-use Rattle.timed_sets.specs.Nodes.{timedCore}
+use Rattle.timed_sets.specs.Nodes.{timedCore, LowerTimed}
 use Rattle.timed_sets.specs.TimedCores.{entryTicks, timingAt, timingIn, timingsOf}
+use Rattle.timed_sets.specs.declared.Bounded.{Bounded}
 use Rattle.timed_sets.specs.declared.Lagrangian.{Lagrangian}
 use Rattle.timed_sets.specs.declared.Timed.{Timed}
 
@@ -48,3 +49,8 @@ pub record Relaxes (timed : Timed) (timings cost : List ℕ) (relaxed : Lagrangi
   pub low : (i : ℕ) → getD (relaxed .least) i 0 ≤ mostPriced
   pub least : (i l : ℕ) → i < timed .items → l < timed .levels → timingAt timings i .ticks l ≤ timingAt timings i .window →
       getD (relaxed .least) i 0 ≤ entryOf cost i l + getD (relaxed .prices) i 0 * timingAt timings i .ticks l
+
+-- what leaves parts of patterns out of a search: a table of lower values, and a relaxation
+pub record BoundsHold (bounded : Bounded) (timings cost lowCosts lowKeys : List ℕ) : Type 0 where
+  pub table : LowerTimed (bounded .timed) timings cost lowCosts lowKeys
+  pub relaxation : Relaxes (bounded .timed) timings cost (bounded .relaxed)

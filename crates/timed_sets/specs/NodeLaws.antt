@@ -11,12 +11,13 @@ use lib.Dec.{eqb}
 use lib.ListN.{length, getD, set, length-append, length-set, replicate}
 use lib.Seq.{getD-set-same, getD-set-other}
 use borrow.Author.Tests.{eqb-true, eqb-false}
+use Rattle.ranges.specs.Limits.{mostPeriod}
 use Rattle.assignment.specs.KeyLaws.{keys-fit}
 use Rattle.assignment.specs.Keys.{keyBase, planKey}
 use Rattle.assignment.specs.Limits.{mostCost, mostItems, mostLevels}
 use Rattle.assignment.specs.Sets.{setNumber}
 use Rattle.knapsack.specs.Offered.{entryOf, offersOf}
-use Rattle.timed_sets.specs.Nodes.{TimedReady, Stands, SmallNode, passedOver, runAt, nextLevel}
+use Rattle.timed_sets.specs.Nodes.{TimedReady, Stands, SmallNode, passedOver, runAt, nextLevel, atLevel}
 use Rattle.timed_sets.specs.PatternLaws.{cost-of-none, cost-of-run, key-of-next, entry-of-none, entry-elsewhere, timing-of, entry-there, no-entry, no-front-no-cost}
 use Rattle.timed_sets.specs.TimedCores.{timingAt, timingIn, timingsOf, entryTicks}
 use Rattle.timed_sets.specs.declared.Node.{Node}
@@ -50,6 +51,23 @@ module _ {timed : Timed} {timings cost : List ℕ} {node : Node} {q : List ℕ} 
         cheap = stands .cheap;
         key-below = stands .key-below;
         places = stands .places;
+        short = stands .short;
+      }
+
+  pub stands-at-level : (level : ℕ) → level ≤ timed .levels → Stands timed timings cost (atLevel node level) q T
+  stands-at-level level few =
+      record {
+        front = stands .front;
+        behind = stands .behind;
+        level = few;
+        rest = stands .rest;
+        costs = stands .costs;
+        key = stands .key;
+        ticks = stands .ticks;
+        cheap = stands .cheap;
+        key-below = stands .key-below;
+        places = stands .places;
+        short = stands .short;
       }
 
 -- a key with one digit more
@@ -87,6 +105,7 @@ module _ {timed : Timed} {timings cost : List ℕ} {node : Node} {q : List ℕ} 
         cheap = omega (arith, cost-grows (node .item) (node .cost) 0 (stands .cheap) (omega arith));
         key-below = omega (arith, key-grows (node .key) 0 (node .item) (stands .key-below) (omega arith));
         places = stands .places;
+        short = stands .short;
       }
 
   module _ (ready : TimedReady timed timings cost) (stands : Stands timed timings cost node q (true ∷ T)) (half ticks its : ℕ)
@@ -115,6 +134,13 @@ module _ {timed : Timed} {timings cost : List ℕ} {node : Node} {q : List ℕ} 
         go true e = inl (eqb-true x y e)
         go false e = inr (eqb-false x y e)
 
+    its-short : (j : ℕ) → (j ≡ node .item) ⊎ (j ≢ node .item) → getD (set (node .ticks) (node .item) ticks) j 0 ≤ mostPeriod
+    its-short j (inl here) =
+        let its = ready .timed-items .item (node .item) item-within in
+        rw (here, getD-set-same (node .ticks) (node .item) ticks 0 (omega (arith, stands .places, item-within, ready .timed-items .few-items)))
+        (omega (arith, within, its .window-within-period, its .period-at-most))
+    its-short j (inr other) = rw (getD-set-other (node .ticks) (node .item) j ticks 0 other) (stands .short j)
+
     pub stands-run : Stands timed timings cost (runAt node half ticks its) (q ++ (suc (node .level) ∷ [])) T
     unfolding setNumber keyBase
     stands-run =
@@ -131,6 +157,7 @@ module _ {timed : Timed} {timings cost : List ℕ} {node : Node} {q : List ℕ} 
           cheap = cost-grows (node .item) (node .cost) its (stands .cheap) (rw is-cost (ready .cheap _ _ item-within more (rw are-ticks at within)));
           key-below = key-grows (node .key) (node .level + 1) (node .item) (stands .key-below) (omega (arith, ready .timed-items .few-levels));
           places = length-set (node .ticks) (node .item) ticks ∙ stands .places;
+          short = λ j. its-short j (same-or-other j (node .item));
         }
 
 -- the node of the whole set
@@ -150,4 +177,5 @@ stands-at-start timed timings cost S of-items =
       cheap = omega arith;
       key-below = rw pow-zero (omega arith);
       places = refl;
+      short = λ j. rw (no-entry mostItems j) (omega arith);
     }

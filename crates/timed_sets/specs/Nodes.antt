@@ -2,6 +2,7 @@
 use Prim.Native.Nat.{ℕ, suc, _+_, _-_, _*_, _^_, _≤_, _<_, _∣_}
 use mathlib.Core.Bool.{Bool, true}
 use mathlib.Core.List.{List, []}
+use mathlib.Core.Logic.{_⊎_}
 use mathlib.Core.Path.{_≡_}
 use lib.ListN.{length, getD, set}
 use Rattle.ranges.specs.Limits.{mostPeriod, mostSpan}
@@ -13,7 +14,7 @@ use Rattle.assignment.specs.Limits.{mostCoreCost, mostCost, mostItems, mostLeve
 use Rattle.assignment.specs.Sets.{setNumber, tableAt}
 use Rattle.assignment.specs.Keeping.{Keeps}
 use Rattle.partition.specs.Tables.{SmallTable}
-use Rattle.assignment.specs.Values.{Value, AtMost, Least}
+use Rattle.assignment.specs.Values.{Value, none, AtMost, Least}
 use Rattle.knapsack.specs.Offered.{entryOf, offersOf}
 use Rattle.knapsack.specs.Offers.{patternCost}
 use Rattle.values.specs.Worths.{Small, worthOf}
@@ -74,6 +75,7 @@ pub record Stands (timed : Timed) (timings cost : List ℕ) (node : Node) (q : L
   pub cheap : node .cost ≤ node .item * mostCost
   pub key-below : node .key < keyBase ^ node .item
   pub places : length (node .ticks) ≡ mostItems
+  pub short : (j : ℕ) → getD (node .ticks) j 0 ≤ mostPeriod
 
 abbrev pub passedOver : Node → Node
 passedOver node =
@@ -94,12 +96,20 @@ abbrev pub nextLevel : Node → Node
 nextLevel node =
     record { item = node .item; level = node .level + 1; rest = node .rest; cost = node .cost; key = node .key; ticks = node .ticks }
 
+abbrev pub atLevel : Node → ℕ → Node
+atLevel node level =
+    record { item = node .item; level = level; rest = node .rest; cost = node .cost; key = node .key; ticks = node .ticks }
+
 abbrev pub SmallWorth : Timed → Worth → Type 0
 SmallWorth timed worth = Small (timed .items) (worth .cost) (worth .key)
 
 -- the least of the best so far and of what is reached from the node
 pub record FoundFrom (timed : Timed) (timings cost : List ℕ) (node : Node) (q : List ℕ) (T : List Bool) (best r : Worth) : Type 0 where
   pub least : LeastFrom (Reached (timedCore timed timings cost) q T (node .level)) (worthOf best) (worthOf r)
+
+-- none, or the value of one admitted pattern that goes on from the node
+pub record OneFrom (timed : Timed) (timings cost : List ℕ) (q : List ℕ) (T : List Bool) (r : Worth) : Type 0 where
+  pub one : (worthOf r ≡ none) ⊎ Reached (timedCore timed timings cost) q T 0 (worthOf r)
 
 -- nothing that is reached from the node comes before the best so far
 pub record NothingBefore (timed : Timed) (timings cost : List ℕ) (node : Node) (q : List ℕ) (T : List Bool) (best : Worth) : Type 0 where

@@ -3,6 +3,7 @@
 mod bounds;
 mod columns;
 mod nodes;
+mod relaxation;
 mod search;
 
 use search::least_from;
@@ -40,6 +41,12 @@ pub struct Lagrangian {
     pub prices: [u64; MOST_ITEMS],
     pub least: [u64; MOST_ITEMS],
     pub budget: u64,
+}
+
+// What leaves parts out of a search beside the table of lower values.
+struct Bounded {
+    timed: Timed,
+    relaxed: Lagrangian,
 }
 
 // The least value of running exactly the items of a set, by its number, with every job done in time.
