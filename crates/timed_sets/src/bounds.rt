@@ -1,7 +1,9 @@
 // What leaves a part of a pattern out of the search.
+use crate::Bounded;
 use crate::Node;
 use crate::Timed;
 use crate::columns::is_admitted;
+use crate::relaxation::relaxed_is_cheaper;
 use values::NO_COST;
 use values::Worth;
 use values::keys_of;
@@ -10,7 +12,9 @@ ghost use mathlib.Core.List.{List};
 ghost use mathlib.Core.Path.{_≡_};
 ghost use Prim.Native.Nat.{ℕ, _<_, _≤_};
 ghost use mathlib.Core.Logic.{_⊎_};
-ghost use Rattle.timed_sets.specs.Nodes.{LowerTimed, NothingBefore, Stands, TimedItems};
+ghost use Rattle.assignment.specs.Words.{noCost};
+ghost use Rattle.timed_sets.specs.Lagrangians.{BoundsHold};
+ghost use Rattle.timed_sets.specs.Nodes.{LowerTimed, NothingBefore, Stands, TimedReady};
 
 // Whether a comes before b.
 fn comes_first(a: Worth, b: Worth) -> bool
@@ -26,7 +30,7 @@ fn comes_first(a: Worth, b: Worth) -> bool
 }
 
 // Whether what the node is worth and the table's value of the items still to come come before the best so far.
-fn bound_comes_first(
+pub(crate) fn bound_comes_first(
     timed: Timed,
     node: Node,
     best: Worth,
@@ -50,27 +54,32 @@ fn bound_comes_first(
     comes_first(bound, best)
 }
 
-// Whether something that goes on from the node can come before the best so far: not where its bound does not, and not where the front
-// alone asks for too much by some tick, which is tested once for all levels of the next item.
+// Whether something that goes on from the node can come before the best so far: not where a bound of it does not, and not where the
+// front alone asks for too much by some tick, which is tested once for all levels of the next item.
 pub(crate) fn is_promising(
-    timed: Timed,
+    bounded: Bounded,
     node: Node,
     best: Worth,
     timings: &[u32],
     lowcosts: &[u64],
     lowkeys: &[u64],
 ) -> bool
-    requires { ⌜ TimedItems timed (now timings) ⌝ }
-    requires { ⌜ ((cost q : List ℕ) × (T : List Bool) × LowerTimed timed (now timings) cost (now lowcosts) (now lowkeys)
-        × Stands timed (now timings) cost node q T) ⌝ }
-    ensures { λ r. ⌜ ((cost q : List ℕ) (T : List Bool) → LowerTimed timed (now (timings .entry)) cost (now (lowcosts .entry)) (now (lowkeys .entry)) →
-        Stands timed (now (timings .entry)) cost node q T → r ≡ false → NothingBefore timed (now (timings .entry)) cost node q T best) ⌝ }
+    requires { ⌜ ((cost q : List ℕ) × (T : List Bool) × TimedReady (bounded .timed) (now timings) cost
+        × BoundsHold bounded (now timings) cost (now lowcosts) (now lowkeys) × Stands (bounded .timed) (now timings) cost node q T) ⌝ }
+    requires { ⌜ best .cost ≤ noCost ⌝ }
+    ensures { λ r. ⌜ ((cost q : List ℕ) (T : List Bool) → TimedReady (bounded .timed) (now (timings .entry)) cost →
+        BoundsHold bounded (now (timings .entry)) cost (now (lowcosts .entry)) (now (lowkeys .entry)) →
+        Stands (bounded .timed) (now (timings .entry)) cost node q T → r ≡ false →
+        NothingBefore (bounded .timed) (now (timings .entry)) cost node q T best) ⌝ }
 {
-    if !bound_comes_first(timed, node, best, lowcosts, lowkeys) {
+    if !bound_comes_first(bounded.timed, node, best, lowcosts, lowkeys) {
+        return false;
+    }
+    if !relaxed_is_cheaper(bounded, node, best) {
         return false;
     }
     if 0 < node.level {
         return true;
     }
-    is_admitted(timed, node, timings)
+    is_admitted(bounded.timed, node, timings)
 }

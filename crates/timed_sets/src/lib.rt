@@ -75,5 +75,11 @@ pub fn least_in_time(
         cost: NO_COST,
         key: 0,
     };
-    least_from(timed, start, none, timings, cost, lowcosts, lowkeys)
+    let relaxed = Lagrangian {
+        prices: [0; MOST_ITEMS],
+        least: [0; MOST_ITEMS],
+        budget: 0,
+    };
+    let bounded = Bounded { timed, relaxed };
+    least_from(bounded, start, none, timings, cost, lowcosts, lowkeys)
 }

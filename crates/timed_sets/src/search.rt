@@ -1,4 +1,5 @@
 // The search through the patterns that go on from a part.
+use crate::Bounded;
 use crate::Node;
 use crate::TIMING_WIDTH;
 use crate::Timed;
@@ -15,7 +16,8 @@ use values::sets_of;
 ghost use mathlib.Core.Bool.{Bool};
 ghost use mathlib.Core.List.{List};
 ghost use Prim.Native.Nat.{ℕ};
-ghost use Rattle.timed_sets.specs.Nodes.{TimedItems, TimedReady, LowerTimed, Stands, SmallWorth, FoundFrom};
+ghost use Rattle.timed_sets.specs.Lagrangians.{BoundsHold};
+ghost use Rattle.timed_sets.specs.Nodes.{TimedItems, TimedReady, Stands, SmallWorth, FoundFrom};
 ghost use mathlib.Core.Path.{_≡_};
 ghost use lib.ListN.{length};
 ghost use Rattle.assignment.specs.Limits.{mostItems};
@@ -43,7 +45,7 @@ fn with_whole(timed: Timed, node: Node, best: Worth, timings: &[u32]) -> Worth
 
 // The least of the best so far and of the values of all admitted patterns that go on from the node.
 pub(crate) fn least_from(
-    timed: Timed,
+    bounded: Bounded,
     node: Node,
     best: Worth,
     timings: &[u32],
@@ -51,25 +53,25 @@ pub(crate) fn least_from(
     lowcosts: &[u64],
     lowkeys: &[u64],
 ) -> Worth
-    requires { ⌜ TimedReady timed (now timings) (now cost) ⌝ }
-    requires { ⌜ LowerTimed timed (now timings) (now cost) (now lowcosts) (now lowkeys) ⌝ }
-    requires { ⌜ ((q : List ℕ) × (T : List Bool) × Stands timed (now timings) (now cost) node q T) ⌝ }
-    requires { ⌜ SmallWorth timed best ⌝ }
-    ensures { λ r. ⌜ ((q : List ℕ) (T : List Bool) → Stands timed (now (timings .entry)) (now (cost .entry)) node q T →
-        FoundFrom timed (now (timings .entry)) (now (cost .entry)) node q T best r) ⌝ }
-    ensures { λ r. ⌜ SmallWorth timed r ⌝ }
+    requires { ⌜ TimedReady (bounded .timed) (now timings) (now cost) ⌝ }
+    requires { ⌜ BoundsHold bounded (now timings) (now cost) (now lowcosts) (now lowkeys) ⌝ }
+    requires { ⌜ ((q : List ℕ) × (T : List Bool) × Stands (bounded .timed) (now timings) (now cost) node q T) ⌝ }
+    requires { ⌜ SmallWorth (bounded .timed) best ⌝ }
+    ensures { λ r. ⌜ ((q : List ℕ) (T : List Bool) → Stands (bounded .timed) (now (timings .entry)) (now (cost .entry)) node q T →
+        FoundFrom (bounded .timed) (now (timings .entry)) (now (cost .entry)) node q T best r) ⌝ }
+    ensures { λ r. ⌜ SmallWorth (bounded .timed) r ⌝ }
 {
-    if !is_promising(timed, node, best, timings, lowcosts, lowkeys) {
+    if !is_promising(bounded, node, best, timings, lowcosts, lowkeys) {
         return best;
     }
     let i = node.item;
-    if i == timed.items {
-        return with_whole(timed, node, best, timings);
+    if i == bounded.timed.items {
+        return with_whole(bounded.timed, node, best, timings);
     }
-    let half = sets_of(timed.items - i - 1);
+    let half = sets_of(bounded.timed.items - i - 1);
     if node.rest < half {
         return least_from(
-            timed,
+            bounded,
             passed_over(node),
             best,
             timings,
@@ -79,12 +81,12 @@ pub(crate) fn least_from(
         );
     }
     let l = node.level;
-    if l == timed.levels {
+    if l == bounded.timed.levels {
         return best;
     }
     if !is_within_window(i, l, timings) {
         return least_from(
-            timed,
+            bounded,
             next_level(node),
             best,
             timings,
@@ -99,9 +101,9 @@ pub(crate) fn least_from(
         timings[i * TIMING_WIDTH + 2 + l],
         cost[i * STRIDE + l],
     );
-    let here = least_from(timed, child, best, timings, cost, lowcosts, lowkeys);
+    let here = least_from(bounded, child, best, timings, cost, lowcosts, lowkeys);
     least_from(
-        timed,
+        bounded,
         next_level(node),
         here,
         timings,

@@ -12,33 +12,51 @@ use Rattle.timed_sets.proofs.bounds.is_promising.Reads as reads
 use Rattle.timed_sets.proofs.bounds.is_promising.Lts as lts
 use Rattle.timed_sets.proofs.bounds.bound_comes_first.Reads as bound-comes-first-reads
 use Rattle.timed_sets.proofs.columns.is_admitted.Reads as is-admitted-reads
+use Rattle.timed_sets.proofs.relaxation.relaxed_is_cheaper.Reads as relaxed-is-cheaper-reads
 
--- src/bounds.rt:56:9
+-- src/bounds.rt:75:9
 bound-comes-first-requires : tie.Need-bound-comes-first-requires
 bound-comes-first-requires c κs =
-    let its = c .before .before .before .pre .1 in (_, its .0, its .1, its .2, its .3, its .4)
+    let pre = c .before .before .before .pre .0 in (_, pre .0, pre .1, pre .2, pre .4 .table, pre .5)
 
--- src/bounds.rt:57:9
+-- src/bounds.rt:76:9
 returns : tie.Need-returns
 returns c =
-    λ cost q T table stands no. c .before .bound-comes-first .ensures _ cost q T table stands (not-true _ (c .if1 .taken))
+    λ cost q T ready bounds stands no. c .before .bound-comes-first .ensures _ cost q T (bounds .table) stands (not-true _ (c .if1 .taken))
 
--- src/bounds.rt:60:9
+-- src/bounds.rt:78:9
+relaxed-is-cheaper-requires : tie.Need-relaxed-is-cheaper-requires
+relaxed-is-cheaper-requires c κs =
+    let pre = c .before .before .before .before .before .pre in ((_, pre .0 .0, pre .0 .1, pre .0 .2, pre .0 .3, pre .0 .4 .relaxation, pre .0 .5), pre .1)
+
+-- src/bounds.rt:79:9
 returns-2 : tie.Need-returns-2
 returns-2 c =
-    λ cost q T table stands no. absurd (false-not-true no refl)
+    λ cost q T ready bounds stands no. c .before .relaxed-is-cheaper .ensures _ cost q T ready (bounds .relaxation) stands (not-true _ (c .if2 .taken))
 
--- src/bounds.rt:62:5
-is-admitted-requires : tie.Need-is-admitted-requires
-is-admitted-requires c κs =
-    let pre = c .before .before .before .before .before .before .before .pre in (pre .0, pre .1 .4 .places)
-
--- src/bounds.rt:49:1
+-- src/bounds.rt:82:9
 returns-3 : tie.Need-returns-3
 returns-3 c =
-    λ cost q T table stands no. front-not-admitted (sym (c .is-admitted .ensures cost q T stands) ∙ no)
+    λ cost q T ready bounds stands no. absurd (false-not-true no refl)
+
+-- src/bounds.rt:84:5
+is-admitted-requires : tie.Need-is-admitted-requires
+is-admitted-requires c κs =
+    let pre = c .before .before .before .before .before .before .before .before .before .pre .0 in (pre .3 .timed-items, pre .5 .places)
+
+-- src/bounds.rt:59:1
+returns-4 : tie.Need-returns-4
+returns-4 c =
+    λ cost q T ready bounds stands no. front-not-admitted (sym (c .is-admitted .ensures cost q T stands) ∙ no)
 
 pub is-promising-spec : {M : Type 1} → statement M
 is-promising-spec =
     tie.close
-    (tie.spec bound-comes-first-requires returns returns-2 is-admitted-requires returns-3)
+    (tie.spec
+    bound-comes-first-requires
+    returns
+    relaxed-is-cheaper-requires
+    returns-2
+    returns-3
+    is-admitted-requires
+    returns-4)

@@ -26,7 +26,7 @@ use Rattle.timed_sets.proofs.search.+least_from.{statement}
 use Rattle.timed_sets.proofs.search.+least_from.Tie.{close}
 
 abbrev μ-least-from : Measures 4 least-from-kinds.ps ℕ
-μ-least-from κs a = (a .0 .items - a .1 .0 .item) * 9 + (a .0 .levels - a .1 .0 .level)
+μ-least-from κs a = (a .0 .timed .items - a .1 .0 .item) * 9 + (a .0 .timed .levels - a .1 .0 .level)
 
 abbrev least-from-at : ℕ → In 4 least-from-kinds.ps
 least-from-at t =
@@ -44,13 +44,13 @@ least-from-is-promising-requires : (t : ℕ) → least-from-lts.Need-is-promisin
 least-from-is-promising-requires t c κs =
     let pre = c .before .before .before .before .pre .1 in
     let its = pre .1 .1 .0 in
-    (pre .0 .timed-items, (_, its .0, its .1, pre .1 .0, its .2))
+    ((_, its .0, its .1, pre .0, pre .1 .0, its .2), pre .1 .1 .1 .at-most-none)
 
 -- src/search.rt:63:9
 least-from-returns : (t : ℕ) → least-from-lts.Need-returns (known t) (least-from-at t) least-from.Post
 least-from-returns t c =
     let pre = c .before .before .before .before .before .before .pre .1 in let its = pre .1 .1 .0 in (
-      λ q T stands. record { least = nothing-before (c .before .is-promising .ensures _ q T (pre .1 .0) stands (not-true _ (c .if1 .taken)) .after) },
+      λ q T stands. record { least = nothing-before (c .before .is-promising .ensures _ q T (pre .0) (pre .1 .0) stands (not-true _ (c .if1 .taken)) .after) },
       pre .1 .1 .1,
     )
 
