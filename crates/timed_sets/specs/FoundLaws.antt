@@ -9,14 +9,14 @@ use native.Mathlib.Omega.{arith}
 use lib.ListN.{length, getD}
 use Rattle.assignment.specs.Sets.{setNumber}
 use Rattle.assignment.specs.SetLaws.{setNumber-below}
-use Rattle.assignment.specs.Values.{Value, AtMost}
+use Rattle.assignment.specs.Values.{Value, none}
 use Rattle.knapsack.specs.Offered.{entryOf}
 use Rattle.values.specs.Worths.{worthOf}
 use Rattle.values.specs.declared.value.Worth.{Worth}
 use Rattle.timed_sets.specs.AdmittedLaws.{too-long-is-not-reached}
-use Rattle.timed_sets.specs.Nodes.{timedCore, TimedReady, Stands, passedOver, runAt, nextLevel, FoundFrom}
+use Rattle.timed_sets.specs.Nodes.{timedCore, TimedReady, Stands, passedOver, runAt, nextLevel, FoundFrom, OneFrom}
 use Rattle.timed_sets.specs.NodeLaws.{stands-passed, stands-run, stands-next}
-use Rattle.timed_sets.specs.Reached.{Reached}
+use Rattle.timed_sets.specs.Reached.{OneCore, Reached, whole, passed, runs}
 use Rattle.timed_sets.specs.ReachedLaws.{nothing-before, pass-over, no-level-left, level-by-level}
 use Rattle.timed_sets.specs.TimedCores.{timingAt}
 use Rattle.timed_sets.specs.declared.Node.{Node}
@@ -47,6 +47,23 @@ module _ {timed : Timed} {timings cost : List ℕ} {node : Node} {half : ℕ} (m
   found-passed fewer found q (false ∷ T) stands =
       record { least = pass-over _ (found (q ++ (0 ∷ [])) T (stands-passed stands) .least) }
   found-passed fewer found q (true ∷ T) stands = absurd (full fewer (length T) (omega (arith, stands .behind)) (stands .rest))
+    where
+      full : node .rest < half → (m : ℕ) → m ≡ timed .items - node .item - 1 → node .rest ≡ 2 ^ m + setNumber m T → ⊥
+      full fewer m e rest = let same : half ≡ 2 ^ m = is-half ∙ ap (λ (k : ℕ). 2 ^ k) (sym e) in omega arith
+
+  -- one pattern that passes the item over
+  pub one-passed : node .rest < half → {r : Worth} →
+      ((q : List ℕ) (T : List Bool) → Stands timed timings cost (passedOver node) q T → OneFrom timed timings cost q T r) →
+      (q : List ℕ) (T : List Bool) → Stands timed timings cost node q T → OneFrom timed timings cost q T r
+  unfolding setNumber
+  one-passed fewer found q [] stands = absurd (omega (arith, stands .behind))
+  one-passed fewer {r} found q (false ∷ T) stands = record { one = go (found (q ++ (0 ∷ [])) T (stands-passed stands) .one) }
+    where
+      go : (worthOf r ≡ none) ⊎ Reached (timedCore timed timings cost) (q ++ (0 ∷ [])) T 0 (worthOf r) →
+          (worthOf r ≡ none) ⊎ Reached (timedCore timed timings cost) q (false ∷ T) 0 (worthOf r)
+      go (inl e) = inl e
+      go (inr reached) = inr (passed reached)
+  one-passed fewer found q (true ∷ T) stands = absurd (full fewer (length T) (omega (arith, stands .behind)) (stands .rest))
     where
       full : node .rest < half → (m : ℕ) → m ≡ timed .items - node .item - 1 → node .rest ≡ 2 ^ m + setNumber m T → ⊥
       full fewer m e rest = let same : half ≡ 2 ^ m = is-half ∙ ap (λ (k : ℕ). 2 ^ k) (sym e) in omega arith
@@ -110,3 +127,34 @@ module _ {timed : Timed} {timings cost : List ℕ} {node : Node} {half : ℕ} (m
                   (this (q ++ (suc (node .level) ∷ [])) T' child .least)
                   (rw (e, add-one (node .level)) at (others q T (stands-next ready stands level) .least));
             })
+
+    -- one pattern that runs the item at the node's level
+    pub one-run : {r : Worth} →
+        ((q : List ℕ) (T : List Bool) → Stands timed timings cost (runAt node half ticks its) q T → OneFrom timed timings cost q T r) →
+        (q : List ℕ) (T : List Bool) → Stands timed timings cost node q T → OneFrom timed timings cost q T r
+    one-run {r} found q T stands = go (is-flagged enough q T stands)
+      where
+        at-level : {T' : List Bool} → (worthOf r ≡ none) ⊎ Reached (timedCore timed timings cost) (q ++ (suc (node .level) ∷ [])) T' 0 (worthOf r) →
+            (worthOf r ≡ none) ⊎ Reached (timedCore timed timings cost) q (true ∷ T') 0 (worthOf r)
+        at-level (inl e) = inl e
+        at-level (inr reached) = inr (runs {level = 0} (node .level) (omega arith) (omega (arith, stands .level)) reached)
+
+        go : Flagged half T → OneFrom timed timings cost q T r
+        go (flagged T' e is) =
+            let child = stands-run ready (rw e at stands) half ticks its is (omega (arith, stands .level)) are-ticks is-cost within in
+            rw e (record { one = at-level (found (q ++ (suc (node .level) ∷ [])) T' child .one) })
+
+from-any-level : {core : OneCore} {q : List ℕ} {T : List Bool} {level : ℕ} {v : Value} → Reached core q T level v → Reached core q T 0 v
+from-any-level (whole met) = whole met
+from-any-level (passed reached) = passed reached
+from-any-level (runs l from within reached) = runs {level = 0} l (omega arith) within reached
+
+-- what a whole pattern is worth
+pub one-whole : {timed : Timed} {timings cost q : List ℕ} {T : List Bool} {node : Node} {known r : Worth} → worthOf known ≡ none →
+    FoundFrom timed timings cost node q T known r → OneFrom timed timings cost q T r
+one-whole {timed} {timings} {cost} {q} {T} {node} {known} {r} is-none found = record { one = go (found .least .attained) }
+  where
+    go : (worthOf r ≡ worthOf known) ⊎ Reached (timedCore timed timings cost) q T (node .level) (worthOf r) →
+        (worthOf r ≡ none) ⊎ Reached (timedCore timed timings cost) q T 0 (worthOf r)
+    go (inl e) = inl (e ∙ is-none)
+    go (inr reached) = inr (from-any-level reached)

@@ -2,6 +2,7 @@
 // levels. Items are offered at what they cost alone.
 mod bounds;
 mod columns;
+mod given;
 mod nodes;
 mod relaxation;
 mod search;

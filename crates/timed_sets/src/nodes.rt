@@ -9,7 +9,7 @@ ghost use lib.Dec.{leb};
 ghost use lib.ListN.{length, getD};
 ghost use Rattle.assignment.specs.Limits.{mostItems, mostCost};
 ghost use Rattle.timed_sets.specs.TimedCores.{timingWidth};
-ghost use Rattle.timed_sets.specs.Nodes.{passedOver, runAt, nextLevel, SmallNode};
+ghost use Rattle.timed_sets.specs.Nodes.{passedOver, runAt, nextLevel, atLevel, SmallNode};
 
 // Whether a job has its ticks within its window at a level.
 pub(crate) fn is_within_window(item: usize, level: usize, timings: &[u32]) -> bool
@@ -62,6 +62,20 @@ pub(crate) fn next_level(node: Node) -> Node
     Node {
         item: node.item,
         level: node.level + 1,
+        rest: node.rest,
+        cost: node.cost,
+        key: node.key,
+        ticks,
+    }
+}
+
+pub(crate) fn at_level(node: Node, level: usize) -> Node
+    ensures { λ r. ⌜ r ≡ atLevel node level ⌝ }
+{
+    let ticks = node.ticks;
+    Node {
+        item: node.item,
+        level,
         rest: node.rest,
         cost: node.cost,
         key: node.key,

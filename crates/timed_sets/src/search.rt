@@ -24,7 +24,7 @@ ghost use Rattle.assignment.specs.Limits.{mostItems};
 ghost use Rattle.values.specs.Worths.{Small};
 
 // A whole pattern, where it comes before the best so far and the core admits it.
-fn with_whole(timed: Timed, node: Node, best: Worth, timings: &[u32]) -> Worth
+pub(crate) fn with_whole(timed: Timed, node: Node, best: Worth, timings: &[u32]) -> Worth
     requires { ⌜ TimedItems timed (now timings) ⌝ }
     requires { ⌜ length (node .ticks) ≡ mostItems ⌝ }
     ensures { λ r. ⌜ ((cost q : List ℕ) (T : List Bool) → node .item ≡ timed .items → Stands timed (now (timings .entry)) cost node q T →
