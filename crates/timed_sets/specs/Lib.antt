@@ -8,7 +8,7 @@ pub mod Lagrangians
 pub mod NodeLaws
 pub mod AdmittedLaws
 pub mod LagrangianLaws
-pub mod RelaxationLaws
+pub mod DualBoundLaws
 pub mod ColumnLaws
 pub mod BoundLaws
 pub mod PromisingLaws

@@ -3,7 +3,7 @@ use crate::Bounded;
 use crate::Node;
 use crate::Timed;
 use crate::columns::is_admitted;
-use crate::relaxation::relaxed_is_cheaper;
+use crate::dual_bound::relaxed_is_cheaper;
 use values::NO_COST;
 use values::Worth;
 use values::keys_of;

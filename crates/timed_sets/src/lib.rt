@@ -2,9 +2,9 @@
 // levels. Items are offered at what they cost alone.
 mod bounds;
 mod columns;
+mod dual_bound;
 mod given;
 mod nodes;
-mod relaxation;
 mod search;
 
 use search::least_from;

@@ -12,7 +12,7 @@ use Rattle.timed_sets.proofs.bounds.is_promising.Reads as reads
 use Rattle.timed_sets.proofs.bounds.is_promising.Lts as lts
 use Rattle.timed_sets.proofs.bounds.bound_comes_first.Reads as bound-comes-first-reads
 use Rattle.timed_sets.proofs.columns.is_admitted.Reads as is-admitted-reads
-use Rattle.timed_sets.proofs.relaxation.relaxed_is_cheaper.Reads as relaxed-is-cheaper-reads
+use Rattle.timed_sets.proofs.dual_bound.relaxed_is_cheaper.Reads as relaxed-is-cheaper-reads
 
 -- src/bounds.rt:75:9
 bound-comes-first-requires : tie.Need-bound-comes-first-requires

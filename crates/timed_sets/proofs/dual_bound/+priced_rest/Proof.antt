@@ -5,16 +5,16 @@ use borrow.Author.Needs.{needs}
 use lib.ListN.{length, getD}
 use native.Mathlib.Nat.{le-trans, mul-le-mul-right}
 use Rattle.timed_sets.specs.Lagrangians.{mostPriced}
-use Rattle.timed_sets.specs.RelaxationLaws.{none-left, rest-of-passed, rest-of-taken, one-more-left}
+use Rattle.timed_sets.specs.DualBoundLaws.{none-left, rest-of-passed, rest-of-taken, one-more-left}
 use Prim.Native.Nat.{ℕ, _<_}
 use borrow.Fn.Kinds.{In}
 use borrow.Fn.PlainCycle.{Measures, is, falls, and}
-use Rattle.timed_sets.proofs.relaxation.priced_rest.Reads as priced-rest
-use Rattle.timed_sets.proofs.relaxation.priced_rest.Kinds as priced-rest-kinds
-use Rattle.timed_sets.proofs.relaxation.+priced_rest.Lts-priced_rest as priced-rest-lts
+use Rattle.timed_sets.proofs.dual_bound.priced_rest.Reads as priced-rest
+use Rattle.timed_sets.proofs.dual_bound.priced_rest.Kinds as priced-rest-kinds
+use Rattle.timed_sets.proofs.dual_bound.+priced_rest.Lts-priced_rest as priced-rest-lts
 use Rattle.values.proofs.sets_of.Reads as sets-of-reads
-use Rattle.timed_sets.proofs.relaxation.+priced_rest.{statement}
-use Rattle.timed_sets.proofs.relaxation.+priced_rest.Tie.{close}
+use Rattle.timed_sets.proofs.dual_bound.+priced_rest.{statement}
+use Rattle.timed_sets.proofs.dual_bound.+priced_rest.Tie.{close}
 
 abbrev μ-priced-rest : Measures 1 priced-rest-kinds.ps ℕ
 μ-priced-rest κs a = a .0 - a .1 .0
@@ -27,7 +27,7 @@ abbrev priced-rest-below : ℕ → In 1 priced-rest-kinds.ps
 priced-rest-below t =
     and 1 priced-rest-kinds.ps (falls 1 priced-rest-kinds.ps _<_ μ-priced-rest t) priced-rest.Pre
 
--- src/relaxation.rt:44:9
+-- src/dual_bound.rt:44:9
 priced-rest-returns : (t : ℕ) → priced-rest-lts.Need-returns (
   sets-of-reads.Asked,
   sets-of-reads.Learnt,
@@ -37,7 +37,7 @@ priced-rest-returns : (t : ℕ) → priced-rest-lts.Need-returns (
 priced-rest-returns t c =
     (none-left _ (c .if1 .taken), omega arith)
 
--- src/relaxation.rt:46:24
+-- src/dual_bound.rt:46:24
 priced-rest-sub-sets-of : (t : ℕ) → priced-rest-lts.Need-sub-sets-of (
   sets-of-reads.Asked,
   sets-of-reads.Learnt,
@@ -46,7 +46,7 @@ priced-rest-sub-sets-of : (t : ℕ) → priced-rest-lts.Need-sub-sets-of (
 ) (priced-rest-at t) priced-rest.Post
 priced-rest-sub-sets-of t c = search needs
 
--- src/relaxation.rt:46:24
+-- src/dual_bound.rt:46:24
 priced-rest-sub-sets-of-2 : (t : ℕ) → priced-rest-lts.Need-sub-sets-of-2 (
   sets-of-reads.Asked,
   sets-of-reads.Learnt,
@@ -55,7 +55,7 @@ priced-rest-sub-sets-of-2 : (t : ℕ) → priced-rest-lts.Need-sub-sets-of-2 (
 ) (priced-rest-at t) priced-rest.Post
 priced-rest-sub-sets-of-2 t c = search needs
 
--- src/relaxation.rt:46:9
+-- src/dual_bound.rt:46:9
 priced-rest-sets-of-requires : (t : ℕ) → priced-rest-lts.Need-sets-of-requires (
   sets-of-reads.Asked,
   sets-of-reads.Learnt,
@@ -64,7 +64,7 @@ priced-rest-sets-of-requires : (t : ℕ) → priced-rest-lts.Need-sets-of-requir
 ) (priced-rest-at t) priced-rest.Post
 priced-rest-sets-of-requires t c κs = search needs
 
--- src/relaxation.rt:48:35
+-- src/dual_bound.rt:48:35
 priced-rest-add-priced-rest : (t : ℕ) → priced-rest-lts.Need-add-priced-rest (
   sets-of-reads.Asked,
   sets-of-reads.Learnt,
@@ -73,7 +73,7 @@ priced-rest-add-priced-rest : (t : ℕ) → priced-rest-lts.Need-add-priced-rest
 ) (priced-rest-at t) priced-rest.Post
 priced-rest-add-priced-rest t c = search needs
 
--- src/relaxation.rt:48:9
+-- src/dual_bound.rt:48:9
 priced-rest-priced-rest-requires : (t : ℕ) → priced-rest-lts.Need-priced-rest-requires (
   sets-of-reads.Asked,
   sets-of-reads.Learnt,
@@ -82,7 +82,7 @@ priced-rest-priced-rest-requires : (t : ℕ) → priced-rest-lts.Need-priced-res
 ) (priced-rest-at t) priced-rest.Post
 priced-rest-priced-rest-requires t c κs = search needs
 
--- src/relaxation.rt:48:9
+-- src/dual_bound.rt:48:9
 priced-rest-returns-2 : (t : ℕ) → priced-rest-lts.Need-returns-2 (
   sets-of-reads.Asked,
   sets-of-reads.Learnt,
@@ -97,7 +97,7 @@ priced-rest-returns-2 t c =
       le-trans (later .1) (mul-le-mul-right _ (omega arith)),
     )
 
--- src/relaxation.rt:50:36
+-- src/dual_bound.rt:50:36
 priced-rest-add-priced-rest-2 : (t : ℕ) → priced-rest-lts.Need-add-priced-rest-2 (
   sets-of-reads.Asked,
   sets-of-reads.Learnt,
@@ -106,7 +106,7 @@ priced-rest-add-priced-rest-2 : (t : ℕ) → priced-rest-lts.Need-add-priced-re
 ) (priced-rest-at t) priced-rest.Post
 priced-rest-add-priced-rest-2 t c = search needs
 
--- src/relaxation.rt:50:9
+-- src/dual_bound.rt:50:9
 priced-rest-priced-rest-requires-2 : (t : ℕ) → priced-rest-lts.Need-priced-rest-requires-2 (
   sets-of-reads.Asked,
   sets-of-reads.Learnt,
@@ -115,7 +115,7 @@ priced-rest-priced-rest-requires-2 : (t : ℕ) → priced-rest-lts.Need-priced-r
 ) (priced-rest-at t) priced-rest.Post
 priced-rest-priced-rest-requires-2 t c κs = search needs
 
--- src/relaxation.rt:51:5
+-- src/dual_bound.rt:51:5
 priced-rest-mul-result : (t : ℕ) → priced-rest-lts.Need-mul-result (
   sets-of-reads.Asked,
   sets-of-reads.Learnt,
@@ -124,7 +124,7 @@ priced-rest-mul-result : (t : ℕ) → priced-rest-lts.Need-mul-result (
 ) (priced-rest-at t) priced-rest.Post
 priced-rest-mul-result t c = search needs
 
--- src/relaxation.rt:51:5
+-- src/dual_bound.rt:51:5
 priced-rest-shared-slice-read-result : (t : ℕ) → priced-rest-lts.Need-shared-slice-read-result (
   sets-of-reads.Asked,
   sets-of-reads.Learnt,
@@ -133,7 +133,7 @@ priced-rest-shared-slice-read-result : (t : ℕ) → priced-rest-lts.Need-shared
 ) (priced-rest-at t) priced-rest.Post
 priced-rest-shared-slice-read-result t c = search needs
 
--- src/relaxation.rt:51:5
+-- src/dual_bound.rt:51:5
 priced-rest-add-result : (t : ℕ) → priced-rest-lts.Need-add-result (
   sets-of-reads.Asked,
   sets-of-reads.Learnt,
@@ -144,7 +144,7 @@ priced-rest-add-result t c =
     let low = c .before .before .before .before .before .before .pre .1 .1 (c .before .before .before .before .before .before .args .item) in
     omega (arith, low, c .before .priced-rest2 .ensures .1, c .before .before .before .before .before .before .pre .1 .0 .1)
 
--- src/relaxation.rt:36:1
+-- src/dual_bound.rt:36:1
 priced-rest-returns-3 : (t : ℕ) → priced-rest-lts.Need-returns-3 (
   sets-of-reads.Asked,
   sets-of-reads.Learnt,
