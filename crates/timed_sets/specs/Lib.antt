@@ -5,11 +5,15 @@ pub mod PatternLaws
 pub mod DemandBounds
 pub mod Nodes
 pub mod Lagrangians
+pub mod PriceColumns
+pub mod PricedLevels
 pub mod NodeLaws
 pub mod AdmittedLaws
 pub mod LagrangianLaws
 pub mod DualBoundLaws
 pub mod ColumnLaws
+pub mod PriceLaws
+pub mod PricedLevelLaws
 pub mod BoundLaws
 pub mod PromisingLaws
 pub mod WholeLaws

@@ -5,6 +5,8 @@ mod columns;
 mod dual_bound;
 mod given;
 mod nodes;
+mod prices;
+mod relaxation;
 mod search;
 
 use search::least_from;
