@@ -20,6 +20,7 @@ use Rattle.timed_sets.specs.AdmittedLaws.{counted}
 use Rattle.timed_sets.specs.DemandBounds.{SameTasks, same-demand}
 use Rattle.timed_sets.specs.Nodes.{timedCore, TimedItems, Stands, WordColumn}
 use Rattle.timed_sets.specs.PatternLaws.{timing-of}
+use Rattle.timed_sets.specs.TickColumns.{columnJobs}
 use Rattle.timed_sets.specs.TimedCores.{timingAt, timingWidth, timingIn, timingsOf, patternTasks}
 use Rattle.timed_sets.specs.declared.Node.{Node}
 use Rattle.timed_sets.specs.declared.Timed.{Timed}
@@ -83,18 +84,35 @@ module _ {timed : Timed} {timings : List ℕ} (periods windows ticks : List ℕ)
         span-at-most = ready .span-at-most;
       }
 
-  module _ {cost : List ℕ} {node : Node} {q : List ℕ} {T : List Bool} (stands : Stands timed timings cost node q T) (are-ticks : ticks ≡ node .ticks) where
-    same-tasks : SameTasks columns (patternTasks (timingsOf timings (timed .items)) q)
-    unfolding patternTasks
-    same-tasks =
-        record {
-          size = front-length _ ticks (ready .few-items) places ∙ sym (counted ready);
-          period = λ i l. period-at i (is-item i l) ∙ ap (λ (t : _). t .period) (sym (timing-of timings (timed .items) i (is-item i l)));
-          window = λ i l. window-at i (is-item i l) ∙ ap (λ (t : _). t .window) (sym (timing-of timings (timed .items) i (is-item i l)));
-          ticks = λ i l. getD-take (timed .items) ticks i 0 (is-item i l) ∙ rw are-ticks (stands .ticks i);
-        }
+  same-jobs : SameTasks columns (columnJobs timed timings ticks)
+  unfolding columnJobs
+  same-jobs =
+      record {
+        size = front-length _ ticks (ready .few-items) places;
+        period = λ i l. period-at i (is-item i l);
+        window = λ i l. window-at i (is-item i l);
+        ticks = λ i l. getD-take (timed .items) ticks i 0 (is-item i l);
+      }
 
-    pub unmet-tick-admits : {r : ℕ} → UnmetTick columns (timed .span) r → eqb r 0 ≡ timedCore timed timings cost .admits q
-    unmet-tick-admits {r} answer =
-        unmet-tick-decides _ (timed .span) r
-        (unmet-tick-of-same-demand columns (patternTasks (timingsOf timings (timed .items)) q) (same-demand _ _ same-tasks) (timed .span) r answer)
+  pub unmet-of-columns : {r : ℕ} → UnmetTick columns (timed .span) r → UnmetTick (columnJobs timed timings ticks) (timed .span) r
+  unmet-of-columns {r} answer =
+      unmet-tick-of-same-demand columns (columnJobs timed timings ticks) (same-demand _ _ same-jobs) (timed .span) r answer
+
+module _ {timed : Timed} {timings cost : List ℕ} {node : Node} {q : List ℕ} {T : List Bool} (ready : TimedItems timed timings)
+    (stands : Stands timed timings cost node q T) where
+  same-tasks : SameTasks (columnJobs timed timings (node .ticks)) (patternTasks (timingsOf timings (timed .items)) q)
+  unfolding patternTasks columnJobs
+  same-tasks =
+      record {
+        size = sym (counted ready);
+        period = λ i l. ap (λ (t : _). t .period) (sym (timing-of timings (timed .items) i l));
+        window = λ i l. ap (λ (t : _). t .window) (sym (timing-of timings (timed .items) i l));
+        ticks = λ i l. stands .ticks i;
+      }
+
+  pub unmet-tick-admits : {r : ℕ} → UnmetTick (columnJobs timed timings (node .ticks)) (timed .span) r →
+      eqb r 0 ≡ timedCore timed timings cost .admits q
+  unmet-tick-admits {r} answer =
+      unmet-tick-decides _ (timed .span) r
+      (unmet-tick-of-same-demand (columnJobs timed timings (node .ticks)) (patternTasks (timingsOf timings (timed .items)) q)
+      (same-demand _ _ same-tasks) (timed .span) r answer)

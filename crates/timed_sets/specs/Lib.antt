@@ -7,6 +7,7 @@ pub mod Nodes
 pub mod Lagrangians
 pub mod PriceColumns
 pub mod PricedLevels
+pub mod TickColumns
 pub mod NodeLaws
 pub mod AdmittedLaws
 pub mod LagrangianLaws
@@ -15,6 +16,7 @@ pub mod ColumnLaws
 pub mod PriceLaws
 pub mod PricedLevelLaws
 pub mod BoundLaws
+pub mod ServableLaws
 pub mod PromisingLaws
 pub mod WholeLaws
 pub mod FoundLaws

@@ -6,12 +6,13 @@ use demand::unmet_tick;
 use values::MOST_ITEMS;
 ghost use mathlib.Core.Path.{_≡_};
 ghost use Prim.Native.Nat.{_*_, _≤_, _<_};
-ghost use lib.Dec.{eqb};
 ghost use lib.ListN.{length};
 ghost use mathlib.Core.List.{List};
 ghost use mathlib.Core.Bool.{Bool};
 ghost use Prim.Native.Nat.{ℕ};
 ghost use Rattle.assignment.specs.Limits.{mostItems};
+ghost use Rattle.demand.specs.UnmetTicks.{UnmetTick};
+ghost use Rattle.timed_sets.specs.TickColumns.{columnJobs};
 ghost use Rattle.timed_sets.specs.TimedCores.{timingWidth};
 ghost use Rattle.timed_sets.specs.Nodes.{TimedItems, Stands, WordColumn, timedCore};
 
@@ -29,6 +30,18 @@ fn word_column(items: usize, word: usize, timings: &[u32]) -> [u32; MOST_ITEMS]
     column
 }
 
+// A tick of the span by which more is due than there are ticks up to it, with these ticks of a job of each item; 0 where there is none.
+pub(crate) fn unmet_of(timed: Timed, column: [u32; MOST_ITEMS], timings: &[u32]) -> u32
+    requires { ⌜ TimedItems timed (now timings) ⌝ }
+    requires { ⌜ length column ≡ mostItems ⌝ }
+    ensures { λ r. ⌜ UnmetTick (columnJobs timed (now (timings .entry)) column) (timed .span) r ⌝ }
+{
+    let n = timed.items;
+    let periods = word_column(n, 0, timings);
+    let windows = word_column(n, 1, timings);
+    unmet_tick(timed.span, &periods[..n], &windows[..n], &column[..n])
+}
+
 // Whether the core admits the node's pattern.
 pub(crate) fn is_admitted(timed: Timed, node: Node, timings: &[u32]) -> bool
     requires { ⌜ TimedItems timed (now timings) ⌝ }
@@ -36,9 +49,6 @@ pub(crate) fn is_admitted(timed: Timed, node: Node, timings: &[u32]) -> bool
     ensures { λ r. ⌜ ((cost q : List ℕ) (T : List Bool) → Stands timed (now (timings .entry)) cost node q T →
         r ≡ timedCore timed (now (timings .entry)) cost .admits q) ⌝ }
 {
-    let n = timed.items;
-    let periods = word_column(n, 0, timings);
-    let windows = word_column(n, 1, timings);
-    let ticks = node.ticks;
-    unmet_tick(timed.span, &periods[..n], &windows[..n], &ticks[..n]) == 0
+    let column = node.ticks;
+    unmet_of(timed, column, timings) == 0
 }

@@ -8,8 +8,10 @@ mod nodes;
 mod prices;
 mod relaxation;
 mod search;
+mod servable;
 
 use search::least_from;
+pub use servable::is_servable;
 use values::MOST_ITEMS;
 use values::MOST_LEVELS;
 use values::NO_COST;
