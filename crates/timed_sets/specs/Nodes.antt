@@ -15,6 +15,7 @@ use Rattle.assignment.specs.Sets.{setNumber, tableAt}
 use Rattle.assignment.specs.Keeping.{Keeps}
 use Rattle.partition.specs.Tables.{SmallTable}
 use Rattle.assignment.specs.Values.{Value, none, AtMost, Least}
+use Rattle.assignment.specs.Words.{noCost}
 use Rattle.knapsack.specs.Offered.{entryOf, offersOf}
 use Rattle.knapsack.specs.Offers.{patternCost}
 use Rattle.values.specs.Worths.{Small, worthOf}
@@ -102,6 +103,9 @@ atLevel node level =
 
 abbrev pub SmallWorth : Timed → Worth → Type 0
 SmallWorth timed worth = Small (timed .items) (worth .cost) (worth .key)
+
+abbrev pub noneYet : Worth
+noneYet = record { cost = noCost; key = 0 }
 
 -- the least of the best so far and of what is reached from the node
 pub record FoundFrom (timed : Timed) (timings cost : List ℕ) (node : Node) (q : List ℕ) (T : List Bool) (best r : Worth) : Type 0 where

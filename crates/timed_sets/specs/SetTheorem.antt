@@ -20,7 +20,7 @@ use Rattle.knapsack.specs.Offered.{offerAt, offersOf}
 use Rattle.knapsack.specs.Offers.{Offer, entryCost, patternCost}
 use Rattle.values.specs.Worths.{Small, worthOf}
 use Rattle.values.specs.declared.value.Worth.{Worth}
-use Rattle.timed_sets.specs.Nodes.{timedCore, Stands, FoundFrom, SmallWorth, LeastInTime}
+use Rattle.timed_sets.specs.Nodes.{timedCore, Stands, FoundFrom, SmallWorth, LeastInTime, noneYet}
 use Rattle.timed_sets.specs.NodeLaws.{stands-at-start}
 use Rattle.timed_sets.specs.PromisingLaws.{power-above-0}
 use Rattle.timed_sets.specs.Reached.{OneCore, worthOn, LeastFrom, Reached}
@@ -54,9 +54,6 @@ offered-same load cost (suc n) = joined (offered-same load cost n) (more (λ l. 
 pub loads-do-not-matter : (load cost : List ℕ) (n : ℕ) (pattern : List ℕ) → patternCost (offersOf load cost n) pattern ≡ patternCost (offersOf [] cost n) pattern
 unfolding offersOf
 loads-do-not-matter load cost n pattern = pattern-cost-same (offered-same load cost n) pattern
-
-abbrev pub noneYet : Worth
-noneYet = record { cost = noCost; key = 0 }
 
 abbrev pub startAt : ℕ → Node
 startAt set = record { item = 0; level = 0; rest = set; cost = 0; key = 0; ticks = replicate mostItems 0 }

@@ -4,19 +4,24 @@ mod bounds;
 mod columns;
 mod dual_bound;
 mod given;
+mod least;
 mod nodes;
 mod prices;
 mod relaxation;
 mod search;
 mod servable;
 
-use search::least_from;
+use bounds::bound_comes_first;
+use given::worth_along;
+use least::least_by_search;
+use prices::free;
+use relaxation::lagrangian_of;
 pub use servable::is_servable;
 use values::MOST_ITEMS;
 use values::MOST_LEVELS;
-use values::NO_COST;
 use values::Worth;
 ghost use Prim.Native.Nat.{_^_, _<_};
+ghost use Rattle.timed_sets.specs.Lagrangians.{Relaxes};
 ghost use Rattle.timed_sets.specs.Nodes.{TimedReady, LowerTimed, LeastInTime};
 
 // How many items and levels there are, and how many ticks a span has.
@@ -54,7 +59,14 @@ struct Bounded {
     relaxed: Lagrangian,
 }
 
-// The least value of running exactly the items of a set, by its number, with every job done in time.
+// What is settled of a set: its least value; and the relaxation that was found for it, which bounds the values of all sets.
+pub struct Settled {
+    pub least: Worth,
+    pub relaxed: Lagrangian,
+}
+
+// The least value of running exactly the items of a set, by its number, with every job done in time. Where the core admits the pattern
+// that the table's entry stands for, at the entry's cost, that is it.
 pub fn least_in_time(
     timed: Timed,
     set: usize,
@@ -62,11 +74,12 @@ pub fn least_in_time(
     cost: &[u64],
     lowcosts: &[u64],
     lowkeys: &[u64],
-) -> Worth
+) -> Settled
     requires { ⌜ TimedReady timed (now timings) (now cost) ⌝ }
     requires { ⌜ LowerTimed timed (now timings) (now cost) (now lowcosts) (now lowkeys) ⌝ }
     requires { ⌜ set < 2 ^ timed .items ⌝ }
-    ensures { λ r. ⌜ LeastInTime timed set (now (timings .entry)) (now (cost .entry)) r ⌝ }
+    ensures { λ r. ⌜ LeastInTime timed set (now (timings .entry)) (now (cost .entry)) (r .least) ⌝ }
+    ensures { λ r. ⌜ Relaxes timed (now (timings .entry)) (now (cost .entry)) (r .relaxed) ⌝ }
 {
     let start = Node {
         item: 0,
@@ -76,15 +89,12 @@ pub fn least_in_time(
         key: 0,
         ticks: [0; MOST_ITEMS],
     };
-    let none = Worth {
-        cost: NO_COST,
-        key: 0,
-    };
-    let relaxed = Lagrangian {
-        prices: [0; MOST_ITEMS],
-        least: [0; MOST_ITEMS],
-        budget: 0,
-    };
-    let bounded = Bounded { timed, relaxed };
-    least_from(bounded, start, none, timings, cost, lowcosts, lowkeys)
+    let own = worth_along(timed, start, lowkeys[set], timings, cost);
+    if !bound_comes_first(timed, start, own, lowcosts, lowkeys) {
+        return Settled {
+            least: own,
+            relaxed: lagrangian_of(timed, free(), timings, cost),
+        };
+    }
+    least_by_search(timed, start, own, timings, cost, lowcosts, lowkeys)
 }
