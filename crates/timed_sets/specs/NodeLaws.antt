@@ -71,19 +71,22 @@ module _ {timed : Timed} {timings cost : List ℕ} {node : Node} {q : List ℕ} 
       }
 
 -- a key with one digit more
-key-grows : (key c n : ℕ) → key < keyBase ^ n → c < keyBase → key * keyBase + c < keyBase ^ (n + 1)
+pub key-grows : (key c n : ℕ) → key < keyBase ^ n → c < keyBase → key * keyBase + c < keyBase ^ (n + 1)
 key-grows key c n below digit =
     let one-more : n + 1 ≡ suc n = omega arith in
     rw (one-more, pow-succ' keyBase n, mul-comm keyBase (keyBase ^ n)) (digits-lt below digit)
 
--- the next key fits 64 bits
-pub next-key-fits : {node : Node} → SmallNode node → (c : ℕ) → c < keyBase → node .key * keyBase + c < 2 ^ 64
+-- it fits 64 bits
+pub key-fits : (key c n : ℕ) → key < keyBase ^ n → n < mostItems → c < keyBase → key * keyBase + c < 2 ^ 64
 unfolding keyBase
-next-key-fits {node} small c digit =
+key-fits key c n below few digit =
     let some : 0 < 33 = omega arith in
-    let under : node .item + 1 ≤ mostItems = omega (arith, small .item) in
-    let most : keyBase ^ (node .item + 1) ≤ keyBase ^ mostItems = pow-le-pow-right some under in
-    omega (arith, key-grows (node .key) c (node .item) (small .key) digit, keys-fit {n = mostItems} (omega arith))
+    let under : n + 1 ≤ mostItems = omega arith in
+    let most : keyBase ^ (n + 1) ≤ keyBase ^ mostItems = pow-le-pow-right some under in
+    omega (arith, key-grows key c n below digit, keys-fit {n = mostItems} (omega arith))
+
+pub next-key-fits : {node : Node} → SmallNode node → (c : ℕ) → c < keyBase → node .key * keyBase + c < 2 ^ 64
+next-key-fits {node} small c digit = key-fits (node .key) c (node .item) (small .key) (small .item) digit
 
 cost-grows : (item costs its : ℕ) → costs ≤ item * mostCost → its ≤ mostCost → costs + its ≤ (item + 1) * mostCost
 cost-grows item costs its so-far here =

@@ -12,14 +12,21 @@ use Rattle.timed_sets.specs.TimedCores.{Timing, timingAt}
 abbrev pub mostWeight : ℕ
 mostWeight = 1099511627776
 
+-- how many ticks are weighed at most
+abbrev pub mostTicks : ℕ
+mostTicks = 8
+
 -- how many jobs of an item are due by a tick
 abbrev pub jobsOf : Timing → ℕ → ℕ
 jobsOf timing x = (x + (timing .period - timing .window)) / timing .period
 
--- the jobs of each of the first i items that are due by tick x
-pub record JobsBy (x : ℕ) (timings : List ℕ) (i : ℕ) (jobs : List ℕ) : Type 0 where
+pub record FewJobs (jobs : List ℕ) : Type 0 where
   pub places : length jobs ≡ mostItems
   pub few : (j : ℕ) → getD jobs j 0 ≤ mostSpan
+
+-- the jobs of each of the first i items that are due by tick x
+pub record JobsBy (x : ℕ) (timings : List ℕ) (i : ℕ) (jobs : List ℕ) : Type 0 where
+  pub few : FewJobs jobs
   pub at : (j : ℕ) → j < i → getD jobs j 0 ≡ jobsOf (timingAt timings j) x
 
 pub record LowPrices (prices : List ℕ) : Type 0 where

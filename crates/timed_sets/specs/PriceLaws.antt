@@ -1,16 +1,16 @@
 -- Why prices that are raised by a weight for each job due by a tick stay within a budget that is raised by the weight for each tick up
 -- to it: by no tick of the span is more due at an admitted pattern than there are ticks.
-use Prim.Native.Nat.{ℕ, zero, suc, _+_, _-_, _*_, _/_, _≤_, _<_}
+use Prim.Native.Nat.{ℕ, zero, suc, _+_, _*_, _≤_, _<_}
 use mathlib.Core.Bool.{true}
 use mathlib.Core.List.{List, [], _∷_}
 use mathlib.Core.Path.{_≡_, refl, sym, ap, _∙_}
-use native.Mathlib.Nat.{le-trans, mul-le-mul, mul-le-mul-left, mul-le-mul-right, mul-assoc, mul-comm, add-mul}
+use native.Mathlib.Nat.{mul-le-mul, mul-le-mul-left, mul-le-mul-right, mul-assoc, mul-comm, add-mul}
 use native.Mathlib.Omega.{arith}
 use lib.ListN.{length, getD, set, replicate, length-set}
 use lib.Seq.{getD-set-same, getD-set-other}
 use Rattle.laws.specs.Below.{below-suc}
 use Rattle.laws.specs.Sums.{sum}
-use Rattle.laws.specs.SumLaws.{sum-add, sum-cong, sum-mono, sum-scaled, sum-zero}
+use Rattle.laws.specs.SumLaws.{sum-add, sum-mono, sum-scaled, sum-zero}
 use Rattle.ranges.specs.Limits.{mostSpan}
 use Rattle.dispatch.specs.Rows.{CoreTasks}
 use Rattle.edf.specs.Demand.{demandAt, jobsDue, meetsDemand, ticksDue}
@@ -19,7 +19,7 @@ use Rattle.edf.specs.JobsDueLaws.{jobsDue-at-most}
 use Rattle.assignment.specs.Limits.{mostItems}
 use Rattle.timed_sets.specs.AdmittedLaws.{counted, pattern-well-formed}
 use Rattle.timed_sets.specs.Lagrangians.{mostPrice, mostBudget, priceOf, WithinBudget}
-use Rattle.timed_sets.specs.Nodes.{timedCore, TimedItems}
+use Rattle.timed_sets.specs.Nodes.{TimedItems}
 use Rattle.timed_sets.specs.PatternLaws.{no-entry, timing-of}
 use Rattle.timed_sets.specs.PriceColumns.{mostWeight, jobsOf, JobsBy, LowPrices, Raised}
 use Rattle.timed_sets.specs.TimedCores.{entryTicks, timingAt, timingIn, timingsOf, patternTasks}
@@ -107,18 +107,25 @@ set-at-most (x ∷ xs) (suc i) w most low all (suc j) = set-at-most xs i w most 
 
 module _ {x : ℕ} {timings : List ℕ} where
   pub no-jobs-yet : JobsBy x timings 0 (replicate mostItems 0)
-  no-jobs-yet = record { places = refl; few = λ j. rw (no-entry mostItems j) (omega arith); at = λ j l. absurd (omega arith) }
+  no-jobs-yet =
+      record {
+        few = record { places = refl; few = λ j. rw (no-entry mostItems j) (omega arith) };
+        at = λ j l. absurd (omega arith);
+      }
 
   pub jobs-of-one-more : {i : ℕ} {column : List ℕ} (jobs : ℕ) → JobsBy x timings i column → i < mostItems →
       jobs ≡ jobsOf (timingAt timings i) x → jobs ≤ mostSpan → JobsBy x timings (i + 1) (set column i jobs)
   jobs-of-one-more {i} {column} jobs so-far room is few =
       record {
-        places = length-set column i jobs ∙ so-far .places;
-        few = set-at-most column i jobs mostSpan few (so-far .few);
+        few =
+            record {
+              places = length-set column i jobs ∙ so-far .few .places;
+              few = set-at-most column i jobs mostSpan few (so-far .few .few);
+            };
         at = λ j l.
             below-suc (λ j. getD (set column i jobs) j 0 ≡ jobsOf (timingAt timings j) x) i
             (λ k m. getD-set-other column i k jobs 0 (λ same. omega arith) ∙ so-far .at k m)
-            (getD-set-same column i jobs 0 (omega (arith, so-far .places)) ∙ is) j (omega arith);
+            (getD-set-same column i jobs 0 (omega (arith, so-far .few .places)) ∙ is) j (omega arith);
       }
 
 module _ {weight : ℕ} {jobs prices : List ℕ} where

@@ -1,15 +1,14 @@
 -- The cheapest level of an item, level by level, and what all items cost at least, item by item.
-use Prim.Native.Nat.{ℕ, zero, suc, _+_, _*_, _≤_, _<_}
+use Prim.Native.Nat.{ℕ, _+_, _*_, _≤_, _<_}
 use mathlib.Core.List.{List}
-use mathlib.Core.Path.{_≡_, refl, sym, _∙_}
+use mathlib.Core.Path.{_≡_, refl, _∙_}
 use native.Mathlib.Nat.{le-trans, mul-le-mul}
 use native.Mathlib.Omega.{arith}
-use lib.ListN.{length, getD, set, replicate, length-set}
+use lib.ListN.{getD, set, replicate, length-set}
 use lib.Seq.{getD-set-same, getD-set-other}
 use Rattle.laws.specs.Below.{below-suc}
 use Rattle.ranges.specs.Limits.{mostPeriod}
-use Rattle.assignment.specs.Limits.{mostCost, mostItems, mostLevels}
-use Rattle.knapsack.specs.Offered.{entryOf}
+use Rattle.assignment.specs.Limits.{mostItems, mostLevels}
 use Rattle.timed_sets.specs.Lagrangians.{mostPrice, mostPriced, WithinBudget, Relaxes}
 use Rattle.timed_sets.specs.Nodes.{TimedReady}
 use Rattle.timed_sets.specs.PatternLaws.{no-entry}

@@ -1,15 +1,18 @@
 // The least value of one set of items on a core whose jobs are due at given ticks: depth first over the items of the set and their
 // levels. Items are offered at what they cost alone.
 mod bounds;
+mod choices;
 mod columns;
 mod dual_bound;
 mod given;
 mod least;
+mod multipliers;
 mod nodes;
 mod prices;
 mod relaxation;
 mod search;
 mod servable;
+mod weights;
 
 use bounds::bound_comes_first;
 use given::worth_along;

@@ -6,13 +6,12 @@ use values::MOST_ITEMS;
 ghost use Prim.Native.Nat.{_+_, _*_, _≤_, _<_};
 ghost use mathlib.Core.List.{List};
 ghost use Prim.Native.Nat.{ℕ};
-ghost use lib.ListN.{getD};
 ghost use Rattle.ranges.specs.Limits.{mostSpan};
 ghost use Rattle.assignment.specs.Limits.{mostItems};
 ghost use Rattle.timed_sets.specs.declared.Timed.{Timed};
 ghost use Rattle.timed_sets.specs.Nodes.{TimedItems};
 ghost use Rattle.timed_sets.specs.Lagrangians.{mostPrice, WithinBudget};
-ghost use Rattle.timed_sets.specs.PriceColumns.{mostWeight, JobsBy, Raised, LowPrices};
+ghost use Rattle.timed_sets.specs.PriceColumns.{mostWeight, FewJobs, JobsBy, Raised, LowPrices};
 
 // Within these limits all sums fit 64 bits: 2^40, 2^44 and 2^58.
 const MOST_WEIGHT: u64 = 0x100_0000_0000;
@@ -77,7 +76,7 @@ pub(crate) fn raised_prices(
 ) -> [u64; MOST_ITEMS]
     requires { ⌜ (items ≤ mostItems) × (weight ≤ mostWeight) ⌝ }
     requires { ⌜ LowPrices prices ⌝ }
-    requires { ⌜ ((i : ℕ) → getD jobs i 0 ≤ mostSpan) ⌝ }
+    requires { ⌜ FewJobs jobs ⌝ }
     ensures { λ r. ⌜ Raised weight jobs prices items r ⌝ }
 {
     let mut raised = prices;

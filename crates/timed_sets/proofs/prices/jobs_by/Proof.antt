@@ -91,7 +91,7 @@ loop-again c =
 returns : tie.Need-returns Inv-loop μ-loop
 returns c =
     let inv = c .before .before .loop .inv in
-    record { places = inv .1 .places; few = inv .1 .few; at = λ j l. inv .1 .at j (omega (arith, c .if1 .left)) }
+    record { few = inv .1 .few; at = λ j l. inv .1 .at j (omega (arith, c .if1 .left)) }
 
 pub jobs-by-spec : {M : Type 1} → statement M
 jobs-by-spec =

@@ -39,7 +39,7 @@ array-read-raised-price-2 c = search needs
 
 -- src/prices.rt:82:21
 raised-price-requires : tie.Need-raised-price-requires Inv-loop μ-loop
-raised-price-requires c κs = let pre = c .before .before .pre in (pre .1 .0 .low _, pre .0 .1, pre .1 .1 _)
+raised-price-requires c κs = let pre = c .before .before .pre in (pre .1 .0 .low _, pre .0 .1, pre .1 .1 .few _)
 
 -- src/prices.rt:82:9
 mul-raised : tie.Need-mul-raised Inv-loop μ-loop

@@ -1,0 +1,23 @@
+use Prim.Native.Nat.{ℕ, zero, suc, _+_, _-_, _*_, _≤_, _<_}
+use mathlib.Core.Path.{_≡_, refl, sym, _∙_}
+use native.Mathlib.Omega.{arith}
+use borrow.Author.Needs.{needs}
+use lib.ListN.{length, getD}
+use native.Mathlib.Nat.{mul-le-mul}
+use Rattle.ranges.specs.Limits.{mostSpan, mostWord}
+use Rattle.timed_sets.proofs.weights.ticks_of_jobs.Statement.{statement}
+use Rattle.timed_sets.proofs.weights.ticks_of_jobs.Tie as tie
+use Rattle.timed_sets.proofs.weights.ticks_of_jobs.Reads as reads
+use Rattle.timed_sets.proofs.weights.ticks_of_jobs.Lts as lts
+
+-- src/multipliers.rt:42:5
+mul-result : tie.Need-mul-result
+mul-result c =
+    let low : c .args .ticks ≤ mostWord = omega arith in record { fits = omega (arith, mul-le-mul low (c .pre)) }
+
+-- src/multipliers.rt:38:1
+returns : tie.Need-returns
+returns c = let low : c .args .ticks ≤ mostWord = omega arith in mul-le-mul low (c .pre)
+
+pub ticks-of-jobs-spec : {M : Type 1} → statement M
+ticks-of-jobs-spec = tie.close (tie.spec mul-result returns)
