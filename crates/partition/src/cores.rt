@@ -15,7 +15,7 @@ ghost use Rattle.partition.specs.Cores.{CoreReady, CoreAdded};
 ghost use Rattle.partition.specs.Moves.{WeightsBelow, MovesReady, MovedBelow};
 
 // The weight of each set: the key with a digit 1 for each of its items.
-fn fill_weights(items: usize, weights: &mut [u64])
+pub fn fill_weights(items: usize, weights: &mut [u64])
     requires { ⌜ items ≤ mostItems ⌝ }
     requires { ⌜ 2 ^ items ≤ length (now weights) ⌝ }
     ensures { λ _. ⌜ WeightsBelow items (2 ^ items) (now (weights .exit)) ⌝ }

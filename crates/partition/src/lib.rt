@@ -6,6 +6,7 @@ mod keeping;
 mod splits;
 
 pub use cores::fill_best;
+pub use cores::fill_weights;
 pub use halves::Halves;
 pub use halves::least_on_one;
 pub use halves::least_over_halves;

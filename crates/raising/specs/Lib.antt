@@ -8,3 +8,7 @@ pub mod LoadLaws
 pub mod TimedSites
 pub mod SiteLaws
 pub mod StartTables
+pub mod LiftedTables
+pub mod LiftingLaws
+pub mod LiftedLaws
+pub mod DroppedLaws

@@ -1,5 +1,6 @@
 // The best plan where jobs may be due before their period's end. Partition and keeping search a table of lower values, at first
 // those of load alone; the entries of the plan that they find are made exact, until the found plan's all are.
+mod lifting;
 mod rounds;
 mod sets;
 

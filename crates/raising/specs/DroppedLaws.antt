@@ -1,0 +1,113 @@
+-- Entries of sets that no pattern serves may be none.
+use Prim.Native.Nat.{ℕ, _^_, _≤_, _<_}
+use mathlib.Core.Bool.{Bool, true, false}
+use mathlib.Core.List.{List}
+use mathlib.Core.Logic.{_⊎_, inl, inr, _≢_}
+use mathlib.Core.Path.{_≡_, refl, sym, ap, _∙_}
+use native.Mathlib.Omega.{arith}
+use lib.ListN.{length, getD, set, length-set}
+use lib.Seq.{getD-set-same, getD-set-other}
+use Rattle.laws.specs.Truth.{false-not-true}
+use Rattle.assignment.specs.CoreTables.{Admitted, patternWorth, Keyed}
+use Rattle.assignment.specs.Limits.{mostCoreCost}
+use Rattle.assignment.specs.Sets.{setNumber, tableAt}
+use Rattle.assignment.specs.Values.{Value, none, AtMost, Least}
+use Rattle.assignment.specs.Words.{noCost, valueOf, words-none}
+use Rattle.core_tables.specs.AwakeCores.{surplus}
+use Rattle.core_tables.specs.SetSizes.{itemsIn}
+use Rattle.partition.specs.Tables.{SmallTable}
+use Rattle.timed_sets.specs.TickColumns.{NoneServes}
+use Rattle.timed_sets.specs.TimedCores.{timedOptions}
+use Rattle.timed_sets.specs.declared.Timed.{Timed}
+use Rattle.raising.specs.LiftedTables.{DroppedTo, stays, dropped, Dropped}
+use Rattle.raising.specs.RaisedTables.{same-or-other}
+use Rattle.raising.specs.TimedSites.{timedOf, coreOf, SiteRaised}
+use Rattle.raising.specs.declared.Site.{Site}
+
+module _ {timed : Timed} {timings : List ℕ} where
+  pub none-dropped : {costs : List ℕ} → Dropped timed timings costs costs
+  none-dropped = record { places = refl; cost = λ y. stays refl }
+
+  pub one-dropped : {x : ℕ} {costs : List ℕ} → NoneServes timed x timings → x < length costs → Dropped timed timings costs (set costs x noCost)
+  one-dropped {x} {costs} unserved room = record { places = length-set costs x noCost; cost = λ y. go y (same-or-other y x) }
+    where
+      go : (y : ℕ) → (y ≡ x) ⊎ (y ≢ x) → DroppedTo timed timings y (getD costs y 0) (getD (set costs x noCost) y 0)
+      go y (inl this) = rw this (dropped unserved (getD-set-same costs x noCost 0 room))
+      go y (inr other) = stays (getD-set-other costs x y noCost 0 other)
+
+  pub dropped-after : {before between after : List ℕ} → Dropped timed timings before between → Dropped timed timings between after →
+      Dropped timed timings before after
+  dropped-after {before} {between} {after} first second =
+      record { places = second .places ∙ first .places; cost = λ y. go (first .cost y) (second .cost y) }
+    where
+      go : {y a b c : ℕ} → DroppedTo timed timings y a b → DroppedTo timed timings y b c → DroppedTo timed timings y a c
+      go either (dropped unserved gone) = dropped unserved gone
+      go (stays same) (stays again) = stays (again ∙ same)
+      go (dropped unserved gone) (stays again) = dropped unserved (again ∙ gone)
+
+module _ (site : Site) {timings : List ℕ} (cost : List ℕ) {costs keys : List ℕ} {exact : List Bool} (raised : SiteRaised site timings cost costs keys exact)
+    {after : List ℕ} (drop : Dropped (timedOf site) timings costs after) where
+  -- no pattern of a dropped set is admitted
+  unserved : (S : List Bool) → length S ≡ site .items → NoneServes (timedOf site) (setNumber (site .items) S) timings → (pattern : List ℕ) →
+      Admitted (coreOf site timings cost) S pattern → ⊥
+  unfolding coreOf timedOptions
+  unserved S of-items none-serves pattern admitted =
+      false-not-true (none-serves .refused S of-items refl cost pattern (admitted .keeps)) (admitted .admitted)
+
+  -- a value is as it was, or none where nothing is admitted
+  value : (S : List Bool) → length S ≡ site .items →
+      (tableAt (site .items) after keys S ≡ tableAt (site .items) costs keys S)
+      ⊎ ((tableAt (site .items) after keys S ≡ none) × ((pattern : List ℕ) → Admitted (coreOf site timings cost) S pattern → ⊥))
+  unfolding tableAt
+  value S of-items = go (getD keys (setNumber (site .items) S) 0) (drop .cost (setNumber (site .items) S))
+    where
+      go : {c c' : ℕ} (k : ℕ) → DroppedTo (timedOf site) timings (setNumber (site .items) S) c c' →
+          (valueOf c' k ≡ valueOf c k) ⊎ ((valueOf c' k ≡ none) × ((pattern : List ℕ) → Admitted (coreOf site timings cost) S pattern → ⊥))
+      go k (stays same) = inl (ap (λ (c : ℕ). valueOf c k) same)
+      go {c' = c'} k (dropped none-serves gone) = inr (words-none c' k (omega arith), unserved S of-items none-serves)
+
+  each-value : (P : List Bool → Value → Type 0) →
+      ((S : List Bool) → ((pattern : List ℕ) → Admitted (coreOf site timings cost) S pattern → ⊥) → P S none) →
+      (S : List Bool) → length S ≡ site .items → P S (tableAt (site .items) costs keys S) → P S (tableAt (site .items) after keys S)
+  each-value P at-none S of-items old = go (value S of-items)
+    where
+      go : (tableAt (site .items) after keys S ≡ tableAt (site .items) costs keys S)
+          ⊎ ((tableAt (site .items) after keys S ≡ none) × ((pattern : List ℕ) → Admitted (coreOf site timings cost) S pattern → ⊥)) →
+          P S (tableAt (site .items) after keys S)
+      go (inl same) = rw same old
+      go (inr (gone, nothing)) = rw gone (at-none S nothing)
+
+  cost-bound : {y c c' : ℕ} → DroppedTo (timedOf site) timings y c c' → c ≤ noCost → c' ≤ noCost
+  cost-bound (stays same) old = omega arith
+  cost-bound (dropped none-serves gone) old = omega arith
+
+  -- a cost that is real is as it was
+  real-cost : (y : ℕ) → getD after y 0 < noCost → getD after y 0 ≡ getD costs y 0
+  real-cost y real = go (drop .cost y) real
+    where
+      go : {c c' : ℕ} → DroppedTo (timedOf site) timings y c c' → c' < noCost → c' ≡ c
+      go (stays same) real = same
+      go (dropped none-serves gone) real = absurd (omega arith)
+
+  pub site-dropped : SiteRaised site timings cost after keys exact
+  site-dropped =
+      record {
+        small =
+            record {
+              costs-for-all = omega (arith, drop .places, raised .small .costs-for-all);
+              keys-for-all = raised .small .keys-for-all;
+              cost-bound = λ y h. cost-bound (drop .cost y) (raised .small .cost-bound y h);
+              real-bound = λ y h real. let same = real-cost y real in omega (arith, raised .small .real-bound y h (omega arith));
+              key-bound = raised .small .key-bound;
+            };
+        keyed = λ S of-items. each-value (Keyed _) (λ T nothing. Keyed.absent) S of-items (raised .keyed S of-items);
+        lower = λ S of-items.
+            each-value (λ T v. (pattern : List ℕ) → Admitted (coreOf site timings cost) T pattern → AtMost v (patternWorth (coreOf site timings cost) pattern))
+            (λ T nothing pattern admitted. absurd (nothing pattern admitted)) S of-items (raised .lower S of-items);
+        surplus-counted = λ y h real. let same = real-cost y real in omega (arith, raised .surplus-counted y h (omega arith));
+        flags-for-all = raised .flags-for-all;
+        least-where-flagged = λ S of-items flagged.
+            each-value (λ T v. Least (Admitted (coreOf site timings cost) T) (patternWorth (coreOf site timings cost)) v)
+            (λ T nothing. record { below = λ pattern admitted. absurd (nothing pattern admitted); attained = inl refl }) S of-items
+            (raised .least-where-flagged S of-items flagged);
+      }

@@ -1,0 +1,152 @@
+-- The sums of all sets, item after item, and the entries that are lifted, set after set.
+use Prim.Native.Nat.{ℕ, zero, suc, _+_, _-_, _*_, _^_, _≤_, _<_}
+use mathlib.Core.Bool.{Bool, true, false}
+use mathlib.Core.List.{List, [], _∷_}
+use mathlib.Core.Logic.{_⊎_, inl, inr, _≢_}
+use mathlib.Core.Path.{_≡_, refl, sym, ap, _∙_}
+use native.Mathlib.Nat.{eq-or-lt-of-le, pow-zero, pow-suc, zero-add}
+use native.Mathlib.Omega.{arith}
+use borrow.Author.Count.{below-more}
+use lib.ListN.{length, getD, set, length-set}
+use lib.Pow.{pow-mono}
+use lib.Seq.{getD-set-same, getD-set-other}
+use Rattle.assignment.specs.Keys.{weight}
+use Rattle.assignment.specs.Limits.{mostCoreCost, mostItems}
+use Rattle.assignment.specs.SetLaws.{setNumber-below, numbered}
+use Rattle.assignment.specs.Sets.{setNumber}
+use Rattle.partition.specs.Moves.{WeightsBelow}
+use Rattle.timed_sets.specs.Lagrangians.{leastPriced, mostPriced}
+use Rattle.timed_sets.specs.declared.Lagrangian.{Lagrangian}
+use Rattle.raising.specs.LiftedTables.{AddedBelow, RoomToAdd, SumsReady, NumberedBy, LiftedTo, stays, lifted, EntryLifted, LiftReady, LiftedBelow}
+use Rattle.raising.specs.RaisedTables.{same-or-other}
+
+module _ {half amount : ℕ} {before : List ℕ} where
+  pub none-added : AddedBelow half amount 0 before before
+  none-added = record { same = λ y h. refl; more = λ y h. absurd (omega arith) }
+
+  pub one-added : {x : ℕ} {after : List ℕ} → AddedBelow half amount x before after → x < half → half + x < length after →
+      AddedBelow half amount (x + 1) before (set after (half + x) (getD after x 0 + amount))
+  one-added {x} {after} so-far under room =
+      let next = getD after x 0 + amount in
+      record {
+        same = λ y h. getD-set-other after (half + x) y next 0 (λ same. omega arith) ∙ so-far .same y h;
+        more =
+            below-more (λ y. getD (set after (half + x) next) (half + y) 0 ≡ getD before y 0 + amount) x
+            (λ y h. getD-set-other after (half + x) (half + y) next 0 (λ same. omega arith) ∙ so-far .more y h)
+            (getD-set-same after (half + x) next 0 room ∙ ap (λ (k : ℕ). k + amount) (so-far .same x under));
+      }
+
+-- the numbers of all sets of one item more
+pub numbered-by-one-more : {n amount : ℕ} {f g : List Bool → ℕ} {before after : List ℕ} → NumberedBy n f before →
+    AddedBelow (2 ^ n) amount (2 ^ n) before after → ((S : List Bool) → g (false ∷ S) ≡ f S) →
+    ((S : List Bool) → g (true ∷ S) ≡ f S + amount) → NumberedBy (suc n) g after
+unfolding setNumber
+numbered-by-one-more {n} {amount} {f} {g} {before} {after} so-far added without with = record { at = at }
+  where
+    at : (S : List Bool) → length S ≡ suc n → getD after (setNumber (suc n) S) 0 ≡ g S
+    at [] of-items = absurd (omega arith)
+    at (false ∷ S) of-items =
+        rw zero-add (added .same (setNumber n S) (setNumber-below n S) ∙ so-far .at S (omega arith) ∙ sym (without S))
+    at (true ∷ S) of-items =
+        added .more (setNumber n S) (setNumber-below n S) ∙ ap (λ (k : ℕ). k + amount) (so-far .at S (omega arith)) ∙ sym (with S)
+
+priced-at-most : (least : List ℕ) → ((i : ℕ) → getD least i 0 ≤ mostPriced) → (from : ℕ) (S : List Bool) →
+    leastPriced least from S ≤ length S * mostPriced
+unfolding leastPriced
+priced-at-most least low from [] = omega arith
+priced-at-most least low from (false ∷ S) = omega (arith, priced-at-most least low (suc from) S)
+priced-at-most least low from (true ∷ S) = omega (arith, low from, priced-at-most least low (suc from) S)
+
+pub sum-at-most : {n : ℕ} (least : List ℕ) (from : ℕ) {sums : List ℕ} → ((i : ℕ) → getD least i 0 ≤ mostPriced) → n ≤ mostItems →
+    NumberedBy n (leastPriced least from) sums → (x : ℕ) → x < 2 ^ n → getD sums x 0 ≤ mostItems * mostPriced
+sum-at-most {n} least from low few so-far x under =
+    let s = numbered n x under in
+    let here = rw (s .number) at (so-far .at (s .set) (s .of-items)) in
+    omega (arith, here, priced-at-most least low from (s .set), s .of-items)
+
+-- the sums of the items from i on
+module _ {n : ℕ} {least start : List ℕ} (ready : SumsReady n least start) where
+  pub no-item-yet : NumberedBy 0 (leastPriced least n) start
+  unfolding setNumber leastPriced
+  no-item-yet = record { at = at }
+    where
+      at : (S : List Bool) → length S ≡ 0 → getD start 0 0 ≡ leastPriced least n S
+      at [] of-items = ready .empty
+      at (b ∷ S) of-items = absurd (omega arith)
+
+  module _ {i half : ℕ} {sums : List ℕ} (so-far : NumberedBy (n - suc i) (leastPriced least (suc i)) sums) (within : suc i ≤ n)
+      (is-half : half ≡ 2 ^ (n - suc i)) (same-places : length sums ≡ length start) where
+    pub room-for-item : RoomToAdd half (getD least i 0) sums
+    room-for-item =
+        let more : 2 ^ suc (n - suc i) ≤ 2 ^ n = pow-mono (omega arith) in
+        record {
+          places = omega (arith, more, pow-suc 2 (n - suc i), ready .sums-for-all);
+          fits = λ y h.
+              omega (arith, ready .low i, sum-at-most least (suc i) (ready .low) (omega (arith, ready .few-items)) so-far y (rw is-half at h));
+        }
+
+    pub one-item-more : {after : List ℕ} → AddedBelow half (getD least i 0) half sums after →
+        (half * 2 ≡ 2 ^ (n - i)) × NumberedBy (n - i) (leastPriced least i) after
+    unfolding leastPriced
+    one-item-more added =
+        let longer : n - i ≡ suc (n - suc i) = omega arith in
+        rw longer (
+          omega (arith, is-half, pow-suc 2 (n - suc i)),
+          numbered-by-one-more so-far (rw is-half at added) (λ S. refl) (λ S. omega arith),
+        )
+
+-- the entries
+
+module _ {x sum key budget : ℕ} {costs keys : List ℕ} where
+  pub entry-stays : (sum ≤ getD costs x 0 + budget) ⊎ (mostCoreCost + budget < sum) → EntryLifted x sum key budget costs keys costs keys
+  entry-stays why = record { entry = stays why refl refl; other-costs = λ y other. refl; other-keys = λ y other. refl }
+
+  pub entry-raised : x < length costs → x < length keys → getD costs x 0 + budget < sum → sum ≤ mostCoreCost + budget →
+      EntryLifted x sum key budget costs keys (set costs x (sum - budget)) (set keys x key)
+  entry-raised in-costs in-keys less fits =
+      let cost = getD-set-same costs x (sum - budget) 0 in-costs in
+      record {
+        entry = lifted less fits (omega (arith, cost)) (getD-set-same keys x key 0 in-keys);
+        other-costs = λ y other. getD-set-other costs x y (sum - budget) 0 other;
+        other-keys = λ y other. getD-set-other keys x y key 0 other;
+      }
+
+module _ {n : ℕ} {relaxed : Lagrangian} {costs₀ keys₀ : List ℕ} where
+  pub none-lifted : LiftedBelow n relaxed 0 costs₀ keys₀ costs₀ keys₀
+  none-lifted =
+      record {
+        costs-places = refl;
+        keys-places = refl;
+        below = λ S of-items h. absurd (omega arith);
+        from-costs = λ y h. refl;
+        from-keys = λ y h. refl;
+      }
+
+  module _ {x : ℕ} {costs keys : List ℕ} (so-far : LiftedBelow n relaxed x costs₀ keys₀ costs keys) where
+    pub next-cost : getD costs x 0 ≡ getD costs₀ x 0
+    next-cost = so-far .from-costs x (omega arith)
+
+    pub one-lifted : {sums weights costs' keys' : List ℕ} → x < 2 ^ n → NumberedBy n (leastPriced (relaxed .least) 0) sums →
+        WeightsBelow n (2 ^ n) weights → EntryLifted x (getD sums x 0) (getD weights x 0) (relaxed .budget) costs keys costs' keys' →
+        length costs' ≡ length costs → length keys' ≡ length keys → LiftedBelow n relaxed (x + 1) costs₀ keys₀ costs' keys'
+    one-lifted {sums} {weights} {costs'} {keys'} under summed weighed here costs-same keys-same =
+        record {
+          costs-places = costs-same ∙ so-far .costs-places;
+          keys-places = keys-same ∙ so-far .keys-places;
+          below = λ S of-items h. at S of-items (eq-or-lt-of-le h);
+          from-costs = λ y h. here .other-costs y (λ same. omega arith) ∙ so-far .from-costs y (omega arith);
+          from-keys = λ y h. here .other-keys y (λ same. omega arith) ∙ so-far .from-keys y (omega arith);
+        }
+      where
+        at : (S : List Bool) → length S ≡ n → (suc (setNumber n S) ≡ x + 1) ⊎ (suc (setNumber n S) < x + 1) →
+            LiftedTo (leastPriced (relaxed .least) 0 S) (weight S) (relaxed .budget) (getD costs₀ (setNumber n S) 0)
+            (getD keys₀ (setNumber n S) 0) (getD costs' (setNumber n S) 0) (getD keys' (setNumber n S) 0)
+        at S of-items (inl e) =
+            let this : setNumber n S ≡ x = omega arith in
+            let sum = rw this at (summed .at S of-items) in
+            let key = rw this at (weighed .at S of-items (omega arith)) in
+            let entry = rw (sum, key, so-far .from-costs x (omega arith), so-far .from-keys x (omega arith)) at (here .entry) in
+            rw this entry
+        at S of-items (inr earlier) =
+            let other : setNumber n S ≢ x = λ same. omega arith in
+            rw (here .other-costs (setNumber n S) other, here .other-keys (setNumber n S) other) (so-far .below S of-items (omega arith))
