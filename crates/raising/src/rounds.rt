@@ -67,9 +67,10 @@ fn raise_entry(
         levels: site.levels,
         span: site.span,
     };
-    let least = least_in_time(timed, set, timings, cost, costs, keys);
-    costs[set] = least.cost;
-    keys[set] = least.key;
+    let settled = least_in_time(timed, set, timings, cost, costs, keys);
+    costs[set] = settled.least.cost;
+    keys[set] = settled.least.key;
+    settled.relaxed
 }
 
 // Makes the entries of the sets that the cores of a found plan run exact, and answers how many were not.

@@ -3,8 +3,9 @@ use crate::Bounded;
 use crate::Node;
 use crate::Settled;
 use crate::Timed;
+use crate::choices::cheapest_key;
 use crate::given::worth_along;
-use crate::prices::free;
+use crate::multipliers::find_prices;
 use crate::relaxation::lagrangian_of;
 use crate::search::least_from;
 use values::Worth;
@@ -37,9 +38,10 @@ pub(crate) fn least_by_search(
     ensures { λ r. ⌜ SmallWorth timed (r .least) ⌝ }
     ensures { λ r. ⌜ Relaxes timed (now (timings .entry)) (now (cost .entry)) (r .relaxed) ⌝ }
 {
-    let prices = free();
-    let relaxed = lagrangian_of(timed, prices, timings, cost);
-    let key = 0;
+    let known = find_prices(timed, start.rest, timings, cost);
+    let relaxed = lagrangian_of(timed, known, timings, cost);
+    let prices = known.prices;
+    let key = cheapest_key(timed, start.rest, prices, timings, cost);
     let other = worth_along(timed, start, key, timings, cost);
     let best = lesser(own, other);
     let bounded = Bounded { timed, relaxed };

@@ -10,58 +10,58 @@ use Rattle.timed_sets.proofs.least.least_by_search.Tie as tie
 use Rattle.timed_sets.proofs.least.least_by_search.Reads as reads
 use Rattle.timed_sets.proofs.least.least_by_search.Lts as lts
 use Rattle.timed_sets.proofs.given.worth_along.Reads as worth-along-reads
-use Rattle.timed_sets.proofs.prices.free.Reads as free-reads
+use Rattle.timed_sets.proofs.choices.cheapest_key.Reads as cheapest-key-reads
+use Rattle.timed_sets.proofs.multipliers.find_prices.Reads as find-prices-reads
 use Rattle.timed_sets.proofs.relaxation.lagrangian_of.Reads as lagrangian-of-reads
 use Rattle.timed_sets.proofs.search.least_from.Reads as least-from-reads
 use Rattle.values.proofs.lesser.Reads as lesser-reads
 
--- src/least.rt:40:9
-free-requires : tie.Need-free-requires
-free-requires c κs = search needs
+-- src/least.rt
+find-prices-requires : tie.Need-find-prices-requires
+find-prices-requires c κs = c .before .before .before .before .pre .0
 
--- src/least.rt:41:9
 lagrangian-of-requires : tie.Need-lagrangian-of-requires
-lagrangian-of-requires c κs =
-    (c .before .before .before .before .before .pre .0, c .free .ensures (c .before .before .before .before .before .args .timed) _)
+lagrangian-of-requires c κs = (c .before .before .before .before .before .pre .0, c .find-prices .ensures)
 
--- src/least.rt:43:9
+cheapest-key-requires : tie.Need-cheapest-key-requires
+cheapest-key-requires c κs =
+    let known = c .before .before .find-prices .ensures in
+    (c .before .before .before .before .before .before .before .pre .0, record { places = known .places; low = known .low-prices })
+
 worth-along-requires : tie.Need-worth-along-requires
-worth-along-requires c κs =
-    let pre = c .before .before .before .before .before .before .pre in (pre .0, pre .1 .1 .0)
+worth-along-requires c κs = let pre = c .before .before .before .before .before .before .before .before .pre in (pre .0, pre .1 .1 .0)
 
--- src/least.rt:44:9
 lesser-requires : tie.Need-lesser-requires
 lesser-requires c κs = search needs
 
--- src/least.rt:46:9
 least-from-requires : tie.Need-least-from-requires
 least-from-requires c κs =
-    let pre = c .before .before .before .before .before .before .before .before .pre in (
+    let pre = c .before .before .before .before .before .before .before .before .before .before .pre in (
       pre .0,
       (
-        record { table = pre .1 .0; relaxation = c .before .before .lagrangian-of .ensures },
+        record { table = pre .1 .0; relaxation = c .before .before .before .before .lagrangian-of .ensures },
         (
           pre .1 .1 .0,
-          lesser-small (c .before .before .before .before .before .before .before .before .args .timed) _ _ _ (c .lesser .ensures) (c .before .worth-along .ensures .1) (pre .1 .1 .1),
+          lesser-small (c .before .before .before .before .before .before .before .before .before .before .args .timed) _ _ _ (c .lesser .ensures) (c .before .worth-along .ensures .1) (pre .1 .1 .1),
         ),
       ),
     )
 
--- src/least.rt:21:1
 returns : tie.Need-returns
 returns c =
     let found = c .least-from .ensures in (
       λ q T stands at-first own.
           found-from-one at-first (one-lesser (c .before .lesser .ensures) own (c .before .before .worth-along .ensures .0 q T stands)) (found .0 q T stands),
-      (found .1, c .before .before .before .lagrangian-of .ensures),
+      (found .1, c .before .before .before .before .before .lagrangian-of .ensures),
     )
 
 pub least-by-search-spec : {M : Type 1} → statement M
 least-by-search-spec =
     tie.close
     (tie.spec
-    free-requires
+    find-prices-requires
     lagrangian-of-requires
+    cheapest-key-requires
     worth-along-requires
     lesser-requires
     least-from-requires
