@@ -26,7 +26,7 @@ use Rattle.raising.specs.CoreSets.{coreSetNumber}
 use Rattle.raising.specs.RaisedTables.{stored, one-less-unflagged}
 use Rattle.raising.specs.RaisingLaws.{LeastOfSet, one-more-exact}
 use Rattle.raising.specs.Rounds.{RefusalsOffered, RoundReady, RoundFound, found-key-below, round-ready, none-found, settled-found}
-use Rattle.raising.specs.TimedSites.{shapeOf, timedOf, coreOf, siteOptions, SiteReady, SiteRaised, EntryRaised, SetsRaised}
+use Rattle.raising.specs.TimedSites.{shapeOf, timedOf, coreOf, siteOptions, SiteReady, SiteRaised, EntryRaised, SetSettled, SetsRaised}
 use Rattle.raising.specs.declared.Site.{Site}
 use Rattle.raising.specs.declared.rounds.Candidate.{Candidate}
 
@@ -82,18 +82,28 @@ module _ {found : Candidate} {timings cost costs keys : List ℕ} {exact₀ exac
       }
 
   -- it was not, and is
-  pub set-made-exact : {costs' keys' : List ℕ} → SiteReady (found .site) timings cost → getD exact x false ≡ false →
-      EntryRaised (found .site) x timings cost costs keys costs' keys' →
-      SetsRaised found timings cost costs' keys' exact₀ (set exact x true) (k + 1) (raised + 1)
-  set-made-exact ready clear entry =
-      record {
-        table = rw (entry .costs-set, entry .keys-set) (one-more-exact (ready .counted) (so-far .table) next-set-below (entry .least));
+  pub set-made-exact : {costs' keys' : List ℕ} {exact' : List Bool} → getD exact x false ≡ false →
+      SetSettled (found .site) x timings cost costs' keys' exact exact' →
+      SetsRaised found timings cost costs' keys' exact₀ exact' (k + 1) (raised + 1)
+  set-made-exact clear settled =
+      rw (settled .flagged) (record {
+        table = rw (settled .flagged) at (settled .table);
         fewer = omega (arith, so-far .fewer, one-less-unflagged (so-far .table) x 0 0 next-set-below clear);
         same = λ none. absurd (omega arith);
         flagged =
             below-more _ k (λ j h. stored (λ y b. b ≡ true) exact x true false next-flag-held refl _ (so-far .flagged j h))
             (rw (← is) (getD-set-same exact x true false next-flag-held));
-      }
+      })
+
+-- the entry of a set made exact
+pub entry-settled : {site : Site} {x : ℕ} {timings cost costs keys costs' keys' : List ℕ} {exact : List Bool} → SiteReady site timings cost →
+    SiteRaised site timings cost costs keys exact → x < 2 ^ site .items → EntryRaised site x timings cost costs keys costs' keys' →
+    SetSettled site x timings cost costs' keys' exact (set exact x true)
+entry-settled ready table under entry =
+    record {
+      table = rw (entry .costs-set, entry .keys-set) (one-more-exact (ready .counted) table under (entry .least));
+      flagged = refl;
+    }
 
 -- what a round says of the best plan
 

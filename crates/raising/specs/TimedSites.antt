@@ -54,6 +54,11 @@ pub record EntryRaised (site : Site) (x : ℕ) (timings cost costs₀ keys₀ co
   pub costs-set : costs ≡ set costs₀ x newCost
   pub keys-set : keys ≡ set keys₀ x newKey
 
+-- the entry of set x is exact, and flagged so
+pub record SetSettled (site : Site) (x : ℕ) (timings cost costs keys : List ℕ) (exact₀ exact : List Bool) : Type 0 where
+  pub table : SiteRaised site timings cost costs keys exact
+  pub flagged : exact ≡ set exact₀ x true
+
 -- so many of the sets that the first k cores of a found plan run were not exact, and are now; with none nothing changed
 pub record SetsRaised (found : Candidate) (timings cost costs keys : List ℕ) (exact₀ exact : List Bool) (k raised : ℕ) : Type 0 where
   pub table : SiteRaised (found .site) timings cost costs keys exact

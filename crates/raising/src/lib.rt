@@ -6,6 +6,7 @@ mod sets;
 
 use knapsack::Core;
 use knapsack_tables::fill_knapsacks;
+use lifting::drop_unservable;
 use rounds::least_in_rounds;
 use search::Found;
 use search::write_plan;
@@ -49,6 +50,7 @@ pub fn cheapest_in_time(
         capacity: site.span as usize,
     };
     fill_knapsacks(core, site.items, load, cost, &mut costs, &mut keys);
+    drop_unservable(site, timings, &mut costs);
     let best = least_in_rounds(site, timings, cost, refusal, must, &mut costs, &mut keys);
     if NO_COST <= best.cost {
         return Found::NoPlan;

@@ -1,9 +1,11 @@
 // The rounds of the search.
 use crate::Site;
+use crate::lifting::lift_all;
 use crate::sets::core_set;
 use core_tables::charge_idle_once;
 use search::Shape;
 use search::least_of_table;
+use timed_sets::Lagrangian;
 use timed_sets::Timed;
 use timed_sets::least_in_time;
 use values::MOST_SETS;
@@ -18,7 +20,8 @@ ghost use Rattle.assignment.specs.Words.{noCost};
 ghost use Rattle.partition.specs.Tables.{mostSets};
 ghost use Rattle.values.specs.Worths.{worthOf};
 ghost use Rattle.raising.specs.Rounds.{RefusalsOffered, RoundReady, RoundFound};
-ghost use Rattle.raising.specs.TimedSites.{shapeOf, timedOf, siteOptions, SiteReady, SiteRaised, EntryRaised, SetsRaised};
+ghost use Rattle.raising.specs.TimedSites.{shapeOf, timedOf, siteOptions, SiteReady, SiteRaised, EntryRaised, SetSettled, SetsRaised};
+ghost use Rattle.timed_sets.specs.Lagrangians.{Relaxes};
 ghost use Rattle.timed_sets.specs.Nodes.{LowerTimed};
 
 // A plan that was found, by its key.
@@ -47,7 +50,7 @@ fn least_charged(
     least_of_table(shape, refusal, must, &costs, keys)
 }
 
-// Replaces the entry of a set by its least value.
+// Replaces the entry of a set by its least value, and answers a relaxation, which bounds all sets.
 fn raise_entry(
     site: Site,
     set: usize,
@@ -55,12 +58,13 @@ fn raise_entry(
     cost: &[u64],
     costs: &mut [u64],
     keys: &mut [u64],
-)
+) -> Lagrangian
     requires { ⌜ SiteReady site (now timings) (now cost) ⌝ }
     requires { ⌜ LowerTimed (timedOf site) (now timings) (now cost) (now costs) (now keys) ⌝ }
     requires { ⌜ set < 2 ^ site .items ⌝ }
     ensures { λ _. ⌜ EntryRaised site set (now (timings .entry)) (now (cost .entry)) (now (costs .entry)) (now (keys .entry))
         (now (costs .exit)) (now (keys .exit)) ⌝ }
+    ensures { λ r. ⌜ Relaxes (timedOf site) (now (timings .entry)) (now (cost .entry)) r ⌝ }
 {
     let timed = Timed {
         items: site.items,
@@ -71,6 +75,30 @@ fn raise_entry(
     costs[set] = settled.least.cost;
     keys[set] = settled.least.key;
     settled.relaxed
+}
+
+// Makes the entry of a set exact, and raises the others as far as its relaxation says.
+fn settle_set(
+    site: Site,
+    set: usize,
+    timings: &[u32],
+    cost: &[u64],
+    costs: &mut [u64],
+    keys: &mut [u64],
+    exact: &mut [bool],
+)
+    requires { ⌜ SiteReady site (now timings) (now cost) ⌝ }
+    requires { ⌜ SiteRaised site (now timings) (now cost) (now costs) (now keys) (now exact) ⌝ }
+    requires { ⌜ set < 2 ^ site .items ⌝ }
+    ensures { λ _. ⌜ SetSettled site set (now (timings .entry)) (now (cost .entry)) (now (costs .exit)) (now (keys .exit))
+        (now (exact .entry)) (now (exact .exit)) ⌝ }
+{
+    let relaxed = raise_entry(site, set, timings, cost, costs, keys);
+    exact[set] = true;
+    if relaxed.budget == 0 {
+        return;
+    }
+    lift_all(site.items, relaxed, costs, keys);
 }
 
 // Makes the entries of the sets that the cores of a found plan run exact, and answers how many were not.
@@ -95,8 +123,7 @@ fn raise_sets(
         let set = core_set(site.items, site.levels, core, found.key);
         core += 1;
         if !exact[set] {
-            raise_entry(site, set, timings, cost, costs, keys);
-            exact[set] = true;
+            settle_set(site, set, timings, cost, costs, keys, exact);
             raised += 1;
         }
     }

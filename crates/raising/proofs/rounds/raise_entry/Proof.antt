@@ -30,14 +30,16 @@ same-length-2 c = search needs
 
 returns : tie.Need-returns
 returns c =
-    let least = c .least-in-time in
-    record {
-      newCost = least .result .cost;
-      newKey = least .result .key;
-      least = in-time-least (c .before .before .before .before .before .before .before .args .site) (least .ensures);
-      costs-set = refl;
-      keys-set = refl;
-    }
+    let settled = c .before .least-in-time in (
+      record {
+        newCost = settled .result .least .cost;
+        newKey = settled .result .least .key;
+        least = in-time-least (c .before .before .before .before .before .before .before .before .args .site) (settled .ensures .0);
+        costs-set = refl;
+        keys-set = refl;
+      },
+      settled .ensures .1,
+    )
 
 pub raise-entry-spec : {M : Type 1} → statement M
 raise-entry-spec =

@@ -1,12 +1,11 @@
 -- `raise_sets` reads each core's set off the key, and raises its entry where that is not exact yet.
 use Prim.Native.Nat.{_-_, _≤_}
 use mathlib.Core.Path.{_≡_, refl, _∙_}
-use mathlib.Core.Bool.{true}
 use native.Mathlib.Omega.{arith}
 use borrow.Author.Needs.{needs}
 use borrow.Author.Tests.{not-true, not-false}
-use lib.ListN.{length, length-set}
-use Rattle.raising.specs.SiteLaws.{lower-for-sets, nothing-raised, next-set-below, next-flag-held, set-was-exact, set-made-exact}
+use lib.ListN.{length}
+use Rattle.raising.specs.SiteLaws.{nothing-raised, next-set-below, next-flag-held, set-was-exact, set-made-exact}
 use Rattle.raising.specs.TimedSites.{SetsRaised}
 use Rattle.raising.proofs.rounds.raise_sets.Statement.{statement}
 use Rattle.raising.proofs.rounds.raise_sets.Tie as tie
@@ -37,33 +36,28 @@ add-core c =
 slice-read-if2 : tie.Need-slice-read-if2 Inv-loop μ-loop
 slice-read-if2 c = next-flag-held (c .before .before .before .before .loop .inv .5) (c .before .core-set .ensures)
 
-raise-entry-requires : tie.Need-raise-entry-requires Inv-loop μ-loop
-raise-entry-requires c κs =
-    let sets = c .before .before .before .before .before .before .before .loop .inv .5 in
-    let start = c .before .before .before .before .before .before .before .before .before .before .before .before .before .before in
-    (start .pre .0, (lower-for-sets (start .pre .0) (sets .table), next-set-below sets (c .before .before .before .before .core-set .ensures)))
-
-slice-write-exact : tie.Need-slice-write-exact Inv-loop μ-loop
-slice-write-exact c =
-    next-flag-held (c .before .before .before .before .before .before .before .before .before .before .before .before .loop .inv .5) (c .before .before .before .before .before .before .before .before .before .core-set .ensures)
+settle-set-requires : tie.Need-settle-set-requires Inv-loop μ-loop
+settle-set-requires c κs =
+    let sets = c .before .before .before .before .before .before .before .before .loop .inv .5 in
+    (c .before .before .before .before .before .before .before .before .before .before .before .before .before .before .before .pre .0, (sets .table, next-set-below sets (c .before .before .before .before .before .core-set .ensures)))
 
 add-raised : tie.Need-add-raised Inv-loop μ-loop
 add-raised c =
-    omega (arith, c .before .before .before .before .before .before .before .before .before .before .before .before .loop .inv, c .before .before .before .before .before .before .before .before .before .before .before .before .before .before .before .before .before .before .before .pre .0 .limits .cores)
+    omega (arith, c .before .before .before .before .before .before .before .before .before .before .before .before .before .before .before .loop .inv, c .before .before .before .before .before .before .before .before .before .before .before .before .before .before .before .before .before .before .before .before .before .before .pre .0 .limits .cores)
 
 loop-less : tie.Need-loop-less Inv-loop μ-loop
 loop-less c = search needs
 
 loop-again : tie.Need-loop-again Inv-loop μ-loop
 loop-again c =
-    let at = c .before .before .before .before .before .before .before .before .before .before .before .before .loop in
-    let kept = c .before .before .before .before .raise-entry .kept .1 .1 .1 .1 in (
+    let at = c .before .before .before .before .before .before .before .before .before .before .before .before .before .before .before .loop in
+    let kept = c .before .before .before .before .before .before .settle-set .kept .1 .1 .1 .1 in (
       kept .0 ∙ at .inv .0,
       kept .1 .0 ∙ at .inv .1,
-      length-set (at .exact) (c .before .before .before .before .before .before .before .before .before .core-set .result) true ∙ at .inv .2,
+      kept .1 .1 .0 ∙ at .inv .2,
       omega arith,
       omega arith,
-      set-made-exact (at .inv .5) (c .before .before .before .before .before .before .before .before .before .core-set .ensures) (c .before .before .before .before .before .before .before .before .before .before .before .before .before .before .before .before .before .before .before .pre .0) (not-true _ (c .before .before .before .before .before .before .before .if2 .taken)) (c .before .before .before .before .raise-entry .ensures),
+      set-made-exact (at .inv .5) (c .before .before .before .before .before .before .before .before .before .before .before .before .core-set .ensures) (not-true _ (c .before .before .before .before .before .before .before .before .before .before .if2 .taken)) (c .before .before .before .before .before .before .settle-set .ensures),
     )
 
 loop-less-2 : tie.Need-loop-less-2 Inv-loop μ-loop
@@ -105,8 +99,7 @@ raise-sets-spec =
     core-set-requires
     add-core
     slice-read-if2
-    raise-entry-requires
-    slice-write-exact
+    settle-set-requires
     add-raised
     loop-less
     loop-again
