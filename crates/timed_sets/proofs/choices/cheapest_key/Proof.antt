@@ -19,52 +19,42 @@ Inv-loop timed set timings cost prices key₀ i₀ key i = (i ≤ timed .items) 
 abbrev μ-loop : tie.MeasureT-loop
 μ-loop timed set timings cost prices key₀ i₀ key i = timed .items - i
 
--- src/multipliers.rt:118:5
 loop-holds : tie.Need-loop-holds Inv-loop μ-loop
 loop-holds c = (omega arith, power-above-0 0)
 
--- src/multipliers.rt:119:15
 mul-key : tie.Need-mul-key Inv-loop μ-loop
 unfolding keyBase
 mul-key c =
     let pre = c .before .before .before .before .before .pre in
     omega (arith, key-fits _ 0 _ (c .before .before .loop .inv .1) (omega (arith, c .if1 .taken, pre .0 .timed-items .few-items)) (omega arith))
 
--- src/multipliers.rt:119:61
 mul-choice-in-set : tie.Need-mul-choice-in-set Inv-loop μ-loop
 mul-choice-in-set c = search needs
 
--- src/multipliers.rt:119:61
 array-read-choice-in-set : tie.Need-array-read-choice-in-set Inv-loop μ-loop
 array-read-choice-in-set c =
     let pre = c .before .before .before .before .before .pre in omega (arith, c .if1 .taken, pre .0 .timed-items .few-items, pre .1 .places)
 
--- src/multipliers.rt:119:32
 choice-in-set-requires : tie.Need-choice-in-set-requires Inv-loop μ-loop
 choice-in-set-requires c κs = let pre = c .before .before .before .before .before .pre in (pre .0, (c .if1 .taken, pre .1 .low _))
 
--- src/multipliers.rt:119:15
 add-key : tie.Need-add-key Inv-loop μ-loop
 unfolding keyBase
 add-key c =
     let pre = c .before .before .before .before .before .before .pre in
     omega (arith, key-fits _ (c .choice-in-set .result) _ (c .before .before .before .loop .inv .1) (omega (arith, c .before .if1 .taken, pre .0 .timed-items .few-items)) (omega (arith, c .choice-in-set .ensures)))
 
--- src/multipliers.rt:120:9
 add-i : tie.Need-add-i Inv-loop μ-loop
 add-i c = search needs
 
--- src/multipliers.rt:118:5
 loop-less : tie.Need-loop-less Inv-loop μ-loop
 loop-less c = search needs
 
--- src/multipliers.rt:118:5
 loop-again : tie.Need-loop-again Inv-loop μ-loop
 unfolding keyBase
 loop-again c =
     (omega (arith, c .before .if1 .taken), key-grows _ _ _ (c .before .before .before .loop .inv .1) (omega (arith, c .choice-in-set .ensures)))
 
--- src/multipliers.rt:105:1
 returns : tie.Need-returns Inv-loop μ-loop
 returns c =
     let inv = c .before .before .loop .inv in

@@ -17,47 +17,37 @@ Inv-loop timed set timings cost prices ticks₀ i₀ ticks i = (i ≤ timed .ite
 abbrev μ-loop : tie.MeasureT-loop
 μ-loop timed set timings cost prices ticks₀ i₀ ticks i = timed .items - i
 
--- src/multipliers.rt:97:5
 loop-holds : tie.Need-loop-holds Inv-loop μ-loop
 loop-holds c = (omega arith, refl)
 
--- src/multipliers.rt:98:48
 mul-ticks-in-set : tie.Need-mul-ticks-in-set Inv-loop μ-loop
 mul-ticks-in-set c = search needs
 
--- src/multipliers.rt:98:48
 array-read-ticks-in-set : tie.Need-array-read-ticks-in-set Inv-loop μ-loop
 array-read-ticks-in-set c =
     let pre = c .before .before .before .before .before .pre in omega (arith, c .if1 .taken, pre .0 .timed-items .few-items, pre .1 .places)
 
--- src/multipliers.rt:98:20
 ticks-in-set-requires : tie.Need-ticks-in-set-requires Inv-loop μ-loop
 ticks-in-set-requires c κs = let pre = c .before .before .before .before .before .pre in (pre .0, (c .if1 .taken, pre .1 .low _))
 
--- src/multipliers.rt:98:9
 mul-ticks : tie.Need-mul-ticks Inv-loop μ-loop
 mul-ticks c = search needs
 
--- src/multipliers.rt:98:9
 array-write-ticks : tie.Need-array-write-ticks Inv-loop μ-loop
 array-write-ticks c =
     let pre = c .before .before .before .before .before .before .pre in omega (arith, c .before .if1 .taken, pre .0 .timed-items .few-items, c .before .before .before .loop .inv .1)
 
--- src/multipliers.rt:99:9
 add-i : tie.Need-add-i Inv-loop μ-loop
 add-i c = search needs
 
--- src/multipliers.rt:97:5
 loop-less : tie.Need-loop-less Inv-loop μ-loop
 loop-less c = search needs
 
--- src/multipliers.rt:97:5
 loop-again : tie.Need-loop-again Inv-loop μ-loop
 loop-again c =
     let loop = c .before .before .before .loop in
     (omega (arith, c .before .if1 .taken), length-set (loop .ticks) (loop .i) (c .ticks-in-set .result) ∙ loop .inv .1)
 
--- src/multipliers.rt:84:1
 returns : tie.Need-returns Inv-loop μ-loop
 returns c = c .before .before .loop .inv .1
 

@@ -16,47 +16,36 @@ Inv-loop items ticks jobs due₀ i₀ due i = (i ≤ items) × (due ≤ i * (mos
 abbrev μ-loop : tie.MeasureT-loop
 μ-loop items ticks jobs due₀ i₀ due i = items - i
 
--- src/multipliers.rt:53:5
 loop-holds : tie.Need-loop-holds Inv-loop μ-loop
 loop-holds c = search needs
 
--- src/multipliers.rt:54:30
 mul-ticks-of-jobs : tie.Need-mul-ticks-of-jobs Inv-loop μ-loop
 mul-ticks-of-jobs c = search needs
 
--- src/multipliers.rt:54:30
 array-read-ticks-of-jobs : tie.Need-array-read-ticks-of-jobs Inv-loop μ-loop
 array-read-ticks-of-jobs c = search needs
 
--- src/multipliers.rt:54:40
 mul-ticks-of-jobs-2 : tie.Need-mul-ticks-of-jobs-2 Inv-loop μ-loop
 mul-ticks-of-jobs-2 c = search needs
 
--- src/multipliers.rt:54:40
 array-read-ticks-of-jobs-2 : tie.Need-array-read-ticks-of-jobs-2 Inv-loop μ-loop
 array-read-ticks-of-jobs-2 c = search needs
 
--- src/multipliers.rt:54:16
 ticks-of-jobs-requires : tie.Need-ticks-of-jobs-requires Inv-loop μ-loop
 ticks-of-jobs-requires c κs = c .before .before .pre .1 .1 .few _
 
--- src/multipliers.rt:54:9
 add-due : tie.Need-add-due Inv-loop μ-loop
 add-due c = search needs
 
--- src/multipliers.rt:55:9
 add-i : tie.Need-add-i Inv-loop μ-loop
 add-i c = search needs
 
--- src/multipliers.rt:53:5
 loop-less : tie.Need-loop-less Inv-loop μ-loop
 loop-less c = search needs
 
--- src/multipliers.rt:53:5
 loop-again : tie.Need-loop-again Inv-loop μ-loop
 loop-again c = search needs
 
--- src/multipliers.rt:46:1
 returns : tie.Need-returns Inv-loop μ-loop
 returns c = search needs
 

@@ -10,12 +10,10 @@ use Rattle.timed_sets.proofs.weights.ticks_of_jobs.Tie as tie
 use Rattle.timed_sets.proofs.weights.ticks_of_jobs.Reads as reads
 use Rattle.timed_sets.proofs.weights.ticks_of_jobs.Lts as lts
 
--- src/multipliers.rt:42:5
 mul-result : tie.Need-mul-result
 mul-result c =
     let low : c .args .ticks ≤ mostWord = omega arith in record { fits = omega (arith, mul-le-mul low (c .pre)) }
 
--- src/multipliers.rt:38:1
 returns : tie.Need-returns
 returns c = let low : c .args .ticks ≤ mostWord = omega arith in mul-le-mul low (c .pre)
 
