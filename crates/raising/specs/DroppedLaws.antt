@@ -1,21 +1,17 @@
 -- Entries of sets that no pattern serves may be none.
-use Prim.Native.Nat.{ℕ, _^_, _≤_, _<_}
-use mathlib.Core.Bool.{Bool, true, false}
+use Prim.Native.Nat.{ℕ, _≤_, _<_}
+use mathlib.Core.Bool.{Bool}
 use mathlib.Core.List.{List}
 use mathlib.Core.Logic.{_⊎_, inl, inr, _≢_}
-use mathlib.Core.Path.{_≡_, refl, sym, ap, _∙_}
+use mathlib.Core.Path.{_≡_, refl, ap, _∙_}
 use native.Mathlib.Omega.{arith}
 use lib.ListN.{length, getD, set, length-set}
 use lib.Seq.{getD-set-same, getD-set-other}
 use Rattle.laws.specs.Truth.{false-not-true}
 use Rattle.assignment.specs.CoreTables.{Admitted, patternWorth, Keyed}
-use Rattle.assignment.specs.Limits.{mostCoreCost}
 use Rattle.assignment.specs.Sets.{setNumber, tableAt}
 use Rattle.assignment.specs.Values.{Value, none, AtMost, Least}
 use Rattle.assignment.specs.Words.{noCost, valueOf, words-none}
-use Rattle.core_tables.specs.AwakeCores.{surplus}
-use Rattle.core_tables.specs.SetSizes.{itemsIn}
-use Rattle.partition.specs.Tables.{SmallTable}
 use Rattle.timed_sets.specs.TickColumns.{NoneServes}
 use Rattle.timed_sets.specs.TimedCores.{timedOptions}
 use Rattle.timed_sets.specs.declared.Timed.{Timed}

@@ -1,9 +1,9 @@
 -- Entries that are lifted to a bound of every admitted pattern stay nowhere above the least values.
-use Prim.Native.Nat.{ℕ, suc, _+_, _*_, _^_, _≤_, _<_}
+use Prim.Native.Nat.{ℕ, suc, _+_, _^_, _≤_, _<_}
 use mathlib.Core.Bool.{Bool, true, false}
 use mathlib.Core.List.{List, [], _∷_}
 use mathlib.Core.Logic.{_⊎_, inl, inr}
-use mathlib.Core.Path.{_≡_, refl, sym, ap, ap₂, _∙_}
+use mathlib.Core.Path.{_≡_, refl, ap₂}
 use native.Mathlib.Nat.{mul-le-mul-right}
 use native.Mathlib.Omega.{arith}
 use lib.ListN.{length, getD}
@@ -16,7 +16,7 @@ use Rattle.assignment.specs.Keys.{keyBase, planKey, weight}
 use Rattle.assignment.specs.Limits.{mostCoreCost}
 use Rattle.assignment.specs.SetLaws.{setNumber-below, numbered}
 use Rattle.assignment.specs.Sets.{setNumber, tableAt}
-use Rattle.assignment.specs.Values.{Value, pair, AtMost, cheaper, tied, Least}
+use Rattle.assignment.specs.Values.{pair, AtMost, cheaper, tied, Least}
 use Rattle.assignment.specs.Words.{noCost, valueOf, words-pair}
 use Rattle.core_tables.specs.AwakeCores.{surplus}
 use Rattle.core_tables.specs.SetSizes.{itemsIn}

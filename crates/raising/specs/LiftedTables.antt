@@ -3,7 +3,7 @@
 use Prim.Native.Nat.{ℕ, _+_, _^_, _≤_, _<_}
 use mathlib.Core.Bool.{Bool}
 use mathlib.Core.List.{List}
-use mathlib.Core.Logic.{_⊎_, _≢_}
+use mathlib.Core.Logic.{_⊎_}
 use mathlib.Core.Path.{_≡_}
 use lib.ListN.{length, getD}
 use Rattle.assignment.specs.Keys.{weight}
@@ -44,12 +44,6 @@ pub data LiftedTo (sum least budget cost key newCost newKey : ℕ) : Type 0 wher
       LiftedTo sum least budget cost key newCost newKey
   lifted : cost + budget < sum → sum ≤ mostCoreCost + budget → newCost + budget ≡ sum → newKey ≡ least →
       LiftedTo sum least budget cost key newCost newKey
-
--- entry x was lifted
-pub record EntryLifted (x sum least budget : ℕ) (costs₀ keys₀ costs keys : List ℕ) : Type 0 where
-  pub entry : LiftedTo sum least budget (getD costs₀ x 0) (getD keys₀ x 0) (getD costs x 0) (getD keys x 0)
-  pub other-costs : (y : ℕ) → y ≢ x → getD costs y 0 ≡ getD costs₀ y 0
-  pub other-keys : (y : ℕ) → y ≢ x → getD keys y 0 ≡ getD keys₀ y 0
 
 pub record LiftReady (n : ℕ) (relaxed : Lagrangian) (costs keys : List ℕ) : Type 0 where
   pub few-items : n ≤ mostItems

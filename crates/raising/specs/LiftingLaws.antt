@@ -1,24 +1,23 @@
 -- The sums of all sets, item after item, and the entries that are lifted, set after set.
-use Prim.Native.Nat.{ℕ, zero, suc, _+_, _-_, _*_, _^_, _≤_, _<_}
+use Prim.Native.Nat.{ℕ, suc, _+_, _-_, _*_, _^_, _≤_, _<_}
 use mathlib.Core.Bool.{Bool, true, false}
 use mathlib.Core.List.{List, [], _∷_}
 use mathlib.Core.Logic.{_⊎_, inl, inr, _≢_}
 use mathlib.Core.Path.{_≡_, refl, sym, ap, _∙_}
-use native.Mathlib.Nat.{eq-or-lt-of-le, pow-zero, pow-suc, zero-add}
+use native.Mathlib.Nat.{eq-or-lt-of-le, pow-suc, zero-add}
 use native.Mathlib.Omega.{arith}
 use borrow.Author.Count.{below-more}
 use lib.ListN.{length, getD, set, length-set}
 use lib.Pow.{pow-mono}
 use lib.Seq.{getD-set-same, getD-set-other}
 use Rattle.assignment.specs.Keys.{weight}
-use Rattle.assignment.specs.Limits.{mostCoreCost, mostItems}
+use Rattle.assignment.specs.Limits.{mostItems}
 use Rattle.assignment.specs.SetLaws.{setNumber-below, numbered}
 use Rattle.assignment.specs.Sets.{setNumber}
 use Rattle.partition.specs.Moves.{WeightsBelow}
 use Rattle.timed_sets.specs.Lagrangians.{leastPriced, mostPriced}
 use Rattle.timed_sets.specs.declared.Lagrangian.{Lagrangian}
-use Rattle.raising.specs.LiftedTables.{AddedBelow, RoomToAdd, SumsReady, NumberedBy, LiftedTo, stays, lifted, EntryLifted, LiftReady, LiftedBelow}
-use Rattle.raising.specs.RaisedTables.{same-or-other}
+use Rattle.raising.specs.LiftedTables.{AddedBelow, RoomToAdd, SumsReady, NumberedBy, LiftedTo, LiftedBelow}
 
 module _ {half amount : ℕ} {before : List ℕ} where
   pub none-added : AddedBelow half amount 0 before before
@@ -97,20 +96,6 @@ module _ {n : ℕ} {least start : List ℕ} (ready : SumsReady n least start) wh
 
 -- the entries
 
-module _ {x sum key budget : ℕ} {costs keys : List ℕ} where
-  pub entry-stays : (sum ≤ getD costs x 0 + budget) ⊎ (mostCoreCost + budget < sum) → EntryLifted x sum key budget costs keys costs keys
-  entry-stays why = record { entry = stays why refl refl; other-costs = λ y other. refl; other-keys = λ y other. refl }
-
-  pub entry-raised : x < length costs → x < length keys → getD costs x 0 + budget < sum → sum ≤ mostCoreCost + budget →
-      EntryLifted x sum key budget costs keys (set costs x (sum - budget)) (set keys x key)
-  entry-raised in-costs in-keys less fits =
-      let cost = getD-set-same costs x (sum - budget) 0 in-costs in
-      record {
-        entry = lifted less fits (omega (arith, cost)) (getD-set-same keys x key 0 in-keys);
-        other-costs = λ y other. getD-set-other costs x y (sum - budget) 0 other;
-        other-keys = λ y other. getD-set-other keys x y key 0 other;
-      }
-
 module _ {n : ℕ} {relaxed : Lagrangian} {costs₀ keys₀ : List ℕ} where
   pub none-lifted : LiftedBelow n relaxed 0 costs₀ keys₀ costs₀ keys₀
   none-lifted =
@@ -126,27 +111,29 @@ module _ {n : ℕ} {relaxed : Lagrangian} {costs₀ keys₀ : List ℕ} where
     pub next-cost : getD costs x 0 ≡ getD costs₀ x 0
     next-cost = so-far .from-costs x (omega arith)
 
-    pub one-lifted : {sums weights costs' keys' : List ℕ} → x < 2 ^ n → NumberedBy n (leastPriced (relaxed .least) 0) sums →
-        WeightsBelow n (2 ^ n) weights → EntryLifted x (getD sums x 0) (getD weights x 0) (relaxed .budget) costs keys costs' keys' →
-        length costs' ≡ length costs → length keys' ≡ length keys → LiftedBelow n relaxed (x + 1) costs₀ keys₀ costs' keys'
-    one-lifted {sums} {weights} {costs'} {keys'} under summed weighed here costs-same keys-same =
+    pub one-lifted : {sums weights : List ℕ} {cost key : ℕ} → x < 2 ^ n → x < length costs → x < length keys →
+        NumberedBy n (leastPriced (relaxed .least) 0) sums → WeightsBelow n (2 ^ n) weights →
+        LiftedTo (getD sums x 0) (getD weights x 0) (relaxed .budget) (getD costs x 0) (getD keys x 0) cost key →
+        LiftedBelow n relaxed (x + 1) costs₀ keys₀ (set costs x cost) (set keys x key)
+    one-lifted {cost = cost} {key = key} under in-costs in-keys summed weighed here =
         record {
-          costs-places = costs-same ∙ so-far .costs-places;
-          keys-places = keys-same ∙ so-far .keys-places;
+          costs-places = length-set costs x cost ∙ so-far .costs-places;
+          keys-places = length-set keys x key ∙ so-far .keys-places;
           below = λ S of-items h. at S of-items (eq-or-lt-of-le h);
-          from-costs = λ y h. here .other-costs y (λ same. omega arith) ∙ so-far .from-costs y (omega arith);
-          from-keys = λ y h. here .other-keys y (λ same. omega arith) ∙ so-far .from-keys y (omega arith);
+          from-costs = λ y h. getD-set-other costs x y cost 0 (λ same. omega arith) ∙ so-far .from-costs y (omega arith);
+          from-keys = λ y h. getD-set-other keys x y key 0 (λ same. omega arith) ∙ so-far .from-keys y (omega arith);
         }
       where
         at : (S : List Bool) → length S ≡ n → (suc (setNumber n S) ≡ x + 1) ⊎ (suc (setNumber n S) < x + 1) →
             LiftedTo (leastPriced (relaxed .least) 0 S) (weight S) (relaxed .budget) (getD costs₀ (setNumber n S) 0)
-            (getD keys₀ (setNumber n S) 0) (getD costs' (setNumber n S) 0) (getD keys' (setNumber n S) 0)
+            (getD keys₀ (setNumber n S) 0) (getD (set costs x cost) (setNumber n S) 0) (getD (set keys x key) (setNumber n S) 0)
         at S of-items (inl e) =
             let this : setNumber n S ≡ x = omega arith in
             let sum = rw this at (summed .at S of-items) in
-            let key = rw this at (weighed .at S of-items (omega arith)) in
-            let entry = rw (sum, key, so-far .from-costs x (omega arith), so-far .from-keys x (omega arith)) at (here .entry) in
-            rw this entry
+            let least = rw this at (weighed .at S of-items (omega arith)) in
+            rw (this, getD-set-same costs x cost 0 in-costs, getD-set-same keys x key 0 in-keys)
+            (rw (sum, least, so-far .from-costs x (omega arith), so-far .from-keys x (omega arith)) at here)
         at S of-items (inr earlier) =
             let other : setNumber n S ≢ x = λ same. omega arith in
-            rw (here .other-costs (setNumber n S) other, here .other-keys (setNumber n S) other) (so-far .below S of-items (omega arith))
+            rw (getD-set-other costs x (setNumber n S) cost 0 other, getD-set-other keys x (setNumber n S) key 0 other)
+            (so-far .below S of-items (omega arith))

@@ -8,13 +8,14 @@ use values::MOST_COST;
 use values::MOST_ITEMS;
 use values::MOST_SETS;
 use values::NO_COST;
+use values::Worth;
 use values::sets_of;
 ghost use Prim.Native.Nat.{_^_, _≤_, _<_};
-ghost use lib.ListN.{length, getD};
+ghost use lib.ListN.{length};
 ghost use Rattle.assignment.specs.Words.{noCost};
 ghost use Rattle.timed_sets.specs.Lagrangians.{leastPriced, mostBudget};
 ghost use Rattle.timed_sets.specs.Nodes.{TimedItems};
-ghost use Rattle.raising.specs.LiftedTables.{AddedBelow, RoomToAdd, SumsReady, NumberedBy, EntryLifted, LiftReady, LiftedBelow, Dropped};
+ghost use Rattle.raising.specs.LiftedTables.{AddedBelow, RoomToAdd, SumsReady, NumberedBy, LiftedTo, LiftReady, LiftedBelow, Dropped};
 ghost use Rattle.raising.specs.TimedSites.{timedOf};
 
 // Of a core.
@@ -46,19 +47,21 @@ fn fill_sums(items: usize, least: [u64; MOST_ITEMS], sums: &mut [u64])
     }
 }
 
-// Raises the entry of a set to the sum less the budget, where that is more and not too much for a core, with the least key of its set.
-fn lift_entry(set: usize, sum: u64, key: u64, budget: u64, costs: &mut [u64], keys: &mut [u64])
-    requires { ⌜ (set < length (now costs)) × (set < length (now keys)) × (getD (now costs) set 0 ≤ noCost) × (budget ≤ mostBudget) ⌝ }
-    ensures { λ _. ⌜ EntryLifted set sum key budget (now (costs .entry)) (now (keys .entry)) (now (costs .exit)) (now (keys .exit)) ⌝ }
+// The sum less the budget with the least key of a set, where that is more than the old value and not too much for a core.
+fn lifted(old: Worth, sum: u64, key: u64, budget: u64) -> Worth
+    requires { ⌜ (old .cost ≤ noCost) × (budget ≤ mostBudget) ⌝ }
+    ensures { λ r. ⌜ LiftedTo sum key budget (old .cost) (old .key) (r .cost) (r .key) ⌝ }
 {
-    if sum <= costs[set] + budget {
-        return;
+    if sum <= old.cost + budget {
+        return old;
     }
     if MOST_CORE_COST < sum - budget {
-        return;
+        return old;
     }
-    costs[set] = sum - budget;
-    keys[set] = key;
+    Worth {
+        cost: sum - budget,
+        key: key,
+    }
 }
 
 // Raises each set's entry to the Lagrangian's bound where that is higher, with the least key that a pattern of the set can have.
@@ -74,7 +77,13 @@ pub(crate) fn lift_all(items: usize, relaxed: Lagrangian, costs: &mut [u64], key
     let all = sets_of(items);
     let mut x = 0;
     while x < all {
-        lift_entry(x, sums[x], weights[x], relaxed.budget, costs, keys);
+        let old = Worth {
+            cost: costs[x],
+            key: keys[x],
+        };
+        let new = lifted(old, sums[x], weights[x], relaxed.budget);
+        costs[x] = new.cost;
+        keys[x] = new.key;
         x += 1;
     }
 }

@@ -1,12 +1,11 @@
 -- Where the items of a set cannot be served at their fewest ticks, no pattern of the set is admitted.
 use Prim.Native.Nat.{ℕ, zero, suc, _+_, _-_, _*_, _/_, _%_, _^_, _≤_, _<_}
 use mathlib.Core.Bool.{Bool, true, false, cond}
-use mathlib.Core.List.{List, [], _∷_}
+use mathlib.Core.List.{List, _∷_}
 use mathlib.Core.Path.{_≡_, refl, sym, ap, _∙_}
 use native.Mathlib.Nat.{div-eq-of-lt, le-refl, le-trans, mul-add-div-right, zero-add, pow-suc}
 use native.Mathlib.Omega.{arith}
 use borrow.Author.Count.{below-more}
-use borrow.Author.Tests.{eqb-false}
 use lib.Dec.{eqb}
 use lib.ListN.{length, getD, set, replicate, length-set}
 use lib.Pow.{pow-add, pow-pos}
@@ -23,7 +22,7 @@ use Rattle.timed_sets.specs.AdmittedLaws.{counted}
 use Rattle.timed_sets.specs.BoundLaws.{fewer-ticks-meet}
 use Rattle.timed_sets.specs.DemandBounds.{SameTasks, same-tasks-meet}
 use Rattle.timed_sets.specs.Nodes.{TimedItems, timedCore}
-use Rattle.timed_sets.specs.PatternLaws.{no-entry, timing-of}
+use Rattle.timed_sets.specs.PatternLaws.{timing-of}
 use Rattle.timed_sets.specs.TickColumns.{columnJobs, FewestTicks, inSet, FewestColumn, NoneServes}
 use Rattle.timed_sets.specs.TimedCores.{entryTicks, patternTasks, timingAt, timingIn, timingsOf, timingWidth}
 use Rattle.timed_sets.specs.declared.Timed.{Timed}

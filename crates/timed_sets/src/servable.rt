@@ -6,7 +6,7 @@ use values::MOST_ITEMS;
 use values::sets_of;
 ghost use mathlib.Core.Bool.{false};
 ghost use mathlib.Core.Path.{_≡_};
-ghost use Prim.Native.Nat.{_+_, _*_, _^_, _≤_, _<_};
+ghost use Prim.Native.Nat.{_+_, _*_, _≤_, _<_};
 ghost use lib.ListN.{length};
 ghost use Rattle.assignment.specs.Limits.{mostItems, mostLevels};
 ghost use Rattle.timed_sets.specs.Nodes.{TimedItems};

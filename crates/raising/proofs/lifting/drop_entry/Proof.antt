@@ -1,8 +1,5 @@
-use Prim.Native.Nat.{ℕ, zero, suc, _+_, _-_, _*_, _≤_, _<_}
-use mathlib.Core.Path.{_≡_, refl, sym, _∙_}
-use native.Mathlib.Omega.{arith}
+-- `drop_entry` stores no cost only where `is_servable` says no.
 use borrow.Author.Needs.{needs}
-use lib.ListN.{length, getD}
 use borrow.Author.Needs.{needs}
 use Rattle.raising.specs.DroppedLaws.{none-dropped, one-dropped}
 use Rattle.raising.proofs.lifting.drop_entry.Statement.{statement}

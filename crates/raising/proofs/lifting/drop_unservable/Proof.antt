@@ -1,8 +1,9 @@
-use Prim.Native.Nat.{ℕ, zero, suc, _+_, _-_, _*_, _≤_, _<_}
-use mathlib.Core.Path.{_≡_, refl, sym, _∙_}
+-- `drop_unservable` drops one set after the other.
+use Prim.Native.Nat.{_-_}
+use mathlib.Core.Path.{_≡_, refl, _∙_}
 use native.Mathlib.Omega.{arith}
 use borrow.Author.Needs.{needs}
-use lib.ListN.{length, getD}
+use lib.ListN.{length}
 use Rattle.raising.specs.DroppedLaws.{none-dropped, dropped-after}
 use Rattle.raising.specs.LiftedTables.{Dropped}
 use Rattle.raising.proofs.lifting.drop_unservable.Statement.{statement}

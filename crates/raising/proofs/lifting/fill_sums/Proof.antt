@@ -1,8 +1,9 @@
-use Prim.Native.Nat.{ℕ, zero, suc, _+_, _-_, _*_, _^_, _≤_, _<_}
-use mathlib.Core.Path.{_≡_, refl, sym, _∙_}
+-- `fill_sums` adds one item after the other, from the last on.
+use Prim.Native.Nat.{suc, _-_, _^_, _≤_}
+use mathlib.Core.Path.{_≡_, refl, _∙_}
 use native.Mathlib.Omega.{arith}
 use borrow.Author.Needs.{needs}
-use lib.ListN.{length, getD}
+use lib.ListN.{length}
 use Rattle.raising.specs.LiftingLaws.{no-item-yet, room-for-item, one-item-more}
 use Rattle.raising.specs.LiftedTables.{NumberedBy}
 use Rattle.timed_sets.specs.Lagrangians.{leastPriced}

@@ -1,8 +1,9 @@
-use Prim.Native.Nat.{ℕ, zero, suc, _+_, _-_, _^_, _≤_, _<_}
-use mathlib.Core.Path.{_≡_, refl, sym, _∙_}
+-- `lift_all` lifts the entry of one set after the other.
+use Prim.Native.Nat.{_-_, _^_, _≤_, _<_}
+use mathlib.Core.Path.{_≡_, refl, _∙_}
 use native.Mathlib.Omega.{arith}
 use borrow.Author.Needs.{needs}
-use lib.ListN.{length, getD}
+use lib.ListN.{length, length-set}
 use lib.Pow.{pow-mono}
 use Rattle.raising.specs.LiftedTables.{LiftedBelow}
 use Rattle.raising.specs.LiftingLaws.{none-lifted, next-cost, one-lifted}
@@ -37,47 +38,76 @@ sets-of-requires c κs = c .before .before .before .before .before .before .befo
 loop-holds : tie.Need-loop-holds Inv-loop μ-loop
 loop-holds c = (refl, refl, omega arith, none-lifted)
 
+-- the number of the next set is one of all sets, and stands in both slices
+
+under : (c : tie.In-loop Inv-loop μ-loop) → c .before .loop .x < 2 ^ c .before .before .before .before .before .before .before .before .before .before .before .before .args .items
+under c = omega (arith, c .before .before .sets-of .ensures)
+
 room : (c : tie.In-loop Inv-loop μ-loop) → 2 ^ c .before .before .before .before .before .before .before .before .before .before .before .before .args .items ≤ 4096
 room c = pow-mono (c .before .before .before .before .before .before .before .before .before .before .before .before .pre .few-items)
 
-mul-lift-entry : tie.Need-mul-lift-entry Inv-loop μ-loop
-mul-lift-entry c = search needs
+in-costs : (c : tie.In-loop Inv-loop μ-loop) → c .before .loop .x < length (c .before .loop .costs)
+in-costs c = omega (arith, under c, c .before .loop .inv .0, c .before .before .before .before .before .before .before .before .before .before .before .before .pre .table .costs-for-all)
 
-array-read-lift-entry : tie.Need-array-read-lift-entry Inv-loop μ-loop
-array-read-lift-entry c = omega (arith, room c, c .before .before .sets-of .ensures)
+in-keys : (c : tie.In-loop Inv-loop μ-loop) → c .before .loop .x < length (c .before .loop .keys)
+in-keys c = omega (arith, under c, c .before .loop .inv .1, c .before .before .before .before .before .before .before .before .before .before .before .before .pre .table .keys-for-all)
 
-mul-lift-entry-2 : tie.Need-mul-lift-entry-2 Inv-loop μ-loop
-mul-lift-entry-2 c = search needs
+mul-lifted : tie.Need-mul-lifted Inv-loop μ-loop
+mul-lifted c = search needs
 
-array-read-lift-entry-2 : tie.Need-array-read-lift-entry-2 Inv-loop μ-loop
-array-read-lift-entry-2 c = omega (arith, room c, c .before .before .sets-of .ensures)
+slice-read-lifted : tie.Need-slice-read-lifted Inv-loop μ-loop
+slice-read-lifted c = in-costs (c .before)
 
-lift-entry-requires : tie.Need-lift-entry-requires Inv-loop μ-loop
-lift-entry-requires c κs =
+mul-lifted-2 : tie.Need-mul-lifted-2 Inv-loop μ-loop
+mul-lifted-2 c = search needs
+
+slice-read-lifted-2 : tie.Need-slice-read-lifted-2 Inv-loop μ-loop
+slice-read-lifted-2 c = in-keys (c .before .before)
+
+mul-lifted-3 : tie.Need-mul-lifted-3 Inv-loop μ-loop
+mul-lifted-3 c = search needs
+
+array-read-lifted : tie.Need-array-read-lifted Inv-loop μ-loop
+array-read-lifted c = omega (arith, under (c .before .before), room (c .before .before))
+
+mul-lifted-4 : tie.Need-mul-lifted-4 Inv-loop μ-loop
+mul-lifted-4 c = search needs
+
+array-read-lifted-2 : tie.Need-array-read-lifted-2 Inv-loop μ-loop
+array-read-lifted-2 c = omega (arith, under (c .before .before), room (c .before .before))
+
+lifted-requires : tie.Need-lifted-requires Inv-loop μ-loop
+lifted-requires c κs =
     let at = c .before .before .before .loop in
     let ready = c .before .before .before .before .before .before .before .before .before .before .before .before .before .before .pre in
-    let under : at .x < 2 ^ c .before .before .before .before .before .before .before .before .before .before .before .before .before .before .args .items = omega (arith, c .before .before .before .before .sets-of .ensures) in (
-      omega (arith, at .inv .0, ready .table .costs-for-all),
-      omega (arith, at .inv .1, ready .table .keys-for-all),
-      omega (arith, next-cost (at .inv .3), ready .table .cost-bound (at .x) under),
-      ready .low-budget,
-    )
+    (omega (arith, next-cost (at .inv .3), ready .table .cost-bound (at .x) (under (c .before .before))), ready .low-budget)
+
+mul-costs : tie.Need-mul-costs Inv-loop μ-loop
+mul-costs c = search needs
+
+slice-write-costs : tie.Need-slice-write-costs Inv-loop μ-loop
+slice-write-costs c = in-costs (c .before .before .before)
+
+mul-keys : tie.Need-mul-keys Inv-loop μ-loop
+mul-keys c = search needs
+
+slice-write-keys : tie.Need-slice-write-keys Inv-loop μ-loop
+slice-write-keys c = in-keys (c .before .before .before)
 
 add-x : tie.Need-add-x Inv-loop μ-loop
-add-x c = omega (arith, room (c .before .before .before .before .before .before .before))
+add-x c = omega (arith, under (c .before .before .before), room (c .before .before .before))
 
 loop-less : tie.Need-loop-less Inv-loop μ-loop
-loop-less c = omega (arith, c .before .before .before .before .before .before .before .before .before .sets-of .ensures)
+loop-less c = omega (arith, under (c .before .before .before))
 
 loop-again : tie.Need-loop-again Inv-loop μ-loop
 loop-again c =
-    let at = c .before .before .before .before .before .before .before .before .loop in
-    let kept = c .before .before .before .before .lift-entry .kept .1 .1 .1 .1 in
-    let under : at .x < 2 ^ c .before .before .before .before .before .before .before .before .before .before .before .before .before .before .before .before .before .before .before .args .items = omega (arith, c .before .before .before .before .before .before .before .before .before .sets-of .ensures) in (
-      kept .0 ∙ at .inv .0,
-      kept .1 .0 ∙ at .inv .1,
-      omega arith,
-      one-lifted (at .inv .3) under (c .before .before .before .before .before .before .before .before .before .before .before .before .before .before .fill-sums .ensures) (c .before .before .before .before .before .before .before .before .before .before .before .fill-weights .ensures) (c .before .before .before .before .lift-entry .ensures) (kept .0) (kept .1 .0),
+    let in-loop = c .before .before .before in
+    let at = c .before .before .before .before .loop in (
+      length-set (at .costs) (at .x) _ ∙ at .inv .0,
+      length-set (at .keys) (at .x) _ ∙ at .inv .1,
+      omega (arith, under in-loop),
+      one-lifted (at .inv .3) (under in-loop) (in-costs in-loop) (in-keys in-loop) (c .before .before .before .before .before .before .before .before .before .before .fill-sums .ensures) (c .before .before .before .before .before .before .before .fill-weights .ensures) (c .lifted .ensures),
     )
 
 same-length : tie.Need-same-length Inv-loop μ-loop
@@ -104,11 +134,19 @@ lift-all-spec =
     fill-weights-requires
     sets-of-requires
     loop-holds
-    mul-lift-entry
-    array-read-lift-entry
-    mul-lift-entry-2
-    array-read-lift-entry-2
-    lift-entry-requires
+    mul-lifted
+    slice-read-lifted
+    mul-lifted-2
+    slice-read-lifted-2
+    mul-lifted-3
+    array-read-lifted
+    mul-lifted-4
+    array-read-lifted-2
+    lifted-requires
+    mul-costs
+    slice-write-costs
+    mul-keys
+    slice-write-keys
     add-x
     loop-less
     loop-again

@@ -1,8 +1,5 @@
-use Prim.Native.Nat.{ℕ, zero, suc, _+_, _-_, _*_, _≤_, _<_}
-use mathlib.Core.Path.{_≡_, refl, sym, _∙_}
-use native.Mathlib.Omega.{arith}
+-- `is_admitted` tests the ticks of the node.
 use borrow.Author.Needs.{needs}
-use lib.ListN.{length, getD}
 use borrow.Author.Needs.{needs}
 use Rattle.timed_sets.specs.ColumnLaws.{unmet-tick-admits}
 use Rattle.timed_sets.proofs.columns.is_admitted.Statement.{statement}

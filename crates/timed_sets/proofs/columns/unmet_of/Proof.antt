@@ -1,3 +1,4 @@
+-- `unmet_of` hands the first items' columns to the test.
 use native.Mathlib.Omega.{arith}
 use mathlib.Core.Path.{sym}
 use borrow.Author.Needs.{needs}

@@ -1,8 +1,8 @@
-use Prim.Native.Nat.{ℕ, zero, suc, _+_, _-_, _*_, _≤_, _<_}
-use mathlib.Core.Path.{_≡_, refl, sym, _∙_}
+-- `fewest_column` takes one item after the other.
+use Prim.Native.Nat.{_-_, _≤_}
+use mathlib.Core.Path.{_≡_}
 use native.Mathlib.Omega.{arith}
 use borrow.Author.Needs.{needs}
-use lib.ListN.{length, getD}
 use Rattle.timed_sets.specs.ServableLaws.{no-column-yet, one-item-more}
 use Rattle.timed_sets.specs.TickColumns.{FewestColumn}
 use Rattle.timed_sets.proofs.servable.fewest_column.Statement.{statement}

@@ -1,9 +1,8 @@
-use Prim.Native.Nat.{ℕ, zero, suc, _+_, _-_, _*_, _≤_, _<_}
-use mathlib.Core.Path.{_≡_, refl, sym, _∙_}
+-- `fewest_in_set` reads the item off the set's number.
+use Prim.Native.Nat.{_-_}
 use native.Mathlib.Omega.{arith}
 use borrow.Author.Needs.{needs}
 use lib.Pow.{pow-pos}
-use lib.ListN.{length, getD}
 use borrow.Author.Needs.{needs}
 use Rattle.timed_sets.proofs.servable.fewest_in_set.Statement.{statement}
 use Rattle.timed_sets.proofs.servable.fewest_in_set.Tie as tie

@@ -1,8 +1,7 @@
-use Prim.Native.Nat.{ℕ, zero, suc, _+_, _-_, _*_, _≤_, _<_}
-use mathlib.Core.Path.{_≡_, refl, sym, _∙_}
+-- `fewest_ticks` takes one level after the other.
+use Prim.Native.Nat.{_-_}
 use native.Mathlib.Omega.{arith}
 use borrow.Author.Needs.{needs}
-use lib.ListN.{length, getD}
 use Rattle.timed_sets.specs.ServableLaws.{at-first-level, at-one-level-more}
 use Rattle.timed_sets.specs.TickColumns.{FewestTicks}
 use Rattle.timed_sets.proofs.servable.fewest_ticks.Statement.{statement}

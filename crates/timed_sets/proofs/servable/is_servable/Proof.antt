@@ -1,5 +1,4 @@
-use native.Mathlib.Omega.{arith}
-use borrow.Author.Needs.{needs}
+-- `is_servable` tests no more ticks than any pattern of the set has.
 use Rattle.timed_sets.specs.ServableLaws.{none-serves}
 use Rattle.timed_sets.proofs.servable.is_servable.Statement.{statement}
 use Rattle.timed_sets.proofs.servable.is_servable.Tie as tie
