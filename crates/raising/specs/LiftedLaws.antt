@@ -34,7 +34,7 @@ use Rattle.raising.specs.declared.Site.{Site}
 
 -- level 1 for each item of the set: the pattern with the least key
 
-unfoldable pub ones : List Bool → List ℕ
+unfoldable ones : List Bool → List ℕ
 ones [] = []
 ones (false ∷ S) = 0 ∷ ones S
 ones (true ∷ S) = 1 ∷ ones S

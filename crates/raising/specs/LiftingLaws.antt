@@ -36,7 +36,7 @@ module _ {half amount : ℕ} {before : List ℕ} where
       }
 
 -- the numbers of all sets of one item more
-pub numbered-by-one-more : {n amount : ℕ} {f g : List Bool → ℕ} {before after : List ℕ} → NumberedBy n f before →
+numbered-by-one-more : {n amount : ℕ} {f g : List Bool → ℕ} {before after : List ℕ} → NumberedBy n f before →
     AddedBelow (2 ^ n) amount (2 ^ n) before after → ((S : List Bool) → g (false ∷ S) ≡ f S) →
     ((S : List Bool) → g (true ∷ S) ≡ f S + amount) → NumberedBy (suc n) g after
 unfolding setNumber
@@ -56,7 +56,7 @@ priced-at-most least low from [] = omega arith
 priced-at-most least low from (false ∷ S) = omega (arith, priced-at-most least low (suc from) S)
 priced-at-most least low from (true ∷ S) = omega (arith, low from, priced-at-most least low (suc from) S)
 
-pub sum-at-most : {n : ℕ} (least : List ℕ) (from : ℕ) {sums : List ℕ} → ((i : ℕ) → getD least i 0 ≤ mostPriced) → n ≤ mostItems →
+sum-at-most : {n : ℕ} (least : List ℕ) (from : ℕ) {sums : List ℕ} → ((i : ℕ) → getD least i 0 ≤ mostPriced) → n ≤ mostItems →
     NumberedBy n (leastPriced least from) sums → (x : ℕ) → x < 2 ^ n → getD sums x 0 ≤ mostItems * mostPriced
 sum-at-most {n} least from low few so-far x under =
     let s = numbered n x under in

@@ -18,7 +18,7 @@ ghost use Rattle.timed_sets.specs.Nodes.{TimedItems};
 ghost use Rattle.raising.specs.LiftedTables.{AddedBelow, RoomToAdd, SumsReady, NumberedBy, LiftedTo, LiftReady, LiftedBelow, Dropped};
 ghost use Rattle.raising.specs.TimedSites.{timedOf};
 
-// Of a core.
+// The most that a core may cost.
 const MOST_CORE_COST: u64 = MOST_ITEMS as u64 * MOST_COST;
 
 // From the numbers of all sets without an item, number `half` of the sets, those of the sets with it.

@@ -38,7 +38,7 @@ first-bit-off true n i r l =
     rw divided (omega (arith, pow-suc 2 i))
 
 -- an item that a pattern does not run is not in its set
-pub not-run-not-in-set : {levels : ℕ} (n : ℕ) {S : List Bool} {pattern : List ℕ} → Keeps levels S pattern → length S ≡ n →
+not-run-not-in-set : {levels : ℕ} (n : ℕ) {S : List Bool} {pattern : List ℕ} → Keeps levels S pattern → length S ≡ n →
     (i : ℕ) → i < n → getD pattern i 0 ≡ 0 → inSet n (setNumber n S) i ≡ 0
 unfolding setNumber
 not-run-not-in-set zero keeps of-items i l out = absurd (omega arith)
