@@ -8,6 +8,7 @@ pub mod Lagrangians
 pub mod PriceColumns
 pub mod PricedLevels
 pub mod TickColumns
+pub mod Exceeded
 pub mod NodeLaws
 pub mod AdmittedLaws
 pub mod LagrangianLaws

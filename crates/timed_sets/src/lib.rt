@@ -4,6 +4,7 @@ mod bounds;
 mod choices;
 mod columns;
 mod dual_bound;
+mod exceeded;
 mod given;
 mod least;
 mod multipliers;

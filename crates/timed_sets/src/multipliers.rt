@@ -2,7 +2,7 @@
 // prices stay within their budget; how good the choice is was measured, and nothing is claimed of it.
 use crate::Timed;
 use crate::choices::cheapest_ticks;
-use crate::columns::unmet_of;
+use crate::exceeded::exceeded_tick;
 use crate::prices::Prices;
 use crate::prices::free;
 use crate::prices::jobs_by;
@@ -20,7 +20,7 @@ ghost use Rattle.timed_sets.specs.PriceColumns.{mostTicks};
 const MOST_TICKS: usize = 8;
 
 // How often a tick is added and all weights are fitted.
-const ROUNDS: usize = 12;
+const ROUNDS: usize = 24;
 
 // The ticks that are weighed, and their weights.
 struct Multipliers {
@@ -122,14 +122,14 @@ fn place_for(tick: u32, ticks: [u32; MOST_TICKS]) -> usize
     n
 }
 
-// A tick by which too much is due at the levels that are cheapest at these prices; 0 where there is none.
-fn unmet_at(timed: Timed, set: usize, known: Prices, timings: &[u32], cost: &[u64]) -> u32
+// The tick that is exceeded most at the levels that are cheapest at these prices; 0 where none is.
+fn exceeded_at(timed: Timed, set: usize, known: Prices, timings: &[u32], cost: &[u64]) -> u32
     requires { ⌜ TimedReady timed (now timings) (now cost) ⌝ }
     requires { ⌜ WithinBudget timed (now timings) (known .prices) (known .budget) ⌝ }
 {
     let prices = known.prices;
     let ticks = cheapest_ticks(timed, set, prices, timings, cost);
-    unmet_of(timed, ticks, timings)
+    exceeded_tick(timed, ticks, timings)
 }
 
 // A tick is weighed too, and all weights are fitted anew.
@@ -168,7 +168,7 @@ pub(crate) fn find_prices(timed: Timed, set: usize, timings: &[u32], cost: &[u64
     let mut known = free();
     let mut round = 0;
     while round < ROUNDS {
-        let tick = unmet_at(timed, set, known, timings, cost);
+        let tick = exceeded_at(timed, set, known, timings, cost);
         let ticks = weighed.ticks;
         let place = place_for(tick, ticks);
         if place == MOST_TICKS {

@@ -11,16 +11,16 @@ use Rattle.timed_sets.proofs.multipliers.find_prices.Reads as reads
 use Rattle.timed_sets.proofs.multipliers.find_prices.Lts as lts
 use Rattle.timed_sets.proofs.multipliers.place_for.Reads as place-for-reads
 use Rattle.timed_sets.proofs.multipliers.prices_of.Reads as prices-of-reads
-use Rattle.timed_sets.proofs.multipliers.unmet_at.Reads as unmet-at-reads
+use Rattle.timed_sets.proofs.multipliers.exceeded_at.Reads as exceeded-at-reads
 use Rattle.timed_sets.proofs.multipliers.with_unmet.Reads as with-unmet-reads
 use Rattle.timed_sets.proofs.prices.free.Reads as free-reads
 
 abbrev Inv-loop : tie.InvT-loop
 Inv-loop timed set timings cost weighed₀ known₀ round₀ weighed known round =
-    (round ≤ 12) × WithinBudget timed timings (known .prices) (known .budget) × (length (weighed .ticks) ≡ mostTicks) × (length (weighed .weights) ≡ mostTicks)
+    (round ≤ 24) × WithinBudget timed timings (known .prices) (known .budget) × (length (weighed .ticks) ≡ mostTicks) × (length (weighed .weights) ≡ mostTicks)
 
 abbrev μ-loop : tie.MeasureT-loop
-μ-loop timed set timings cost weighed₀ known₀ round₀ weighed known round = 12 - round
+μ-loop timed set timings cost weighed₀ known₀ round₀ weighed known round = 24 - round
 
 -- src/multipliers.rt:168:9
 free-requires : tie.Need-free-requires Inv-loop μ-loop
@@ -31,8 +31,8 @@ loop-holds : tie.Need-loop-holds Inv-loop μ-loop
 loop-holds c = (omega arith, c .free .ensures _ _, refl, refl)
 
 -- src/multipliers.rt:171:13
-unmet-at-requires : tie.Need-unmet-at-requires Inv-loop μ-loop
-unmet-at-requires c κs = search needs
+exceeded-at-requires : tie.Need-exceeded-at-requires Inv-loop μ-loop
+exceeded-at-requires c κs = search needs
 
 -- src/multipliers.rt:173:13
 place-for-requires : tie.Need-place-for-requires Inv-loop μ-loop
@@ -74,7 +74,7 @@ find-prices-spec =
     μ-loop
     free-requires
     loop-holds
-    unmet-at-requires
+    exceeded-at-requires
     place-for-requires
     returns
     with-unmet-requires
