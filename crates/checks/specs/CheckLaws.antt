@@ -1,8 +1,8 @@
--- What the check's tests for the refusals 9 and 10 say when they accept, and the whole check.
+-- What the tests for the refusals 9 and 10 say when they accept, and the two checks.
 use Prim.Native.Nat.{ℕ, zero, suc, _+_, _*_, _/_, _%_, _<_}
 use mathlib.Core.Bool.{true, false, not}
 use mathlib.Core.List.{List}
-use mathlib.Core.Logic.{_↔_, _⊎_, inl, inr}
+use mathlib.Core.Logic.{_↔_, _⊎_, inl, inr, Iff·trans}
 use mathlib.Core.Path.{_≡_, refl, ap}
 use lib.Arith.{digits-lt, digits-div}
 use lib.Dec.{eqb·suc-zero}
@@ -11,22 +11,19 @@ use borrow.Author.Tests.{eqb-true, eqb-false, eq-eqb, ne-eqb, not-false}
 use Rattle.laws.specs.SearchFacts.{every-iff}
 use Rattle.laws.specs.Truth.{and-is-true, or-is-true}
 use Rattle.instance.specs.Node.{Problem, taskCount, span}
-use Rattle.refusals.specs.declared.Verdict.the-variants.{Accepted}
-use Rattle.checks.specs.Checks.{check, strayValue, straySlot, slotsPass, jobSlots, lateSlots, isServed, jobsPass}
+use Rattle.refusals.specs.Refusals.{_andThen_}
+use Rattle.refusals.specs.declared.Verdict.{Verdict}
+use Rattle.refusals.specs.declared.Verdict.the-variants.{Accepted, Refused}
+use Rattle.checks.specs.NamedSlots.{KeptSlot, NamedSlots}
+use Rattle.checks.specs.Checks.{slotCheck, check, strayValue, straySlot, slotsPass, jobSlots, lateSlots, isServed, jobsPass}
 use Rattle.plan_rules.specs.AllowedPlans.{AllowedPlan}
 use Rattle.tables.specs.Periods.{Periodic, row-of-index, tick-of-index, slot-of-index}
-use Rattle.plan_rules.specs.Quantities.{choiceAt, coreOf, jobs, jobTicks}
+use Rattle.plan_rules.specs.Plans.{choicesPass}
+use Rattle.plan_rules.specs.Quantities.{choiceAt, jobs, jobTicks}
 use Rattle.tables.specs.Tables.{slotAt}
 use Rattle.refusals.specs.VerdictLaws.{andThen-accepts, length-accepts, none-refused}
 use Rattle.plan_rules.specs.AllowedPlanLaws.{choices-pass}
 use Rattle.plan_rules.specs.KeepsLaws.{keeps-iff}
-
--- a slot that names a kept task of core k
-pub record KeptSlot (p : Problem) (plan : List ℕ) (k slot : ℕ) : Type 0 where
-  pub task : ℕ
-  pub its-number : slot ≡ suc task
-  pub kept : choiceAt plan task ≡ 0 → ⊥
-  pub on-its-core : coreOf p plan task ≡ k
 
 module _ (p : Problem) (plan : List ℕ) (k : ℕ) where
   slot-not-stray : (slot : ℕ) → strayValue p plan k slot ≡ false → (slot ≡ 0) ⊎ KeptSlot p plan k slot
@@ -41,12 +38,6 @@ module _ (p : Problem) (plan : List ℕ) (k : ℕ) where
   not-stray-slot slot (inl idle) = rw idle
   not-stray-slot slot (inr r) =
       rw (r .its-number, eqb·suc-zero, keeps-iff p plan k (r .task) .1 (r .kept, r .on-its-core))
-
--- 9: "a table of M × L slots", each 0 or naming a kept task of its core
-pub record NamedSlots (p : Problem) (plan table : List ℕ) : Type 0 where
-  pub table-size : length table ≡ p .cores * span p
-  pub idle-or-kept : (k t : ℕ) → k < p .cores → t < span p →
-      (slotAt p table k t ≡ 0) ⊎ KeptSlot p plan k (slotAt p table k t)
 
 pub slots-pass : (p : Problem) → Periodic p → (plan table : List ℕ) →
     (slotsPass p plan table ≡ Accepted) ↔ NamedSlots p plan table
@@ -99,21 +90,46 @@ jobs-pass p plan table = (
       ap not (task-is-served p plan table i .1 (λ kept j l. served i j h kept l))),
 )
 
--- "The check tests 7, 9 (length before slots), 10, and not 8."
+pub slot-check-accepts : (p : Problem) → Periodic p → (plan table : List ℕ) →
+    (slotCheck p plan table ≡ Accepted) ↔ (AllowedPlan p plan × NamedSlots p plan table)
+unfolding slotCheck
+slot-check-accepts p periodic plan table = (
+  λ e.
+      let both = andThen-accepts _ _ .0 e in
+      (choices-pass p plan .0 (both .0), slots-pass p periodic plan table .0 (both .1)),
+  λ both.
+      andThen-accepts _ _ .1 (choices-pass p plan .1 (both .0), slots-pass p periodic plan table .1 (both .1)),
+)
+
+-- for a plan that 7 lets pass, the first check passes exactly the tables whose slots name the right tasks
+pub slot-check-accepts-exactly-named-slots : (p : Problem) → Periodic p → (plan table : List ℕ) →
+    choicesPass p plan ≡ Accepted → (slotCheck p plan table ≡ Accepted) ↔ NamedSlots p plan table
+slot-check-accepts-exactly-named-slots p periodic plan table passes =
+    Iff·trans (slot-check-accepts p periodic plan table) (λ both. both .1, λ named. (choices-pass p plan .0 passes, named))
+
 pub check-accepts : (p : Problem) → Periodic p → (plan table : List ℕ) →
     (check p plan table ≡ Accepted) ↔ (AllowedPlan p plan × NamedSlots p plan table × ServedJobs p plan table)
 unfolding check
 check-accepts p periodic plan table = (
   λ e.
-      let plan-and-table = andThen-accepts _ _ .0 e in
-      let slots-and-jobs = andThen-accepts _ _ .0 (plan-and-table .1) in (
-        choices-pass p plan .0 (plan-and-table .0),
-        slots-pass p periodic plan table .0 (slots-and-jobs .0),
-        jobs-pass p plan table .0 (slots-and-jobs .1),
-      ),
+      let slots-and-jobs = andThen-accepts _ _ .0 e in
+      let first = slot-check-accepts p periodic plan table .0 (slots-and-jobs .0) in
+      (first .0, first .1, jobs-pass p plan table .0 (slots-and-jobs .1)),
   λ all.
       andThen-accepts _ _ .1 (
-        choices-pass p plan .1 (all .0),
-        andThen-accepts _ _ .1 (slots-pass p periodic plan table .1 (all .1), jobs-pass p plan table .1 (all .2)),
+        slot-check-accepts p periodic plan table .1 (all .0, all .1),
+        jobs-pass p plan table .1 (all .2),
       ),
 )
+
+-- "The check tests 7, 9 (length before slots), 10, and not 8."
+pub check-in-order : (p : Problem) (plan table : List ℕ) →
+    check p plan table ≡ choicesPass p plan andThen slotsPass p plan table andThen jobsPass p plan table
+unfolding check slotCheck
+check-in-order p plan table = go (choicesPass p plan)
+  where
+    go : (choices : Verdict) →
+        (choices andThen slotsPass p plan table) andThen jobsPass p plan table
+        ≡ choices andThen slotsPass p plan table andThen jobsPass p plan table
+    go Accepted = refl
+    go (Refused r) = refl

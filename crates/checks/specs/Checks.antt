@@ -1,4 +1,4 @@
--- The check of a given table: the refusals 9 and 10, after 7 and without 8.
+-- The two checks of a given table: the refusals 9 and 10, after 7 and without 8.
 use Prim.Native.Nat.{ℕ, suc, pred, min, _+_, _-_, _/_}
 use mathlib.Core.Bool.{Bool, cond, not, _&&_, _||_}
 use mathlib.Core.List.{List}
@@ -54,6 +54,11 @@ jobsPass p plan table =
     let i = first (λ i. not (isServed p plan table i)) n in
     cond (ltb i n) (Refused (JobSlots (suc i))) Accepted
 
--- "The check tests 7, 9 (length before slots), 10, and not 8."
+-- (d) "one part tests length and slots (9) .. both test 7 first"
+unfoldable pub slotCheck : Problem → List ℕ → List ℕ → Verdict
+slotCheck p plan table = choicesPass p plan andThen slotsPass p plan table
+
+-- (d) "the other the jobs (10) .. The second repeats the first's tests and so keeps 9 before 10." It is the one that the papers mean
+-- by "the check".
 unfoldable pub check : Problem → List ℕ → List ℕ → Verdict
-check p plan table = choicesPass p plan andThen slotsPass p plan table andThen jobsPass p plan table
+check p plan table = slotCheck p plan table andThen jobsPass p plan table

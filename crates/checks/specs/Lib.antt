@@ -1,4 +1,5 @@
 pub mod Checks
+pub mod NamedSlots
 pub mod CheckLaws
 pub mod Outcomes
 pub mod RefusalLaws

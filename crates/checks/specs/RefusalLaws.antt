@@ -8,7 +8,7 @@ use Rattle.laws.specs.Search.{first}
 use Rattle.instance.specs.Node.{Problem, taskCount}
 use Rattle.refusals.specs.RefusalNumbers.{RefusesOnly, andThen-refuses, refuses-if, fails-at}
 use Rattle.refusals.specs.declared.Refusal.the-variants.{GivenTable, JobSlots}
-use Rattle.checks.specs.Checks.{straySlot, slotsPass, jobsPass, check}
+use Rattle.checks.specs.Checks.{straySlot, slotsPass, jobsPass, slotCheck, check}
 use Rattle.tables.specs.Tables.{tableSize}
 use Rattle.plan_rules.specs.RefusalLaws.{choices-refuse-7}
 
@@ -21,6 +21,10 @@ module _ (p : Problem) (plan table : List ℕ) where
   unfolding jobsPass
   jobs-refuse-10 = refuses-if (JobSlots _) (List·Memᴰ·head refl) (ltb (first _ (taskCount p)) _)
 
+  pub slot-check-refuses-7-9 : RefusesOnly (7 ∷ 9 ∷ []) (slotCheck p plan table)
+  unfolding slotCheck
+  slot-check-refuses-7-9 = andThen-refuses (choices-refuse-7 p plan) slots-refuse-9
+
   pub check-refuses-7-9-10 : RefusesOnly (7 ∷ 9 ∷ 10 ∷ []) (check p plan table)
   unfolding check
-  check-refuses-7-9-10 = andThen-refuses (choices-refuse-7 p plan) (andThen-refuses slots-refuse-9 jobs-refuse-10)
+  check-refuses-7-9-10 = andThen-refuses slot-check-refuses-7-9 jobs-refuse-10

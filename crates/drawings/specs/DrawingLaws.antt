@@ -12,7 +12,8 @@ use lib.ListN.{length, List·getD-eq-default}
 use borrow.Author.Tests.{ltb-true, ltb-false}
 use Rattle.laws.specs.Below.{lt-or-le}
 use Rattle.instance.specs.Node.{Problem, taskCount, taskAt, span}
-use Rattle.checks.specs.CheckLaws.{KeptSlot, NamedSlots, ServedJobs}
+use Rattle.checks.specs.CheckLaws.{ServedJobs}
+use Rattle.checks.specs.NamedSlots.{KeptSlot, NamedSlots}
 use Rattle.checks.specs.Checks.{jobSlots, lateSlots}
 use Rattle.plan_rules.specs.AllowedPlans.{AllowedPlan}
 use Rattle.drawings.specs.Drawings.{Drawing, ExactSlots, JobSlot}

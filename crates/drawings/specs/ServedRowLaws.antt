@@ -13,7 +13,7 @@ use Rattle.laws.specs.Search.{count}
 use Rattle.laws.specs.SearchFacts.{count-same, count-of-none}
 use Rattle.laws.specs.Truth.{false-not-true}
 use Rattle.instance.specs.Node.{Problem, taskCount, taskAt, span}
-use Rattle.checks.specs.CheckLaws.{KeptSlot}
+use Rattle.checks.specs.NamedSlots.{KeptSlot}
 use Rattle.plan_rules.specs.KeepsLaws.{keeps-iff, ticks-where-kept, kept-where-ticks, core-of-kept}
 use Rattle.checks.specs.Checks.{jobSlots}
 use Rattle.drawings.specs.DrawingLaws.{drawing-of-parts, parts-of-drawing, no-late-slots, drawing-shows-none-late}

@@ -3,8 +3,8 @@ use lib.Seq.{length-take-le}
 use borrow.Author.Needs.{needs}
 use borrow.Author.Tests.{ne-eqb}
 use Rattle.checks.specs.HeldJobs.{job-of-its-ticks-is-served-if-none-is-late, job-of-other-ticks-is-not-served}
-use Rattle.checks.proofs.check.job_served.Statement.{statement}
-use Rattle.checks.proofs.check.job_served.Tie as tie
+use Rattle.checks.proofs.jobs.job_served.Statement.{statement}
+use Rattle.checks.proofs.jobs.job_served.Tie as tie
 
 slice-aggregate-slots-of : tie.Need-slice-aggregate-slots-of
 slice-aggregate-slots-of c = sym (length-take-le _ _ (c .before .before .pre))

@@ -9,8 +9,8 @@ use lib.ListN.{length, getD}
 use borrow.Author.Needs.{needs}
 use borrow.Author.Tests.{eq-eqb, ne-eqb}
 use Rattle.laws.specs.Search.{count}
-use Rattle.checks.proofs.check.slots_of.Statement.{statement}
-use Rattle.checks.proofs.check.slots_of.Tie as tie
+use Rattle.checks.proofs.jobs.slots_of.Statement.{statement}
+use Rattle.checks.proofs.jobs.slots_of.Tie as tie
 
 abbrev Inv-loop : tie.InvT-loop
 Inv-loop part number n₀ x₀ n x = (x ≤ length part) × (n ≤ x) × (n ≡ count (λ y. eqb (getD part y 0) number) x)

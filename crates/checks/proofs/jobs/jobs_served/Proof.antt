@@ -11,8 +11,8 @@ use Rattle.laws.specs.SearchFacts.{every-iff}
 use Rattle.laws.specs.Truth.{false-not-true, not-true-is-false}
 use Rattle.checks.specs.HeldJobs.{jobServedAt, jobsServed, job-within, served-in-table}
 use borrow.Author.Needs.{needs}
-use Rattle.checks.proofs.check.jobs_served.Statement.{statement}
-use Rattle.checks.proofs.check.jobs_served.Tie as tie
+use Rattle.checks.proofs.jobs.jobs_served.Statement.{statement}
+use Rattle.checks.proofs.jobs.jobs_served.Tie as tie
 
 abbrev Inv-loop : tie.InvT-loop
 Inv-loop table from number period window jobs ticks j₀ j =

@@ -17,8 +17,8 @@ use Rattle.checks.specs.HeldJobs.{held-job-ticks, held-row-within, held-
 use Rattle.plan_rules.specs.HeldQuantities.{level-count-above-zero, level-count-at-most}
 use Rattle.refusals.specs.VerdictLaws.{found-is-refused, none-found-passes}
 use borrow.Author.Needs.{needs}
-use Rattle.checks.proofs.check.jobs_pass.Statement.{statement}
-use Rattle.checks.proofs.check.jobs_pass.Tie as tie
+use Rattle.checks.proofs.jobs.jobs_pass.Statement.{statement}
+use Rattle.checks.proofs.jobs.jobs_pass.Tie as tie
 
 abbrev Inv-loop : tie.InvT-loop
 Inv-loop plan table inst levels span i₀ i = (i ≤ inst .taskcount) × ((x : ℕ) → x < i → not (isServed (problemIn inst) plan table x) ≡ false)

@@ -4,8 +4,8 @@ use native.Mathlib.Nat.{div-mul-le-self}
 use native.Mathlib.Omega.{arith}
 use Rattle.checks.specs.HeldJobs.{kept-task-is-served-if-its-jobs-are, refused-task-is-served}
 use borrow.Author.Needs.{needs}
-use Rattle.checks.proofs.check.is_served.Statement.{statement}
-use Rattle.checks.proofs.check.is_served.Tie as tie
+use Rattle.checks.proofs.jobs.is_served.Statement.{statement}
+use Rattle.checks.proofs.jobs.is_served.Tie as tie
 
 returns : tie.Need-returns
 returns c = refused-task-is-served _ _ _ _ _ _ _ _ (c .if1 .taken)

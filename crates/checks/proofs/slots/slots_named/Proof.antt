@@ -13,8 +13,8 @@ use Rattle.refusals.specs.declared.Refusal.the-variants.{GivenTable}
 use Rattle.checks.specs.HeldSlots.{AtSlot, InRow, isStray, slotsNamed, core-at-most, row-goes-on, next-row-begins, slot-passed, core-of-slot}
 use Rattle.refusals.specs.VerdictLaws.{found-is-refused, none-found-passes}
 use borrow.Author.Needs.{needs}
-use Rattle.checks.proofs.check.slots_named.Statement.{statement}
-use Rattle.checks.proofs.check.slots_named.Tie as tie
+use Rattle.checks.proofs.slots.slots_named.Statement.{statement}
+use Rattle.checks.proofs.slots.slots_named.Tie as tie
 
 abbrev Inv-loop : tie.InvT-loop
 Inv-loop plan levels span table k₀ left₀ x₀ k left x =

@@ -8,8 +8,8 @@ use Rattle.checks.specs.Checks.{slotsPass}
 use Rattle.plan_rules.specs.HeldQuantities.{level-count-above-zero}
 use Rattle.checks.specs.HeldSlots.{slots-named-is-slots-pass}
 use Rattle.refusals.specs.VerdictLaws.{other-length-is-refused}
-use Rattle.checks.proofs.check.slots_pass.Statement.{statement}
-use Rattle.checks.proofs.check.slots_pass.Tie as tie
+use Rattle.checks.proofs.slots.slots_pass.Statement.{statement}
+use Rattle.checks.proofs.slots.slots_pass.Tie as tie
 
 table-size-requires : tie.Need-table-size-requires
 table-size-requires c κs = search needs

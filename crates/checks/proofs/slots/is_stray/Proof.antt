@@ -5,8 +5,8 @@ use lib.Dec.{eqb}
 use borrow.Author.Needs.{needs}
 use borrow.Author.Tests.{eq-eqb}
 use Rattle.checks.specs.HeldSlots.{idle-slot-is-not-stray, slot-of-refused-task-is-stray, slot-of-kept-task-is-stray-on-other-cores, slot-past-tasks-is-stray}
-use Rattle.checks.proofs.check.is_stray.Statement.{statement}
-use Rattle.checks.proofs.check.is_stray.Tie as tie
+use Rattle.checks.proofs.slots.is_stray.Statement.{statement}
+use Rattle.checks.proofs.slots.is_stray.Tie as tie
 
 returns : tie.Need-returns
 returns c = idle-slot-is-not-stray _ _ _ _ (c .if1 .taken)

@@ -1,0 +1,130 @@
+// The test of a given table's jobs: the refusal 10.
+use dispatch::Slot;
+use instance::Instance;
+use plan_rules::core_of;
+use plan_rules::jobs_in;
+use plan_rules::level_of;
+use plan_rules::ticks_of;
+use plan_rules::window_of;
+use refusals::Refusal;
+use refusals::Verdict;
+ghost use mathlib.Core.Path.{_≡_};
+ghost use Prim.Native.Nat.{pred, _+_, _*_, _/_, _≤_, _<_};
+ghost use lib.Dec.{eqb};
+ghost use lib.ListN.{length, getD};
+ghost use Rattle.laws.specs.Search.{count};
+ghost use Rattle.instance.specs.Held.{Sound, problemIn};
+ghost use Rattle.plan_rules.specs.AllowedPlans.{AllowedPlan};
+ghost use Rattle.checks.specs.Checks.{jobsPass};
+ghost use Rattle.checks.specs.HeldJobs.{jobServed, jobsServed, taskServed};
+ghost use Rattle.tables.specs.Tables.{tableSize};
+
+// How many slots of a part of a row hold a number.
+fn slots_of(part: &[Slot], number: Slot) -> usize
+    ensures { λ r. ⌜ r ≡ count (λ x. eqb (getD (now (part .entry)) x 0) number) (length (now (part .entry))) ⌝ }
+{
+    let mut n = 0;
+    let mut x = 0;
+    while x < part.len() {
+        if part[x] == number {
+            n += 1;
+        }
+        x += 1;
+    }
+    n
+}
+
+// Whether a job has as many slots as ticks in its window and none after it: its slots go from its release to the next.
+fn job_served(slots: &[Slot], number: Slot, window: usize, ticks: usize) -> bool
+    requires { ⌜ window ≤ length (now slots) ⌝ }
+    ensures { λ r. ⌜ r ≡ jobServed (now (slots .entry)) number window ticks ⌝ }
+{
+    let within = slots_of(&slots[..window], number);
+    let late = slots_of(&slots[window..], number);
+    within == ticks && late == 0
+}
+
+// Whether each of a task's jobs is served: `from` is the slot at which the first is released.
+fn jobs_served(
+    table: &[Slot],
+    from: usize,
+    number: Slot,
+    period: usize,
+    window: usize,
+    jobs: usize,
+    ticks: usize,
+) -> bool
+    requires { ⌜ window ≤ period ⌝ }
+    requires { ⌜ from + jobs * period ≤ length (now table) ⌝ }
+    ensures { λ r. ⌜ r ≡ jobsServed (now (table .entry)) from number period window jobs ticks ⌝ }
+{
+    let mut j = 0;
+    while j < jobs {
+        let release = from + j * period;
+        let next = release + period;
+        if !job_served(&table[release..next], number, window, ticks) {
+            return false;
+        }
+        j += 1;
+    }
+    true
+}
+
+// Whether a task is refused, or each of its jobs is served.
+fn is_served(
+    table: &[Slot],
+    span: u32,
+    levels: usize,
+    number: Slot,
+    choice: u32,
+    period: u32,
+    window: usize,
+    ticks: usize,
+) -> bool
+    requires { ⌜ 0 < levels ⌝ }
+    requires { ⌜ window ≤ period ⌝ }
+    requires { ⌜ pred choice / levels * span + span ≤ length (now table) ⌝ }
+    ensures { λ r. ⌜ r ≡ taskServed (now (table .entry)) span levels number choice period window ticks ⌝ }
+{
+    if choice == 0 {
+        return true;
+    }
+    let from = core_of(choice, levels) * span as usize;
+    let jobs = jobs_in(span, period) as usize;
+    jobs_served(table, from, number, period as usize, window, jobs, ticks)
+}
+
+// The test of the jobs: none has more or fewer slots than its ticks.
+pub(crate) fn jobs_pass(inst: Instance, plan: &[u32], table: &[Slot]) -> Verdict
+    requires { ⌜ Sound inst ⌝ }
+    requires { ⌜ AllowedPlan (problemIn inst) (now plan) ⌝ }
+    requires { ⌜ length (now table) ≡ tableSize (problemIn inst) ⌝ }
+    ensures { λ r. ⌜ r ≡ jobsPass (problemIn inst) (now (plan .entry)) (now (table .entry)) ⌝ }
+{
+    let levels = inst.levelcount;
+    let span = inst.span;
+    let mut i = 0;
+    while i < inst.taskcount {
+        let number = i + 1;
+        let choice = plan[i];
+        let task = inst.tasks[i];
+        let level = inst.levels[level_of(choice, levels)];
+        let period = task.period;
+        let window = window_of(task) as usize;
+        let ticks = ticks_of(task.cycles, level.speed) as usize;
+        if !is_served(
+            table,
+            span,
+            levels,
+            number as Slot,
+            choice,
+            period,
+            window,
+            ticks,
+        ) {
+            return Verdict::Refused(Refusal::JobSlots(number));
+        }
+        i += 1;
+    }
+    Verdict::Accepted
+}
