@@ -16,8 +16,8 @@ use Rattle.refusals.specs.RoomLaws.{enough-room}
 use Rattle.instance.specs.SiteFile.{problemOf}
 use Rattle.refusals.specs.declared.Verdict.the-variants.{Accepted}
 use Rattle.plan_rules.specs.AllowedPlanLaws.{choices-pass}
-use Rattle.checks.specs.Checks.{check}
-use Rattle.checks.specs.Outcomes.{checkOutcome, checkOutcomeOf}
+use Rattle.checks.specs.Checks.{slotCheck, check}
+use Rattle.checks.specs.Outcomes.{slotCheckOutcome, slotCheckOutcomeOf, checkOutcome, checkOutcomeOf}
 use Rattle.plan_rules.specs.Plans.{choicesPass}
 use Rattle.plan_rules.specs.Quantities.{isRefused, levelOf, ticks, jobTicks, jobs}
 use Rattle.prices.specs.Prices.{idleTicks, penalty, cost, priceOf}
@@ -53,6 +53,10 @@ module _ (p : Problem) (plan : List ℕ) where
   priced-cost = refl
 
 module _ (words : List ℕ) (p : Problem) (read : problemOf words ≡ accepted p) where
+  pub slots-checked-as-defined : (plan table : List ℕ) → slotCheckOutcome words plan table ≡ slotCheck p plan table
+  unfolding slotCheckOutcome
+  slots-checked-as-defined plan table = ap (λ r. slotCheckOutcomeOf r plan table) read
+
   pub checked-as-defined : (plan table : List ℕ) → checkOutcome words plan table ≡ check p plan table
   unfolding checkOutcome
   checked-as-defined plan table = ap (λ r. checkOutcomeOf r plan table) read

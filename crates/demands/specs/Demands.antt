@@ -34,10 +34,12 @@ use Rattle.drawings.specs.CheckTheorem.{check-accepts-exactly-drawings, check-a
 use Rattle.drawings.specs.Drawings.{DrawnTable, Drawing}
 use Rattle.prices.specs.EndingLaws.{pricing-ends}
 use Rattle.tables.specs.EndingLaws.{tabling-ends}
-use Rattle.checks.specs.EndingLaws.{checking-ends}
+use Rattle.checks.specs.CheckLaws.{slot-check-accepts-exactly-named-slots}
+use Rattle.checks.specs.EndingLaws.{slot-checking-ends, checking-ends}
+use Rattle.checks.specs.NamedSlots.{NamedSlots}
 use Rattle.prices.specs.Outcomes.{priceOutcome, PricingEnds}
 use Rattle.tables.specs.Outcomes.{tableOutcome, TablingEnds}
-use Rattle.checks.specs.Outcomes.{checkOutcome, CheckingEnds}
+use Rattle.checks.specs.Outcomes.{slotCheckOutcome, SlotCheckingEnds, checkOutcome, CheckingEnds}
 use Rattle.prices.specs.OutcomeLaws.{passing-plan-is-priced}
 use Rattle.tables.specs.OutcomeLaws.{passing-plan-is-tabled}
 use Rattle.tables.specs.Periods.{valid-is-periodic}
@@ -49,7 +51,7 @@ use Rattle.tables.specs.Tables.{tableOf, tableSize}
 use Rattle.drawings.specs.WorkedOut.{WorkedOut}
 use Rattle.drawings.specs.WorkedOutLaws.{worked-out-is-table}
 use Rattle.prices.specs.declared.amounts.Priced.the-variants as Priced
-use Rattle.demands.specs.ArithmeticLaws.{ticks-round-up, priced-energy, priced-penalty, priced-cost, checked-as-defined, best-plan-is-written}
+use Rattle.demands.specs.ArithmeticLaws.{ticks-round-up, priced-energy, priced-penalty, priced-cost, slots-checked-as-defined, checked-as-defined, best-plan-is-written}
 use Rattle.planner.specs.BestDrawingLaws.{no-plan-iff-no-drawing, answered-is-best-drawing}
 use Rattle.planner.specs.EndingLaws.{planning-ends}
 use Rattle.planner.specs.Endings.{PlanningEnds}
@@ -85,6 +87,8 @@ pub record RefusalsExact : Type 0 where
   -- 2, 3, 4; "then 6; then 7 (length before choices); then 8"
   pub tabling : (words plan table : List ℕ) →
       let o = tableOutcome words plan table in TablingEnds words plan table (o .answer) (o .table)
+  -- document 02 (d): 2, 3, 4; then 7; then 9, length before slots
+  pub slot-checking : (words plan table : List ℕ) → SlotCheckingEnds words plan table (slotCheckOutcome words plan table)
   -- 2, 3, 4, and: "The check tests 7, 9 (length before slots), 10, and not 8."
   pub checking : (words plan table : List ℕ) → CheckingEnds words plan table (checkOutcome words plan table)
   -- 2, 3, 4; then 6, "of several short ones, the plan's before the table's"; "5 comes last"
@@ -116,6 +120,7 @@ demand-1 =
       reading = reading-ends;
       pricing = pricing-ends;
       tabling = tabling-ends;
+      slot-checking = slot-checking-ends;
       checking = checking-ends;
       planning = planning-ends;
       sleeping = sleeping-ends;
@@ -162,6 +167,10 @@ pub record QuantitiesExact (words : List ℕ) (p : Problem) : Type 0 where
   pub plan-written : (best plan table : List ℕ) → bestPlan p ≡ some best → taskCount p ≤ length plan → tableSize p ≤ length table →
       planOutcome words plan table
       ≡ record { answer = Priced.Cost (priceOf p best); plan = onto best plan; table = onto (tableOf p best) table }
+  -- document 02 (d): of a plan that 7 lets pass, the first check passes exactly the tables of the right length in which each slot
+  -- is 0 or names a task that the plan keeps on that slot's core
+  pub slot-check-passes : (plan table : List ℕ) → choicesPass p plan ≡ Accepted →
+      (slotCheckOutcome words plan table ≡ Accepted) ↔ NamedSlots p plan table
   -- of a plan that 7 lets pass
   pub check-passes : (plan table : List ℕ) → choicesPass p plan ≡ Accepted →
       (checkOutcome words plan table ≡ Accepted) ↔ DrawnTable p plan table
@@ -182,6 +191,9 @@ demand-2 words p read =
       price-returned = passing-plan-is-priced words p read;
       table-written = passing-plan-is-tabled words p read;
       plan-written = best-plan-is-written words p read;
+      slot-check-passes = λ plan table passes.
+          rw (slots-checked-as-defined words p read plan table)
+          (slot-check-accepts-exactly-named-slots p (valid-is-periodic valid) plan table passes);
       check-passes = λ plan table passes.
           rw (checked-as-defined words p read plan table)
           (check-accepts-exactly-drawn-tables p (valid-is-periodic valid) plan table passes);

@@ -20,7 +20,7 @@ use Rattle.refusals.specs.declared.Verdict.the-variants.{Accepted, Refused}
 use Rattle.text.specs.OutcomeLaws.{text-refuses-1}
 use Rattle.text.specs.Text.{wordsOf}
 use Rattle.checks.specs.Checks.{slotsPass, jobsPass}
-use Rattle.checks.specs.EndingLaws.{checking-ends}
+use Rattle.checks.specs.EndingLaws.{slot-checking-ends, checking-ends}
 use Rattle.prices.specs.Outcomes.{priceVerdict}
 use Rattle.checks.specs.Outcomes.{checkOutcome}
 use Rattle.tables.specs.Periods.{valid-is-periodic}
@@ -36,9 +36,9 @@ use Rattle.planner.specs.Planned.{Optimal}
 use Rattle.planner.specs.Planning.{bestPlan}
 use Rattle.sleep.specs.EndingLaws.{sleeping-ends}
 use Rattle.sleep.specs.Outcomes.{sleepTests}
-use Rattle.towhepamu.specs.CallOutcomes.{plannedOf, checkedOf, textPlanOutcome, textPlanOutcomeOf, textCheckOutcome, textCheckOutcomeOf, textSleepOutcome, textSleepOutcomeOf}
+use Rattle.towhepamu.specs.CallOutcomes.{plannedOf, checkedOf, textPlanOutcome, textPlanOutcomeOf, textSlotCheckOutcome, textSlotCheckOutcomeOf, textCheckOutcome, textCheckOutcomeOf, textSleepOutcome, textSleepOutcomeOf}
 use Rattle.listings.specs.Listing.{listingOfPlan, listingOfProblem, listingOfWords, listingOf}
-use Rattle.demands.specs.TextCalls.{WritesProblem, TextPlanningEnds, TextCheckingEnds, TextSleepingEnds, answerPlanned, answerChecked, OptimalNumbers, Prints}
+use Rattle.demands.specs.TextCalls.{WritesProblem, TextPlanningEnds, TextSlotCheckingEnds, TextCheckingEnds, TextSleepingEnds, answerPlanned, answerChecked, OptimalNumbers, Prints}
 
 -- a call that may return one number more
 one-more-number : {n : ℕ} {numbers : List ℕ} {buffers : List Lent} {a : Answer} →
@@ -70,6 +70,19 @@ text-planning-ends text plan table = go (text-refuses-1 text)
         (priceVerdict (o .answer))
     go (read words) = may-return (planning-ends words plan table)
     go (unread m) = turns-down (Memᴰ·append-left (2 ∷ 3 ∷ 4 ∷ 6 ∷ 5 ∷ []) m) (unchanged, (unchanged, tt))
+
+pub text-slot-checking-ends : (text plan table : List ℕ) → TextSlotCheckingEnds text plan table (textSlotCheckOutcome text plan table)
+unfolding textSlotCheckOutcome
+text-slot-checking-ends text plan table = go (text-refuses-1 text)
+  where
+    go : {reading : Reading (List ℕ)} → UnreadOnly (1 ∷ []) reading →
+        Ends
+        (readThen reading (λ words. readThen (problemOf words) (λ p. choicesPass p plan andThen slotsPass p plan table)))
+        (1 ∷ 2 ∷ 3 ∷ 4 ∷ 7 ∷ 9 ∷ [])
+        []
+        (textSlotCheckOutcomeOf reading plan table)
+    go (read words) = may-return (slot-checking-ends words plan table)
+    go (unread m) = turns-down (Memᴰ·append-left (2 ∷ 3 ∷ 4 ∷ 7 ∷ 9 ∷ []) m) tt
 
 pub text-checking-ends : (text plan table : List ℕ) → TextCheckingEnds text plan table (textCheckOutcome text plan table)
 unfolding textCheckOutcome

@@ -65,6 +65,11 @@ TextPlanningEnds text plan table given planAfter tableAfter =
     (lent (neededForText taskCount text) plan planAfter ∷ lent (neededForText tableSize text) table tableAfter ∷ [])
     (priceVerdict given)
 
+-- 1; 2, 3, 4; then 7 and 9
+abbrev pub TextSlotCheckingEnds : List ℕ → List ℕ → List ℕ → Verdict → Type 0
+TextSlotCheckingEnds text plan table =
+    Ends (textThen text (λ p. choicesPass p plan andThen slotsPass p plan table)) (1 ∷ 2 ∷ 3 ∷ 4 ∷ 7 ∷ 9 ∷ []) []
+
 -- 1; 2, 3, 4; then 7, 9 and 10
 abbrev pub TextCheckingEnds : List ℕ → List ℕ → List ℕ → Verdict → Type 0
 TextCheckingEnds text plan table =

@@ -1,6 +1,6 @@
--- The demands of the calls that are given text: `towhepamu_read`, `towhepamu_plan`, `towhepamu_check`, `towhepamu_sleep` and
--- `towhepamu_list`, which a program in C calls, and `list_site`, whose bytes the listing program prints. Their contracts equate
--- what they return and write with the outcomes named here.
+-- The demands of the calls that are given text: `towhepamu_read`, `towhepamu_plan`, `towhepamu_check_slots`, `towhepamu_check`,
+-- `towhepamu_sleep` and `towhepamu_list`, which a program in C calls, and `list_site`, whose bytes the listing program prints. Their
+-- contracts equate what they return and write with the outcomes named here.
 use Prim.Native.Nat.{ℕ, _≤_}
 use mathlib.Core.List.{List}
 use mathlib.Core.Logic.{_↔_}
@@ -12,11 +12,11 @@ use Rattle.drawings.specs.Drawings.{Drawing}
 use Rattle.prices.specs.Outcomes.{priceVerdict}
 use Rattle.tables.specs.Tables.{tableSize}
 use Rattle.demands.specs.Demands.{demand-3}
-use Rattle.towhepamu.specs.CallOutcomes.{siteOf, plannedOf, checkedOf, listedOf, textReadOutcome, textPlanOutcome, textCheckOutcome, textSleepOutcome}
+use Rattle.towhepamu.specs.CallOutcomes.{siteOf, plannedOf, checkedOf, listedOf, textReadOutcome, textPlanOutcome, textSlotCheckOutcome, textCheckOutcome, textSleepOutcome}
 use Rattle.listings.specs.Listing.{listingOf}
 use Rattle.listings.specs.Outcomes.{listOutcome, listVerdict}
-use Rattle.demands.specs.TextCallLaws.{text-planning-ends, text-checking-ends, text-sleeping-ends, planning-returns, checking-returns, optimal-numbers, listing-prints, planned-as-words, checked-as-words, passes-iff}
-use Rattle.demands.specs.TextCalls.{WritesProblem, readVerdict, TextReadingEnds, TextPlanningEnds, TextCheckingEnds, TextSleepingEnds, TextListingEnds, answerSite, answerPlanned, answerChecked, answerListed, OptimalNumbers, Prints}
+use Rattle.demands.specs.TextCallLaws.{text-planning-ends, text-slot-checking-ends, text-checking-ends, text-sleeping-ends, planning-returns, checking-returns, optimal-numbers, listing-prints, planned-as-words, checked-as-words, passes-iff}
+use Rattle.demands.specs.TextCalls.{WritesProblem, readVerdict, TextReadingEnds, TextPlanningEnds, TextSlotCheckingEnds, TextCheckingEnds, TextSleepingEnds, TextListingEnds, answerSite, answerPlanned, answerChecked, answerListed, OptimalNumbers, Prints}
 use Rattle.demands.specs.TextEndingLaws.{text-reading-ends, text-listing-ends, reading-returns, listing-returns}
 
 -- Demand 1. Whatever text, plan and table it is given, each of these calls does its work or returns the number and place of
@@ -32,6 +32,10 @@ pub record TextRefusalsExact : Type 0 where
   -- number and place in the struct that it returns are the verdict's, 0 and 0 where there is a plan
   pub planning-numbers : (text plan table : List ℕ) →
       let o = textPlanOutcome text plan table in answerPlanned (plannedOf (o .answer)) ≡ answerOf (priceVerdict (o .answer))
+  -- the check of the slots from C: 1; 2, 3, 4; 7; 9
+  pub slot-checking : (text plan table : List ℕ) → TextSlotCheckingEnds text plan table (textSlotCheckOutcome text plan table)
+  pub slot-checking-numbers : (text plan table : List ℕ) →
+      let v = textSlotCheckOutcome text plan table in answerChecked (checkedOf v) ≡ answerOf v
   -- the check from C: 1; 2, 3, 4; 7; 9; 10
   pub checking : (text plan table : List ℕ) → TextCheckingEnds text plan table (textCheckOutcome text plan table)
   pub checking-numbers : (text plan table : List ℕ) →
@@ -56,6 +60,8 @@ demand-1-of-text =
       reading-numbers = λ text. reading-returns (textReadOutcome text);
       planning = text-planning-ends;
       planning-numbers = λ text plan table. planning-returns (textPlanOutcome text plan table .answer);
+      slot-checking = text-slot-checking-ends;
+      slot-checking-numbers = λ text plan table. checking-returns (textSlotCheckOutcome text plan table);
       checking = text-checking-ends;
       checking-numbers = λ text plan table. checking-returns (textCheckOutcome text plan table);
       sleeping = text-sleeping-ends;

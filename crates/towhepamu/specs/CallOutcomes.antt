@@ -9,7 +9,7 @@ use Rattle.instance.specs.Node.{Problem, levelCount, taskCount, span}
 use Rattle.instance.specs.SiteFile.{problemOf}
 use Rattle.refusals.specs.declared.Verdict.{Verdict}
 use Rattle.refusals.specs.declared.Verdict.the-variants.{Accepted, Refused}
-use Rattle.checks.specs.Outcomes.{checkOutcome}
+use Rattle.checks.specs.Outcomes.{slotCheckOutcome, checkOutcome}
 use Rattle.sleep.specs.Outcomes.{SleepOutcome, sleepOutcome}
 use Rattle.prices.specs.declared.amounts.Priced.{Priced}
 use Rattle.prices.specs.declared.amounts.Priced.the-variants as Priced
@@ -56,6 +56,13 @@ textPlanOutcomeOf (accepted words) plan table = planOutcome words plan table
 
 unfoldable pub textPlanOutcome : List ℕ → List ℕ → List ℕ → PlanOutcome
 textPlanOutcome text plan table = textPlanOutcomeOf (wordsOf text) plan table
+
+abbrev pub textSlotCheckOutcomeOf : Reading (List ℕ) → List ℕ → List ℕ → Verdict
+textSlotCheckOutcomeOf (refused r) plan table = Refused r
+textSlotCheckOutcomeOf (accepted words) plan table = slotCheckOutcome words plan table
+
+unfoldable pub textSlotCheckOutcome : List ℕ → List ℕ → List ℕ → Verdict
+textSlotCheckOutcome text plan table = textSlotCheckOutcomeOf (wordsOf text) plan table
 
 abbrev pub textCheckOutcomeOf : Reading (List ℕ) → List ℕ → List ℕ → Verdict
 textCheckOutcomeOf (refused r) plan table = Refused r

@@ -1,9 +1,9 @@
--- An instance has at most 12 tasks, so no more than the front of a given plan matters to the check, nor to the reckoning
+-- An instance has at most 12 tasks, so no more than the front of a given plan matters to the checks, nor to the reckoning
 -- of sleeps, which takes a plan to the check alone.
 use Prim.Native.Nat.{ℕ, min, _<_}
 use mathlib.Core.Bool.{Bool, true, false}
 use mathlib.Core.List.{List}
-use mathlib.Core.Path.{_≡_, refl, sym, ap}
+use mathlib.Core.Path.{_≡_, refl, sym, ap, _∙_}
 use native.Mathlib.Omega.{arith}
 use borrow.Author.Tests.{leb-true, leb-false}
 use lib.Dec.{leb}
@@ -12,14 +12,16 @@ use lib.Seq.{take-all, take-at, length-take-le}
 use Rattle.laws.specs.Lists.{onto}
 use Rattle.ranges.specs.Limits.{mostTasks}
 use Rattle.instance.specs.Node.{Problem, taskCount}
+use Rattle.refusals.specs.Endings.{readThen}
 use Rattle.refusals.specs.Refusals.{Reading, refused, accepted, _andThen_}
 use Rattle.instance.specs.SiteFile.{problemOf}
 use Rattle.instance.specs.SiteFileLaws.{accepted-is-valid}
 use Rattle.refusals.specs.declared.Refusal.the-variants.{GivenPlan}
 use Rattle.refusals.specs.declared.Verdict.{Verdict}
 use Rattle.refusals.specs.declared.Verdict.the-variants.{Refused}
-use Rattle.checks.specs.Checks.{check}
-use Rattle.checks.specs.Outcomes.{checkOutcomeOf, checkOutcome}
+use Rattle.checks.specs.CheckLaws.{check-in-order}
+use Rattle.checks.specs.Checks.{slotsPass, jobsPass, slotCheck, check}
+use Rattle.checks.specs.Outcomes.{slotCheckOutcome, checkOutcome}
 use Rattle.plan_rules.specs.Plans.{choicesPass}
 use Rattle.refusals.specs.VerdictLaws.{longer-is-refused}
 use Rattle.sleep.specs.CoreSleeps.{switchingPasses, leastEnergies, sleepCounts}
@@ -40,12 +42,13 @@ module _ (plan : List ℕ) (k m : ℕ) (cut : m ≡ min (length plan) k) where
   unfolding onto
   front-of-copy blank choices copied = rw copied (take-at (take m plan) _ m front-length)
 
-  -- where k choices are too many, they show that the plan is too long
-  check-of-front : (p : Problem) (table : List ℕ) → taskCount p < k → check p (take m plan) table ≡ check p plan table
-  unfolding check
-  check-of-front p table few = go (leb (length plan) k) refl
+  -- where k choices are too many, they show that the plan is too long: tests that begin with 7 see no more of it
+  tested-by-front : (p : Problem) (later : List ℕ → Verdict) → taskCount p < k →
+      choicesPass p (take m plan) andThen later (take m plan) ≡ choicesPass p plan andThen later plan
+  tested-by-front p later few = go (leb (length plan) k) refl
     where
-      go : (whole : Bool) → leb (length plan) k ≡ whole → check p (take m plan) table ≡ check p plan table
+      go : (whole : Bool) → leb (length plan) k ≡ whole →
+          choicesPass p (take m plan) andThen later (take m plan) ≡ choicesPass p plan andThen later plan
       go true t = rw (take-all m plan (omega (arith, leb-true (length plan) k t)))
       go false t =
           let long = leb-false (length plan) k t in
@@ -54,19 +57,38 @@ module _ (plan : List ℕ) (k m : ℕ) (cut : m ≡ min (length plan) k) where
             longer-plan-is-refused p plan (omega arith),
           )
 
-  checkOutcome-of-front : (words table : List ℕ) → mostTasks < k → checkOutcome words (take m plan) table ≡ checkOutcome words plan table
-  unfolding checkOutcome
-  checkOutcome-of-front words table long = go (problemOf words) refl
+  slot-check-of-front : (p : Problem) (table : List ℕ) → taskCount p < k → slotCheck p (take m plan) table ≡ slotCheck p plan table
+  unfolding slotCheck
+  slot-check-of-front p table few = tested-by-front p (λ choices. slotsPass p choices table) few
+
+  check-of-front : (p : Problem) (table : List ℕ) → taskCount p < k → check p (take m plan) table ≡ check p plan table
+  check-of-front p table few =
+      check-in-order p (take m plan) table
+      ∙ tested-by-front p (λ choices. slotsPass p choices table andThen jobsPass p choices table) few
+      ∙ sym (check-in-order p plan table)
+
+  read-and-tested-by-front : (words : List ℕ) (tests : Problem → List ℕ → Verdict) → mostTasks < k →
+      ((p : Problem) → taskCount p < k → tests p (take m plan) ≡ tests p plan) →
+      readThen (problemOf words) (λ p. tests p (take m plan)) ≡ readThen (problemOf words) (λ p. tests p plan)
+  read-and-tested-by-front words tests long same = go (problemOf words) refl
     where
       go : (reading : Reading Problem) → problemOf words ≡ reading →
-          checkOutcomeOf reading (take m plan) table ≡ checkOutcomeOf reading plan table
+          readThen reading (λ p. tests p (take m plan)) ≡ readThen reading (λ p. tests p plan)
       go (refused r) e = refl
-      go (accepted p) e = check-of-front p table (omega (arith, accepted-is-valid words e .task-count))
+      go (accepted p) e = same p (omega (arith, accepted-is-valid words e .task-count))
 
-  pub copied-plan-is-checked : (words table blank choices : List ℕ) → mostTasks < k → choices ≡ onto (take m plan) blank →
-      checkOutcome words (take m choices) table ≡ checkOutcome words plan table
-  copied-plan-is-checked words table blank choices long copied =
-      rw (front-of-copy blank choices copied) (checkOutcome-of-front words table long)
+  module _ (words table blank choices : List ℕ) (long : mostTasks < k) (copied : choices ≡ onto (take m plan) blank) where
+    pub copied-plan-has-its-slots-checked : slotCheckOutcome words (take m choices) table ≡ slotCheckOutcome words plan table
+    unfolding slotCheckOutcome
+    copied-plan-has-its-slots-checked =
+        rw (front-of-copy blank choices copied)
+        (read-and-tested-by-front words (λ p choices. slotCheck p choices table) long (λ p. slot-check-of-front p table))
+
+    pub copied-plan-is-checked : checkOutcome words (take m choices) table ≡ checkOutcome words plan table
+    unfolding checkOutcome
+    copied-plan-is-checked =
+        rw (front-of-copy blank choices copied)
+        (read-and-tested-by-front words (λ p choices. check p choices table) long (λ p. check-of-front p table))
 
   module _ (words table : List ℕ) (energy time : ℕ) (energies sleeps : List ℕ) (long : mostTasks < k) where
     sleepOutcome-of-front : sleepOutcome words (take m plan) table energy time energies sleeps ≡ sleepOutcome words plan table energy time energies sleeps

@@ -12,6 +12,7 @@ pub use answers::Listed;
 pub use answers::Planned;
 pub use answers::Site;
 pub use checking::towhepamu_check;
+pub use checking::towhepamu_check_slots;
 pub use listing::towhepamu_list;
 pub use planning::towhepamu_plan;
 pub use reading::towhepamu_read;
