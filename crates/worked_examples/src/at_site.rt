@@ -38,35 +38,35 @@ fn run_kind(kind: u8, words: &[u32], given: &[u32]) {
         if kind == b'T' {
             plans::table(words, given[0], &given[1..]);
         }
-        if kind == b'C' {
-            run_table(words, &given[0..0], given[0], &given[1..]);
+        if kind == b'C' || kind == b'H' {
+            run_table(kind, words, &given[0..0], given[0], &given[1..]);
         }
     }
     if kind == b'G' {
         if 5 <= given.len() {
-            run_table(words, &given[0..4], given[4], &given[5..]);
+            run_table(kind, words, &given[0..4], given[4], &given[5..]);
         }
     }
 }
 
 // The first so many numbers are a plan, those after it a table.
-fn run_table(words: &[u32], front: &[u32], choices: u32, given: &[u32]) {
+fn run_table(kind: u8, words: &[u32], front: &[u32], choices: u32, given: &[u32]) {
     let n = choices as usize;
     if n <= given.len() {
-        run_slots(words, front, &given[0..n], &given[n..]);
+        run_slots(kind, words, front, &given[0..n], &given[n..]);
     }
 }
 
-// The table is checked, or its gaps are reckoned, where the line begins with numbers for that.
-fn run_given(words: &[u32], front: &[u32], plan: &[u32], table: &[Slot]) {
-    if front.len() == 0 {
-        plans::check(words, plan, table);
-    } else {
-        sleeping::reckon(words, front, plan, table);
+// The table is checked, its slots alone or its jobs too, or its gaps are reckoned.
+fn run_given(kind: u8, words: &[u32], front: &[u32], plan: &[u32], table: &[Slot]) {
+    match kind {
+        b'H' => plans::check_slots(words, plan, table),
+        b'C' => plans::check(words, plan, table),
+        _ => sleeping::reckon(words, front, plan, table),
     }
 }
 
-fn run_slots(words: &[u32], front: &[u32], plan: &[u32], table: &[u32]) {
+fn run_slots(kind: u8, words: &[u32], front: &[u32], plan: &[u32], table: &[u32]) {
     let mut slots = [0; MOST_NUMBERS];
     let n = table.len();
     if MOST_NUMBERS < n {
@@ -77,5 +77,5 @@ fn run_slots(words: &[u32], front: &[u32], plan: &[u32], table: &[u32]) {
         slots[i] = (table[i] % 256) as Slot;
         i += 1;
     }
-    run_given(words, front, plan, &slots[0..n]);
+    run_given(kind, words, front, plan, &slots[0..n]);
 }

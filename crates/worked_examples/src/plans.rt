@@ -1,4 +1,4 @@
-// What a plan costs, its table, and the check of a table.
+// What a plan costs, its table, and the checks of a table.
 use crate::show;
 use prices::Price;
 use prices::Priced;
@@ -76,4 +76,8 @@ pub(crate) fn long_table(words: &[u32], plan: &[u32]) {
 
 pub(crate) fn check(words: &[u32], plan: &[u32], table: &[Slot]) {
     print_verdict(checks::check_table(words, plan, table), b"accepted\n");
+}
+
+pub(crate) fn check_slots(words: &[u32], plan: &[u32], table: &[Slot]) {
+    print_verdict(checks::check_slots(words, plan, table), b"accepted\n");
 }

@@ -6,10 +6,10 @@ use Rattle.worked_examples.proofs.at_site.run_slots.Statement.{statemen
 use Rattle.worked_examples.proofs.at_site.run_slots.Tie as tie
 
 abbrev Inv-loop : tie.InvT-loop
-Inv-loop words front plan table slots₀ n i₀ slots i = (i ≤ n) × (length slots ≡ 64)
+Inv-loop words front plan table kind slots₀ n i₀ slots i = (i ≤ n) × (length slots ≡ 64)
 
 abbrev μ-loop : tie.MeasureT-loop
-μ-loop words front plan table slots₀ n i₀ slots i = n - i
+μ-loop words front plan table kind slots₀ n i₀ slots i = n - i
 
 returns : tie.Need-returns Inv-loop μ-loop
 returns c = search needs
