@@ -17,6 +17,7 @@ typedef struct {
 
 int run_plan(const arguments *given);
 int run_check(const arguments *given);
+int run_slots(const arguments *given);
 int run_compare(const arguments *given);
 int run_sums(const arguments *given);
 int run_sleep(const arguments *given);

@@ -8,6 +8,7 @@
     "  towhepamu plan SITE [--plan FILE] [--table FILE]   print the listing of a site\n"           \
     "  towhepamu check SITE PLAN TABLE                    test a given plan and table\n"           \
     "  towhepamu check SITE FILE                          the same of a listing or a dump\n"       \
+    "  towhepamu slots SITE PLAN TABLE                    test only which tasks the slots name\n"  \
     "  towhepamu compare SITE FILE                        compare a node with its plan\n"          \
     "  towhepamu sums SITE                                lay out the sums to add up by hand\n"    \
     "  towhepamu picture [--text] SITE                    draw the slot table\n"                   \
@@ -43,6 +44,18 @@
     "  FILE    a listing; or a dump, the numbers of a plan and then those of a table\n"            \
     "Ends with 0 where plan and table pass, 1 where one is refused, 2 where a file cannot be\n"    \
     "used.\n"
+
+#define HELP_SLOTS                                                                                 \
+    "towhepamu slots SITE PLAN TABLE\n"                                                            \
+    "towhepamu slots SITE FILE\n"                                                                  \
+    "\n"                                                                                           \
+    "Tests whether each slot of a table is idle or names a task that the plan keeps on that "      \
+    "core.\n"                                                                                      \
+    "How many slots a job has is not tested, so that half-drawn tables pass. PLAN, TABLE and "     \
+    "FILE\n"                                                                                       \
+    "are as for check. Ends with 0 where they pass, 1 where one is refused, 2 where a file "       \
+    "cannot\n"                                                                                     \
+    "be used.\n"
 
 #define HELP_COMPARE                                                                               \
     "towhepamu compare SITE FILE\n"                                                                \

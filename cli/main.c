@@ -16,9 +16,10 @@ typedef struct {
 } command;
 
 static const command commands[] = {
-    {"plan", HELP_PLAN, 1, 1, run_plan},          {"check", HELP_CHECK, 2, 3, run_check},
-    {"compare", HELP_COMPARE, 2, 2, run_compare}, {"sums", HELP_SUMS, 1, 1, run_sums},
-    {"picture", HELP_PICTURE, 1, 1, run_picture}, {"sleep", HELP_SLEEP, 1, 3, run_sleep},
+    {"plan", HELP_PLAN, 1, 1, run_plan},    {"check", HELP_CHECK, 2, 3, run_check},
+    {"slots", HELP_SLOTS, 2, 3, run_slots}, {"compare", HELP_COMPARE, 2, 2, run_compare},
+    {"sums", HELP_SUMS, 1, 1, run_sums},    {"picture", HELP_PICTURE, 1, 1, run_picture},
+    {"sleep", HELP_SLEEP, 1, 3, run_sleep},
 };
 
 static bool is_help(const char *word) {

@@ -4,9 +4,9 @@
  * A site file says which cores and clock levels a node has and which tasks wait for them. Reading
  * tells whether a text is one. Planning decides which task runs on which core at which level and
  * which is refused, at the least cost, and draws the slot table of every core. Checking tells
- * whether a given plan and table serve every job. Reckoning sleeps tells what the gaps of such a
- * table are worth where a core may be switched off in them. Listing writes the best plan and its
- * table as lines of text.
+ * whether a given plan and table serve every job, and checking slots whether the table's slots name
+ * the right tasks. Reckoning sleeps tells what the gaps of a table are worth where a core may be
+ * switched off in them. Listing writes the best plan and its table as lines of text.
  *
  * A site file is text, numbers in base ten parted by spaces and line feeds:
  *   3 or 4, energy weight 1 to 1,000, penalty weight 1 to 1,000, cores 1 to 4; after a 4 also idle
@@ -40,9 +40,9 @@ extern "C" {
 #endif
 
 /* The version of the header and the archive. */
-#define TOWHEPAMU_VERSION "1.2.0"
+#define TOWHEPAMU_VERSION "1.3.0"
 #define TOWHEPAMU_VERSION_MAJOR 1
-#define TOWHEPAMU_VERSION_MINOR 2
+#define TOWHEPAMU_VERSION_MINOR 3
 #define TOWHEPAMU_VERSION_PATCH 0
 
 /* The longest site file that is read, in bytes. */
@@ -105,8 +105,8 @@ enum towhepamu_refusal {
        first such task's index, from 0. */
     TOWHEPAMU_CHOICES = 7,
 
-    /* A core of a given plan does not fit: by some tick more is due on it than it can have run. None
-       of the calls below returns this one. Place: the lowest such core, from 1. */
+    /* A core of a given plan does not fit: by some tick more is due on it than it can have run.
+       None of the calls below returns this one. Place: the lowest such core, from 1. */
     TOWHEPAMU_OVERLOAD = 8,
 
     /* The given table has another length than cores x span; or a slot other than 0 names no task
@@ -211,8 +211,20 @@ towhepamu_checked towhepamu_check(const uint8_t *text, size_t text_len, const ui
                                   size_t plan_len, const uint8_t *table, size_t table_len);
 
 /*
- * Reckons, for a given plan and table that pass the check, the least idle energy of each core in
- * one span and how often it then sleeps, where switching a core off and on again takes
+ * Checks only whether the slots of a given table name the right tasks, for the site of `text` and a
+ * given plan: the table has cores x span slots, and each slot other than 0 names a task that the
+ * plan keeps on that slot's core. A half-drawn table passes: jobs may have any number of slots.
+ * What towhepamu_check refuses under CHOICES and SLOTS this call refuses, with the same place.
+ *
+ * Tested in this order: TEXT; then, number by number, WORDS, RANGE and SPAN; CHOICES and SLOTS,
+ * each with the length first. It stores nothing in the lent buffers.
+ */
+towhepamu_checked towhepamu_check_slots(const uint8_t *text, size_t text_len, const uint8_t *plan,
+                                        size_t plan_len, const uint8_t *table, size_t table_len);
+
+/*
+ * Reckons, for a given plan and table that pass towhepamu_check, the least idle energy of each core
+ * in one span and how often it then sleeps, where switching a core off and on again takes
  * `switching_energy` and `switching_time` ticks. A gap is a longest run of idle slots of a core,
  * joined across the end of the span, because the row repeats. A core sleeps in a gap exactly when
  * the gap is no shorter than the switching time and idle power x its length exceeds the switching

@@ -31,6 +31,13 @@ towhepamu_planned reference_plan_exhaustive(const uint8_t *text, size_t text_len
     return plan_by(reference_best_exhaustive, text, text_len, plan, plan_len, table, table_len);
 }
 
+towhepamu_checked reference_check_slots(const uint8_t *text, size_t text_len, const uint8_t *plan,
+                                        size_t plan_len, const uint8_t *table, size_t table_len) {
+    reference_instance in;
+    towhepamu_checked test = reference_read_text(text, text_len, &in);
+    return passes(test) ? reference_check_table_slots(&in, plan, plan_len, table, table_len) : test;
+}
+
 towhepamu_checked reference_check(const uint8_t *text, size_t text_len, const uint8_t *plan,
                                   size_t plan_len, const uint8_t *table, size_t table_len) {
     reference_instance in;

@@ -1,5 +1,5 @@
 /*
- * Documents 01 and 02 (a) to (c) in plain C, written from the papers alone: what the archive is
+ * Documents 01 and 02 (a) to (d) in plain C, written from the papers alone: what the archive is
  * compared with and timed against. Choices and slots are bytes, as at the C interface.
  */
 #ifndef REFERENCE_H
@@ -81,7 +81,11 @@ towhepamu_planned reference_price(const reference_instance *instance, const uint
 towhepamu_checked reference_tabulate(const reference_instance *instance, const uint8_t *plan,
                                      size_t plan_len, uint8_t *table, size_t table_len);
 
-/* The check of a given plan and table: refusals 7, 9, 10. */
+/* The two checks of a given plan and table: of the slots alone, refusals 7, 9; and of the jobs too,
+   refusals 7, 9, 10. */
+towhepamu_checked reference_check_table_slots(const reference_instance *instance,
+                                              const uint8_t *plan, size_t plan_len,
+                                              const uint8_t *table, size_t table_len);
 towhepamu_checked reference_check_table(const reference_instance *instance, const uint8_t *plan,
                                         size_t plan_len, const uint8_t *table, size_t table_len);
 
@@ -90,11 +94,14 @@ towhepamu_checked reference_check_table(const reference_instance *instance, cons
 bool reference_best(const reference_instance *instance, uint8_t plan[MOST_TASKS]);
 bool reference_best_exhaustive(const reference_instance *instance, uint8_t plan[MOST_TASKS]);
 
-/* towhepamu_plan and towhepamu_check; and planning again, for small sites, by trying every plan. */
+/* towhepamu_plan, towhepamu_check_slots and towhepamu_check; and planning again, for small sites,
+   by trying every plan. */
 towhepamu_planned reference_plan(const uint8_t *text, size_t text_len, uint8_t *plan,
                                  size_t plan_len, uint8_t *table, size_t table_len);
 towhepamu_planned reference_plan_exhaustive(const uint8_t *text, size_t text_len, uint8_t *plan,
                                             size_t plan_len, uint8_t *table, size_t table_len);
+towhepamu_checked reference_check_slots(const uint8_t *text, size_t text_len, const uint8_t *plan,
+                                        size_t plan_len, const uint8_t *table, size_t table_len);
 towhepamu_checked reference_check(const uint8_t *text, size_t text_len, const uint8_t *plan,
                                   size_t plan_len, const uint8_t *table, size_t table_len);
 

@@ -1,4 +1,4 @@
-/* The table of a plan, and the check of a given one. */
+/* The table of a plan, and the two checks of a given one. */
 #include "answers.h"
 
 /* ---- The table ---- */
@@ -39,7 +39,7 @@ towhepamu_checked reference_tabulate(const reference_instance *in, const uint8_t
     return test;
 }
 
-/* ---- The check ---- */
+/* ---- The checks ---- */
 
 /* Refusal 9. */
 static towhepamu_checked test_slots(const reference_instance *in, const uint8_t *plan,
@@ -81,12 +81,15 @@ static towhepamu_checked test_jobs(const reference_instance *in, const uint8_t *
     return accepted;
 }
 
+towhepamu_checked reference_check_table_slots(const reference_instance *in, const uint8_t *plan,
+                                              size_t plan_len, const uint8_t *table,
+                                              size_t table_len) {
+    towhepamu_checked test = reference_test_choices(in, plan, plan_len);
+    return passes(test) ? test_slots(in, plan, table, table_len) : test;
+}
+
 towhepamu_checked reference_check_table(const reference_instance *in, const uint8_t *plan,
                                         size_t plan_len, const uint8_t *table, size_t table_len) {
-    towhepamu_checked test = reference_test_choices(in, plan, plan_len);
-    if (passes(test))
-        test = test_slots(in, plan, table, table_len);
-    if (passes(test))
-        test = test_jobs(in, plan, table);
-    return test;
+    towhepamu_checked test = reference_check_table_slots(in, plan, plan_len, table, table_len);
+    return passes(test) ? test_jobs(in, plan, table) : test;
 }

@@ -17,7 +17,8 @@ static bool reads;
 static reference_instance in;
 
 static size_t compared, differ, with_idle_power, with_deadlines;
-static size_t was_read[REFUSALS], planned[REFUSALS], checked[REFUSALS], listed[REFUSALS];
+static size_t was_read[REFUSALS], planned[REFUSALS], listed[REFUSALS];
+static size_t checked[REFUSALS], slots_checked[REFUSALS];
 
 /* ---- One comparison ---- */
 
@@ -106,16 +107,20 @@ static void compare_listing(generator *g, size_t out_len) {
         report("listing leaves another buffer");
 }
 
-/* Checks a drawing for the lent text. */
-static void compare_check(generator *g, const drawing *given) {
+typedef towhepamu_checked check_call(const uint8_t *text, size_t text_len, const uint8_t *plan,
+                                     size_t plan_len, const uint8_t *table, size_t table_len);
+
+/* Checks a drawing for the lent text by one of the two checks. */
+static void compare_check_by(generator *g, const drawing *given, check_call *of_archive,
+                             check_call *of_reference, size_t *seen) {
     lend_copy(&plan, given->plan, given->plan_len, draw_tail(g));
     lend_copy(&table, given->table, given->table_len, draw_tail(g));
     towhepamu_checked expected =
-        reference_check(text.bytes, text.len, plan.bytes, plan.len, table.bytes, table.len);
+        of_reference(text.bytes, text.len, plan.bytes, plan.len, table.bytes, table.len);
     towhepamu_checked answer =
-        towhepamu_check(text.bytes, text.len, plan.bytes, plan.len, table.bytes, table.len);
+        of_archive(text.bytes, text.len, plan.bytes, plan.len, table.bytes, table.len);
     compared++;
-    checked[expected.refusal]++;
+    seen[expected.refusal]++;
     if (!same_answers("checking answers otherwise",
                       (towhepamu_planned){answer.refusal, answer.place, 0, 0, 0},
                       (towhepamu_planned){expected.refusal, expected.place, 0, 0, 0}))
@@ -123,6 +128,11 @@ static void compare_check(generator *g, const drawing *given) {
     if (!still_has(&plan, given->plan, given->plan_len) ||
         !still_has(&table, given->table, given->table_len))
         report("checking writes");
+}
+
+static void compare_check(generator *g, const drawing *given) {
+    compare_check_by(g, given, towhepamu_check, reference_check, checked);
+    compare_check_by(g, given, towhepamu_check_slots, reference_check_slots, slots_checked);
 }
 
 /* ---- One text ---- */
@@ -213,10 +223,11 @@ int main(void) {
     bool all_read = print_seen("reading", was_read, (size_t[]){1, 2, 3, 4, 0});
     bool all_planned = print_seen("planning", planned, (size_t[]){1, 2, 3, 4, 5, 6, 0});
     bool all_checked = print_seen("checking", checked, (size_t[]){1, 2, 3, 4, 7, 9, 10, 0});
+    bool all_slots = print_seen("checking slots", slots_checked, (size_t[]){1, 2, 3, 4, 7, 9, 0});
     bool all_listed = print_seen("listing", listed, (size_t[]){1, 2, 3, 4, 5, 6, 0});
     printf("desk: %zu compared, %zu plans with idle power and %zu with early deadlines among them, "
            "%zu differ\n",
            compared, with_idle_power, with_deadlines, differ);
     return differ > 0 || with_idle_power == 0 || with_deadlines == 0 || !all_read || !all_planned ||
-           !all_checked || !all_listed;
+           !all_checked || !all_slots || !all_listed;
 }

@@ -225,6 +225,25 @@ static void test_given_deadlines(void) {
                "the check", "a plan that is late");
 }
 
+/* Half-drawn tables of K2: the slots name the right tasks, whatever the jobs have. */
+static void test_half_drawn(void) {
+    static const uint8_t plan[] = {3, 3}, none[20] = {0}, some[20] = {1, 2, 2, 0, 1},
+                         wrong[20] = {1, 2, 3};
+    const uint8_t *text = (const uint8_t *)K2;
+    size_t len = strlen(K2);
+    expect(is(reference_check_slots(text, len, plan, 2, none, 20), 0, 0), "passes",
+           "an idle table");
+    expect(is(reference_check(text, len, plan, 2, none, 20), 10, 1), "refused", "an idle table");
+    expect(is(reference_check_slots(text, len, plan, 2, some, 20), 0, 0), "passes", "a few slots");
+    expect(is(reference_check_slots(text, len, plan, 2, wrong, 20), 9, 2), "refused",
+           "a wrong slot");
+    expect(is(reference_check_slots(text, len, plan, 2, wrong, 19), 9, 19), "refused",
+           "a short table");
+    expect(is(reference_check_slots(text, len, plan, 1, wrong, 19), 7, 1), "refused",
+           "a short plan");
+    expect(is(reference_check_slots(text, 3, plan, 2, none, 20), 2, 2), "refused", "a short text");
+}
+
 int main(void) {
     for (size_t k = 0; k < KNOWN_CASES; k++) {
         test_known(&known_cases[k], reference_plan);
@@ -237,6 +256,7 @@ int main(void) {
     test_text();
     test_given_plans();
     test_given_deadlines();
+    test_half_drawn();
     printf("reference: %zu tests, %zu fail\n", tests, failures);
     return failures > 0;
 }

@@ -34,6 +34,8 @@ static void test_damaged_slot(const reference_instance *in, const uint8_t *plan,
     towhepamu_checked answer =
         reference_check_table(in, plan, in->tasks, table, in->cores * in->span);
     expect(named ? is(answer, 10, lowest) : is(answer, 9, slot), "refused", "a wrong slot");
+    answer = reference_check_table_slots(in, plan, in->tasks, table, in->cores * in->span);
+    expect(is(answer, named ? 0 : 9, named ? 0 : slot), "passes or not", "a slot");
     table[slot] = right;
 }
 
@@ -76,6 +78,10 @@ static void test_damage(generator *g, const reference_instance *in, uint8_t *pla
            "a shorter table");
     expect(is(reference_check_table(in, plan, in->tasks + 1, table, other), 7, in->tasks),
            "refused", "a longer plan");
+    expect(is(reference_check_table_slots(in, plan, in->tasks, table, other), 9, other), "refused",
+           "slots of a shorter table");
+    expect(is(reference_check_table_slots(in, plan, in->tasks + 1, table, other), 7, in->tasks),
+           "refused", "slots for a longer plan");
 }
 
 /* ---- Small sites ---- */

@@ -41,6 +41,13 @@ static void *check_text(void *unused) {
     return NULL;
 }
 
+static void *check_slots(void *unused) {
+    (void)unused;
+    from = __builtin_frame_address(0);
+    towhepamu_check_slots(text, text_len, plan, tasks, table, slots);
+    return NULL;
+}
+
 static void *list_text(void *unused) {
     (void)unused;
     from = __builtin_frame_address(0);
@@ -89,11 +96,9 @@ int main(void) {
     static const struct {
         const char *name;
         void *(*call)(void *);
-    } calls[] = {{"reading", read_text},
-                 {"planning", plan_text},
-                 {"checking", check_text},
-                 {"listing", list_text},
-                 {"sleeping", sleep_text}};
+    } calls[] = {{"reading", read_text},   {"planning", plan_text},
+                 {"checking", check_text}, {"checking slots", check_slots},
+                 {"listing", list_text},   {"sleeping", sleep_text}};
     enum { CALLS = sizeof calls / sizeof calls[0] };
     generator g = {20010911};
     uint32_t words[MOST_DRAWN_WORDS];

@@ -70,15 +70,19 @@ static void plan_site(size_t plan_len, size_t table_len) {
            memcmp(plan, choices, plan_bytes) == 0 && memcmp(table, row, table_bytes) == 0);
 }
 
-/* The plan that refuses every task. */
+/* The plan that refuses every task, by both checks. */
 static void check_site(void) {
     const uint8_t *text = text_edge - text_len;
     towhepamu_checked expected =
         reference_check(text, text_len, plan_edge, tasks, table_edge, slots);
     name_call("checking", tasks, slots);
     towhepamu_checked answer = towhepamu_check(text, text_len, plan_edge, tasks, table_edge, slots);
-    checked++;
     expect(memcmp(&answer, &expected, sizeof answer) == 0);
+    expected = reference_check_slots(text, text_len, plan_edge, tasks, table_edge, slots);
+    name_call("checking slots", tasks, slots);
+    answer = towhepamu_check_slots(text, text_len, plan_edge, tasks, table_edge, slots);
+    expect(memcmp(&answer, &expected, sizeof answer) == 0);
+    checked++;
 }
 
 static void read_site(void) {
