@@ -1,24 +1,29 @@
 -- The test of a table's jobs by numbers, and these from the fields of the struct that holds the problem.
 use Prim.Native.Nat.{ℕ, pred, _+_, _*_, _-_, _/_, _%_, _≤_, _<_}
-use mathlib.Core.Bool.{Bool, true, false, _&&_, _||_}
+use mathlib.Core.Bool.{Bool, true, _&&_, _||_}
 use mathlib.Core.List.{List}
+use mathlib.Core.Logic.{_↔_, Iff·trans}
 use mathlib.Core.Path.{_≡_, refl, sym, ap, ap₂, _∙_}
 use native.Mathlib.Nat.{div-lt-iff-lt-mul, le-mul-of-pos-right, le-of-eq, mul-le-mul-right}
 use native.Mathlib.Numerals.{add-one}
 use native.Mathlib.Omega.{arith}
 use lib.Dec.{eqb}
-use borrow.Author.Tests.{eq-eqb, ne-eqb}
-use lib.ListN.{length, getD, take, drop, length-drop}
-use lib.Seq.{getD-take, getD-drop, length-take-le}
+use borrow.Author.Tests.{eqb-true, eqb-false, eq-eqb, ne-eqb}
+use lib.ListN.{length, getD, take, drop}
+use Rattle.laws.specs.CountLaws.{none-counted}
 use Rattle.laws.specs.PartLaws.{length-part, getD-part}
 use Rattle.laws.specs.Search.{every, count}
-use Rattle.laws.specs.SearchFacts.{count-same}
+use Rattle.laws.specs.SearchFacts.{count-same, count-of-none}
+use Rattle.laws.specs.Truth.{and-is-true}
 use Rattle.instance.specs.Held.{problemIn, Sound, held-levelcount, held-span, held-task}
 use Rattle.instance.specs.Node.{Problem, levelCount, taskCount, taskAt, noLevel, noTask, span}
 use Rattle.instance.specs.Valid.{Valid}
 use Rattle.instance.specs.declared.Instance.{Instance}
 use Rattle.instance.specs.declared.Level.{Level}
 use Rattle.instance.specs.declared.Task.{Task}
+use Rattle.checks.specs.JobCountLaws.{right-iff}
+use Rattle.checks.specs.JobCounts.{slotsHeld, countJob, HasItsTicks}
+use Rattle.checks.specs.declared.count.CountKind.the-variants.{Right}
 use Rattle.checks.specs.Checks.{jobSlots, lateSlots, isServed}
 use Rattle.plan_rules.specs.AllowedPlans.{AllowedPlan}
 use Rattle.plan_rules.specs.HeldQuantities.{held-level-of}
@@ -33,37 +38,8 @@ core-in-range p v plan allowed i h =
     let some : p .cores ≤ p .cores * levelCount p = le-mul-of-pos-right (p .cores) (v .level-count .at-least) in
     div-lt-iff-lt-mul (v .level-count .at-least) .1 (omega (arith, allowed .choices-in-range i h, v .cores .at-least))
 
--- whether, of a job's slots from its release to the next, t of the first d hold a number, and none after them
-unfoldable pub jobServed : List ℕ → (number d t : ℕ) → Bool
-jobServed slots number d t =
-    eqb (count (λ x. eqb (getD slots x 0) number) d) t
-    && eqb (count (λ x. eqb (getD slots (d + x) 0) number) (length slots - d)) 0
-
-module _ (slots : List ℕ) (number d t n : ℕ) (short : d ≤ length slots)
-    (counted : n ≡ count (λ x. eqb (getD (take d slots) x 0) number) (length (take d slots))) where
-  counted-in-window : count (λ x. eqb (getD slots x 0) number) d ≡ n
-  counted-in-window =
-      let same : count (λ x. eqb (getD (take d slots) x 0) number) d ≡ count (λ x. eqb (getD slots x 0) number) d =
-      count-same _ _ d (λ x l. rw (getD-take d slots x 0 l) refl) in
-      sym (counted ∙ rw (length-take-le d slots short) same)
-
-  pub job-of-other-ticks-is-not-served : (n ≡ t → ⊥) → false ≡ jobServed slots number d t
-  unfolding jobServed
-  job-of-other-ticks-is-not-served other = rw (counted-in-window, ne-eqb n t other) refl
-
-  pub job-of-its-ticks-is-served-if-none-is-late : n ≡ t → (late : ℕ) →
-      (let after = take (length slots - d) (drop d slots) in late ≡ count (λ x. eqb (getD after x 0) number) (length after)) →
-      eqb late 0 ≡ jobServed slots number d t
-  unfolding jobServed
-  job-of-its-ticks-is-served-if-none-is-late its-ticks late counted-late =
-      let m = length slots - d in
-      let same : count (λ x. eqb (getD (take m (drop d slots)) x 0) number) m ≡ count (λ x. eqb (getD slots (d + x) 0) number) m =
-      count-same _ _ m (λ x l. rw (getD-take m (drop d slots) x 0 l, getD-drop d slots x 0) refl) in
-      let long : length (take m (drop d slots)) ≡ m = length-take-le m (drop d slots) (rw length-drop (omega arith)) in
-      let none : late ≡ count (λ x. eqb (getD slots (d + x) 0) number) m = counted-late ∙ rw long same in
-      rw (counted-in-window, eq-eqb n t its-ticks, ← none) refl
-
--- the same of job j in a table, in which the first job's slots begin at one, and the next one's a period on
+-- whether job j holds a number in t of the d slots of its window, and in none after them up to the next release: the first job's slots
+-- begin at a slot of a table, the next one's a period on
 unfoldable pub jobServedAt : List ℕ → (from number period d t j : ℕ) → Bool
 jobServedAt table from number period d t j =
     eqb (count (λ x. eqb (getD table (from + (j * period + x)) 0) number) d) t
@@ -76,18 +52,41 @@ module _ (table : List ℕ) (from number period d : ℕ) where
   pub job-within : (n j : ℕ) → from + n * period ≤ length table → j < n → (from + j * period) + period ≤ length table
   job-within n j room l = omega (arith, mul-le-mul-right period l)
 
-  pub served-in-table : (t j : ℕ) → d ≤ period → (from + j * period) + period ≤ length table →
-      jobServed (take (((from + j * period) + period) - (from + j * period)) (drop (from + j * period) table)) number d t
-      ≡ jobServedAt table from number period d t j
-  unfolding jobServed jobServedAt
-  served-in-table t j short within =
-      let part = take (((from + j * period) + period) - (from + j * period)) (drop (from + j * period) table) in
-      let slot : (x y : ℕ) → x < period → (from + j * period) + x ≡ y → eqb (getD part x 0) number ≡ eqb (getD table y 0) number =
-      λ x y l same. ap (λ (v : ℕ). eqb v number) (getD-part table (from + j * period) period x 0 l ∙ ap (λ (z : ℕ). getD table z 0) same) in
-      rw (length-part table (from + j * period) period within)
-      (ap₂ (λ (a b : ℕ). eqb a t && eqb b 0)
-      (count-same _ _ d (λ x l. slot x _ (omega arith) (omega arith)))
-      (count-same _ _ (period - d) (λ x l. slot (d + x) _ (omega arith) (omega arith))))
+  pub right-in-table : (t j : ℕ) → d ≤ period → (from + j * period) + period ≤ length table →
+      (countJob (take (((from + j * period) + period) - (from + j * period)) (drop (from + j * period) table)) number d t .kind ≡ Right)
+      ↔ (jobServedAt table from number period d t j ≡ true)
+  unfolding jobServedAt slotsHeld
+  right-in-table t j short within = Iff·trans (right-iff part number d t (rw long short)) (served, right)
+    where
+      part : List ℕ
+      part = take (((from + j * period) + period) - (from + j * period)) (drop (from + j * period) table)
+
+      long : length part ≡ period
+      long = length-part table (from + j * period) period within
+
+      slot : (x y : ℕ) → x < period → (from + j * period) + x ≡ y → getD part x 0 ≡ getD table y 0
+      slot x y l same = getD-part table (from + j * period) period x 0 l ∙ ap (λ (z : ℕ). getD table z 0) same
+
+      in-window : slotsHeld part number d ≡ count (λ x. eqb (getD table (from + (j * period + x)) 0) number) d
+      in-window = count-same _ _ d (λ x l. ap (λ (v : ℕ). eqb v number) (slot x _ (omega arith) (omega arith)))
+
+      served : HasItsTicks part number d t → jobServedAt table from number period d t j ≡ true
+      served has =
+          and-is-true _ _ .1 (
+            eq-eqb _ _ (sym in-window ∙ has .in-window),
+            eq-eqb _ _ (count-of-none _ (period - d) (λ x (l : x < period - d).
+                ne-eqb _ _ (λ shown. has .none-after (d + x) (omega arith) (rw long (omega arith)) (slot (d + x) _ (omega arith) (omega arith) ∙ shown)))),
+          )
+
+      right : jobServedAt table from number period d t j ≡ true → HasItsTicks part number d t
+      right e =
+          let both = and-is-true _ _ .0 e in
+          record {
+            in-window = in-window ∙ eqb-true _ _ (both .0);
+            none-after = λ x due l shown.
+                let h : x < period = rw long at l in
+                eqb-false _ _ (none-counted _ _ (eqb-true _ _ (both .1)) (x - d) (omega arith)) (sym (slot x _ h (omega arith)) ∙ shown);
+          }
 
 -- whether a task with this number and choice is refused, or each of its jobs served: a row has w slots
 unfoldable pub taskServed : List ℕ → (w levels number choice period d t : ℕ) → Bool

@@ -1,4 +1,6 @@
 // The test of a given table's jobs: the refusal 10.
+use crate::count::CountKind;
+use crate::count::count_job;
 use dispatch::Slot;
 use instance::Instance;
 use plan_rules::core_of;
@@ -10,41 +12,14 @@ use refusals::Refusal;
 use refusals::Verdict;
 ghost use mathlib.Core.Path.{_≡_};
 ghost use Prim.Native.Nat.{pred, _+_, _*_, _/_, _≤_, _<_};
-ghost use lib.Dec.{eqb};
-ghost use lib.ListN.{length, getD};
-ghost use Rattle.laws.specs.Search.{count};
+ghost use lib.ListN.{length};
 ghost use Rattle.instance.specs.Held.{Sound, problemIn};
 ghost use Rattle.plan_rules.specs.AllowedPlans.{AllowedPlan};
 ghost use Rattle.checks.specs.Checks.{jobsPass};
-ghost use Rattle.checks.specs.HeldJobs.{jobServed, jobsServed, taskServed};
+ghost use Rattle.checks.specs.HeldJobs.{jobsServed, taskServed};
 ghost use Rattle.tables.specs.Tables.{tableSize};
 
-// How many slots of a part of a row hold a number.
-fn slots_of(part: &[Slot], number: Slot) -> usize
-    ensures { λ r. ⌜ r ≡ count (λ x. eqb (getD (now (part .entry)) x 0) number) (length (now (part .entry))) ⌝ }
-{
-    let mut n = 0;
-    let mut x = 0;
-    while x < part.len() {
-        if part[x] == number {
-            n += 1;
-        }
-        x += 1;
-    }
-    n
-}
-
-// Whether a job has as many slots as ticks in its window and none after it: its slots go from its release to the next.
-fn job_served(slots: &[Slot], number: Slot, window: usize, ticks: usize) -> bool
-    requires { ⌜ window ≤ length (now slots) ⌝ }
-    ensures { λ r. ⌜ r ≡ jobServed (now (slots .entry)) number window ticks ⌝ }
-{
-    let within = slots_of(&slots[..window], number);
-    let late = slots_of(&slots[window..], number);
-    within == ticks && late == 0
-}
-
-// Whether each of a task's jobs is served: `from` is the slot at which the first is released.
+// Whether the count of each of a task's jobs is right: `from` is the slot at which the first is released.
 fn jobs_served(
     table: &[Slot],
     from: usize,
@@ -62,9 +37,11 @@ fn jobs_served(
     while j < jobs {
         let release = from + j * period;
         let next = release + period;
-        if !job_served(&table[release..next], number, window, ticks) {
+        let counted = count_job(&table[release..next], number, window, ticks);
+        let kind = counted.kind;
+        let CountKind::Right = kind else {
             return false;
-        }
+        };
         j += 1;
     }
     true

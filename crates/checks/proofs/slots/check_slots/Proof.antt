@@ -1,4 +1,3 @@
-use mathlib.Core.Path.{_∙_}
 use Rattle.checks.specs.EndingLaws.{slot-check-is-promised}
 use Rattle.checks.specs.Outcomes.{slotCheckOutcome}
 use Rattle.instance.specs.ReadLaws.{HoldsProblemOf, accepted-read-holds-problem, refused-read-refuses-words}
