@@ -2,6 +2,7 @@ pub mod ArithmeticLaws
 pub mod Demands
 pub mod SleepDemands
 pub mod DeadlineDemands
+pub mod CountDemands
 pub mod TextCalls
 pub mod TextCallLaws
 pub mod TextEndingLaws

@@ -1,4 +1,5 @@
 // Examples that need no site.
+use crate::counts;
 use crate::listing;
 use crate::numbers::MOST_NUMBERS;
 use crate::numbers::words_of;
@@ -41,6 +42,7 @@ fn run_words(kind: u8, words: &[u32]) {
         b'w' => reading::words(words),
         b'v' => small::varied(word(words, 0), word(words, 1)),
         b'c' => small::cut(word(words, 0)),
+        b'j' => counts::show(words),
         b'd' => listing::over_dots(word(words, 0) as usize),
         _ => return,
     }

@@ -1,5 +1,6 @@
 // Examples at a site, whose words are lent as text.
 use crate::numbers::MOST_NUMBERS;
+use crate::numbers::slots_of;
 use crate::numbers::words_of;
 use crate::plans;
 use crate::sleeping;
@@ -66,16 +67,22 @@ fn run_given(kind: u8, words: &[u32], front: &[u32], plan: &[u32], table: &[Slot
     }
 }
 
+fn run_front(
+    kind: u8,
+    words: &[u32],
+    front: &[u32],
+    plan: &[u32],
+    slots: &[Slot; MOST_NUMBERS],
+    n: usize,
+) {
+    let all = &slots[..];
+    if n <= all.len() {
+        run_given(kind, words, front, plan, &all[0..n]);
+    }
+}
+
 fn run_slots(kind: u8, words: &[u32], front: &[u32], plan: &[u32], table: &[u32]) {
     let mut slots = [0; MOST_NUMBERS];
-    let n = table.len();
-    if MOST_NUMBERS < n {
-        return;
-    }
-    let mut i = 0;
-    while i < n {
-        slots[i] = (table[i] % 256) as Slot;
-        i += 1;
-    }
-    run_given(kind, words, front, plan, &slots[0..n]);
+    let n = slots_of(table, &mut slots);
+    run_front(kind, words, front, plan, &slots, n);
 }

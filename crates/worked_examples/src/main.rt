@@ -2,6 +2,7 @@
 // are worked out from the paper, by hand.
 mod alone;
 mod at_site;
+mod counts;
 mod lines;
 mod listing;
 mod numbers;
