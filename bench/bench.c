@@ -4,11 +4,11 @@
  *
  *   bench [REPETITIONS]
  *
- * Planning and checking are the archive's calls; reading is planning that is refused for an empty
- * table; tabling is called through an entry made for this program. A time is the median of the
- * repetitions for one site, and of these the median over the sites of a family, with the most of
- * them in brackets. Ratios are taken in each repetition, and then in the same way. Ends with 1
- * where two implementations answer differently.
+ * Planning and checking are the archive's calls, checking also of two bad tables; reading is
+ * planning that is refused for an empty table; tabling is called through an entry made for this
+ * program. A time is the median of the repetitions for one site, and of these the median over the
+ * sites of a family, with the most of them in brackets. Ratios are taken in each repetition, and
+ * then in the same way. Ends with 1 where two implementations answer differently.
  */
 #define _POSIX_C_SOURCE 200809L
 #include "report.h"
@@ -22,10 +22,14 @@ enum { MOST_REPETITIONS = 101 };
 
 /* ---- Sites ---- */
 
+/* The plan's own table; one in which each core runs the lowest of its tasks all the time; and the
+   own one without the last slot of the last task that is kept. */
+enum given { OWN, TOO_MANY, LAST_SHORT, TABLES };
+
 /* One site, and the plain C's answer to it. */
 typedef struct {
     uint8_t text[TOWHEPAMU_MOST_TEXT_BYTES];
-    uint8_t plan[MOST_TASKS], table[TOWHEPAMU_MOST_TABLE_BYTES];
+    uint8_t plan[MOST_TASKS], tables[TABLES][TOWHEPAMU_MOST_TABLE_BYTES];
     uint32_t words[MOST_WORDS], choices[MOST_TASKS];
     size_t text_len, word_count, tasks, slots;
     towhepamu_planned answer;
@@ -39,22 +43,38 @@ static bool is_planned(void) {
     return sites[NO_IDLE].answer.refusal == TOWHEPAMU_ACCEPTED;
 }
 
+static void draw_bad_tables(const reference_instance *in, timed_site *site) {
+    size_t last = 0, slot = site->slots;
+    for (size_t i = in->tasks; i-- > 0;)
+        if (site->plan[i] != 0) {
+            size_t row = reference_core_of(in, site->plan[i]) * in->span;
+            memset(site->tables[TOO_MANY] + row, (int)i + 1, in->span);
+            last = last > 0 ? last : i + 1;
+        }
+    memcpy(site->tables[LAST_SHORT], site->tables[OWN], slot);
+    while (slot > 0 && site->tables[OWN][slot - 1] != last)
+        slot--;
+    if (slot > 0)
+        site->tables[LAST_SHORT][slot - 1] = 0;
+}
+
 static void set_site(size_t family, size_t number, enum idle idle) {
     timed_site *site = &sites[idle];
     reference_instance in;
-    *site = (timed_site){{0}, {0}, {0}, {0}, {0}, 0, 0, 0, 0, {0, 0, 0, 0, 0}};
+    memset(site, 0, sizeof *site);
     site->text_len = write_instance(family, number, idle, site->text);
     reference_words(site->text, site->text_len, site->words, MOST_WORDS, &site->word_count);
     if (reference_read(site->words, site->word_count, &in).refusal != TOWHEPAMU_ACCEPTED) {
         fprintf(stderr, "bench: %s is no site\n", family_name(family));
         exit(2);
     }
-    site->answer = reference_plan(site->text, site->text_len, site->plan, MOST_TASKS, site->table,
-                                  sizeof site->table);
+    site->answer = reference_plan(site->text, site->text_len, site->plan, MOST_TASKS,
+                                  site->tables[OWN], sizeof site->tables[OWN]);
     site->tasks = in.tasks;
     site->slots = in.cores * in.span;
     for (size_t i = 0; i < in.tasks; i++)
         site->choices[i] = site->plan[i];
+    draw_bad_tables(&in, site);
 }
 
 static void plan_by(const implementation *by, const timed_site *site, size_t table_len) {
@@ -66,9 +86,20 @@ static void tabulate_by(const implementation *by, const timed_site *site) {
                  sizeof spare_table);
 }
 
-static uint64_t check_by(const implementation *by, const timed_site *site) {
-    return by->check(site->text, site->text_len, site->plan, site->tasks, site->table, site->slots)
-        .refusal;
+static towhepamu_checked check_by(const implementation *by, const timed_site *site,
+                                  enum given table) {
+    return by->check(site->text, site->text_len, site->plan, site->tasks, site->tables[table],
+                     site->slots);
+}
+
+static bool checks_so(const implementation *by, const timed_site *site) {
+    bool same = check_by(by, site, OWN).refusal == TOWHEPAMU_ACCEPTED;
+    for (enum given table = TOO_MANY; table < TABLES; table++) {
+        towhepamu_checked answer = check_by(by, site, table);
+        towhepamu_checked expected = check_by(&implementations[PLAIN], site, table);
+        same = same && answer.refusal == expected.refusal && answer.place == expected.place;
+    }
+    return same;
 }
 
 /* Planning, tabling and checking have the plain C's answer. */
@@ -79,17 +110,17 @@ static bool answers_so(const implementation *by, const timed_site *site) {
                                         spare_table, sizeof spare_table);
     if (memcmp(&answer, &site->answer, sizeof answer) != 0 ||
         memcmp(spare_plan, site->plan, sizeof spare_plan) != 0 ||
-        memcmp(spare_table, site->table, sizeof spare_table) != 0)
+        memcmp(spare_table, site->tables[OWN], sizeof spare_table) != 0)
         return false;
     if (!is_planned())
         return true;
     memset(spare_table, 0, sizeof spare_table);
     if (by->tabulate != NULL) {
         tabulate_by(by, site);
-        if (memcmp(spare_table, site->table, sizeof spare_table) != 0)
+        if (memcmp(spare_table, site->tables[OWN], sizeof spare_table) != 0)
             return false;
     }
-    return check_by(by, site) == TOWHEPAMU_ACCEPTED;
+    return checks_so(by, site);
 }
 
 /* Whether there is an older state, and it knows deadlines where the site has some. */
@@ -113,10 +144,10 @@ static bool all_answer_so(void) {
 
 /* ---- Times, in microseconds of the processor: other programs on the machine do not count ---- */
 
-/* Before is timed for planning; without a plan there is nothing to table. */
+/* Before is timed for planning and checking; without a plan there is nothing to table or check. */
 static bool is_timed(enum operation o, size_t by) {
-    if (by == BEFORE && !has_idle_power(o))
-        return o == PLANNING && is_known_before();
+    if (by == BEFORE && (o == READING || o == TABLING || !is_known_before()))
+        return has_idle_power(o);
     return is_planned() || o < TABLING;
 }
 
@@ -134,7 +165,9 @@ static void make_call(enum operation o, size_t column) {
         tabulate_by(by, site);
         break;
     case CHECKING:
-        check_by(by, site);
+    case CHECKING_TOO_MANY:
+    case CHECKING_LAST_SHORT:
+        check_by(by, site, (enum given)(o - CHECKING));
         break;
     default:
         plan_by(by, site, sizeof spare_table);
@@ -208,6 +241,8 @@ int main(int argc, char **argv) {
     print_table(PLANNING, PLANNING);
     print_table(PLANNING_LOW, PLANNING_LOW);
     print_table(PLANNING_HIGH, PLANNING_HIGH);
-    print_table(READING, CHECKING);
+    print_table(READING, TABLING);
+    for (enum operation o = CHECKING; o < OPERATIONS; o++)
+        print_table(o, o);
     return same ? 0 : 1;
 }

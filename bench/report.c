@@ -3,9 +3,14 @@
 #include <stdio.h>
 #include <stdlib.h>
 
-static const char *const operation_names[OPERATIONS] = {
-    "planning", "planning, low idle power", "planning, high idle power", "reading", "tabling",
-    "checking"};
+static const char *const operation_names[OPERATIONS] = {"planning",
+                                                        "planning, low idle power",
+                                                        "planning, high idle power",
+                                                        "reading",
+                                                        "tabling",
+                                                        "checking",
+                                                        "checking slots too many",
+                                                        "checking a last job that is short"};
 static const char *const column_names[COLUMNS] = {"before", "now", "plain C", "now : before",
                                                   "now : plain C"};
 static const char *const idle_column_names[COLUMNS] = {"without", "now", "plain C", "now : without",

@@ -5,7 +5,17 @@
 #include "instances.h"
 #include "timed.h"
 
-enum operation { PLANNING, PLANNING_LOW, PLANNING_HIGH, READING, TABLING, CHECKING, OPERATIONS };
+enum operation {
+    PLANNING,
+    PLANNING_LOW,
+    PLANNING_HIGH,
+    READING,
+    TABLING,
+    CHECKING,
+    CHECKING_TOO_MANY,
+    CHECKING_LAST_SHORT,
+    OPERATIONS
+};
 
 /* Planning a site that has idle power. */
 bool has_idle_power(enum operation o);

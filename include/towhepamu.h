@@ -40,9 +40,9 @@ extern "C" {
 #endif
 
 /* The version of the header and the archive. */
-#define TOWHEPAMU_VERSION "1.3.0"
+#define TOWHEPAMU_VERSION "1.4.0"
 #define TOWHEPAMU_VERSION_MAJOR 1
-#define TOWHEPAMU_VERSION_MINOR 3
+#define TOWHEPAMU_VERSION_MINOR 4
 #define TOWHEPAMU_VERSION_PATCH 0
 
 /* The longest site file that is read, in bytes. */

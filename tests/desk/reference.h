@@ -1,5 +1,5 @@
 /*
- * Documents 01 and 02 (a) to (d) in plain C, written from the papers alone: what the archive is
+ * Documents 01 and 02 (a) to (e) in plain C, written from the papers alone: what the archive is
  * compared with and timed against. Choices and slots are bytes, as at the C interface.
  */
 #ifndef REFERENCE_H
@@ -80,6 +80,19 @@ towhepamu_planned reference_price(const reference_instance *instance, const uint
 /* The table of a given plan: refusals 6, 7, 8. */
 towhepamu_checked reference_tabulate(const reference_instance *instance, const uint8_t *plan,
                                      size_t plan_len, uint8_t *table, size_t table_len);
+
+/* The slots of one job, counted from its release towards the next one, to the first too many: one
+   more than its ticks, or one from its due tick on. `read` is how many slots that took. */
+typedef enum { COUNT_SHORT, COUNT_RIGHT, COUNT_OVER } reference_count;
+
+typedef struct {
+    reference_count count;
+    uint32_t read;
+} reference_counted;
+
+/* For a task, from 0, whose job takes so many ticks and is released at that tick of the row. */
+reference_counted reference_count_job(const reference_instance *instance, size_t task,
+                                      uint64_t ticks, const uint8_t *row, uint32_t release);
 
 /* The two checks of a given plan and table: of the slots alone, refusals 7, 9; and of the jobs too,
    refusals 7, 9, 10. */

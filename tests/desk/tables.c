@@ -53,21 +53,25 @@ static towhepamu_checked test_slots(const reference_instance *in, const uint8_t 
     return accepted;
 }
 
+reference_counted reference_count_job(const reference_instance *in, size_t task, uint64_t ticks,
+                                      const uint8_t *row, uint32_t release) {
+    uint32_t period = in->task[task].period, deadline = in->task[task].deadline;
+    uint64_t slots = 0;
+    for (uint32_t t = 0; t < period; t++) {
+        slots += row[release + t] == task + 1;
+        if (row[release + t] == task + 1 && (slots > ticks || t >= deadline))
+            return (reference_counted){COUNT_OVER, t + 1};
+    }
+    return (reference_counted){slots < ticks ? COUNT_SHORT : COUNT_RIGHT, period};
+}
+
 /* Whether every job of a kept task has exactly its ticks before it is due, and no slot after. */
 static bool is_served(const reference_instance *in, size_t task, uint8_t choice,
                       const uint8_t *row) {
-    uint32_t period = in->task[task].period, deadline = in->task[task].deadline;
-    for (uint32_t release = 0; release < in->span; release += period) {
-        uint64_t slots = 0;
-        for (uint32_t t = release; t < release + period; t++) {
-            bool runs = row[t] == task + 1;
-            if (runs && t >= release + deadline)
-                return false;
-            slots += runs;
-        }
-        if (slots != reference_ticks(in, task, reference_level_of(in, choice)))
+    uint64_t ticks = reference_ticks(in, task, reference_level_of(in, choice));
+    for (uint32_t release = 0; release < in->span; release += in->task[task].period)
+        if (reference_count_job(in, task, ticks, row, release).count != COUNT_RIGHT)
             return false;
-    }
     return true;
 }
 
