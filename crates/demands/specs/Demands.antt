@@ -1,6 +1,6 @@
 -- Demands 1 to 3: above each theorem stands the demand that it meets, in our words. What documents 00 to 02 say stands in
 -- quotation marks. What the theorems speak of is defined in document 01's words in the crates below, and in `Endings` and
--- `Planned`. What (b) and (c) of document 02 ask beside stands in `SleepDemands` and `DeadlineDemands`.
+-- `Planned`. What (b), (c) and (e) of document 02 ask beside stands in `SleepDemands`, `DeadlineDemands` and `CountDemands`.
 use Prim.Native.Nat.{ℕ, _+_, _-_, _*_, _≤_, _<_, _∣_}
 use mathlib.Core.Bool.{true, false, cond}
 use mathlib.Core.List.{List, [], _∷_, map, List·Memᴰ}
