@@ -98,10 +98,10 @@ module _ (table : List ℕ) (w levels number choice period d t : ℕ) where
   unfolding taskServed
   refused-task-is-served refused = rw (eq-eqb choice 0 refused) refl
 
-  pub kept-task-is-served-if-its-jobs-are : (choice ≡ 0 → ⊥) → (from n : ℕ) → from ≡ pred choice / levels * w → n ≡ w / period →
-      jobsServed table from number period d n t ≡ taskServed table w levels number choice period d t
+  pub kept-task-is-served-if-its-jobs-are : (choice ≡ 0 → ⊥) → (from n due : ℕ) → from ≡ pred choice / levels * w → n ≡ w / period → due ≡ d →
+      jobsServed table from number period due n t ≡ taskServed table w levels number choice period d t
   unfolding taskServed
-  kept-task-is-served-if-its-jobs-are kept from n row all = rw (ne-eqb choice 0 kept, row, all) refl
+  kept-task-is-served-if-its-jobs-are kept from n due row all same = rw (ne-eqb choice 0 kept, row, all, same) refl
 
 pub task-served-is-served : (p : Problem) (plan table : List ℕ) (i : ℕ) {w levels period d t : ℕ} → w ≡ span p → levels ≡ levelCount p →
     period ≡ taskAt p i .period → d ≡ window (taskAt p i) → t ≡ jobTicks p plan i →
@@ -109,12 +109,12 @@ pub task-served-is-served : (p : Problem) (plan table : List ℕ) (i : ℕ) {w l
 unfolding taskServed jobsServed jobServedAt isServed jobSlots lateSlots slotAt jobs
 task-served-is-served p plan table i wide many its-period its-window each = rw (add-one, wide, many, its-period, its-window, each) refl
 
-module _ (inst : Instance) (s : Sound inst) (i : ℕ) (h : i < taskCount (problemIn inst)) (d : ℕ) (e : d ≡ window (getD (inst .tasks) i noTask)) where
-  pub held-window : d ≡ window (taskAt (problemIn inst) i)
-  held-window = e ∙ ap (λ (t : Task). window t) (held-task inst s i h)
+module _ (inst : Instance) (s : Sound inst) (i : ℕ) (h : i < taskCount (problemIn inst)) where
+  pub held-window : window (getD (inst .tasks) i noTask) ≡ window (taskAt (problemIn inst) i)
+  held-window = ap (λ (t : Task). window t) (held-task inst s i h)
 
-  pub held-window-within-period : d ≤ getD (inst .tasks) i noTask .period
-  held-window-within-period = rw (held-window, held-task inst s i h) (s .valid .task i h .deadline .at-most)
+  pub held-window-within-period : window (getD (inst .tasks) i noTask) ≤ getD (inst .tasks) i noTask .period
+  held-window-within-period = rw (held-task inst s i h) (s .valid .task i h .deadline .at-most)
 
 module _ (inst : Instance) (s : Sound inst) (plan : List ℕ) (i : ℕ) (h : i < taskCount (problemIn inst)) where
   pub held-row-within : AllowedPlan (problemIn inst) plan → (n : ℕ) → n ≡ tableSize (problemIn inst) →

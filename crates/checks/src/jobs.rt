@@ -3,6 +3,7 @@ use crate::count::CountKind;
 use crate::count::count_job;
 use dispatch::Slot;
 use instance::Instance;
+use instance::Task;
 use plan_rules::core_of;
 use plan_rules::jobs_in;
 use plan_rules::level_of;
@@ -15,6 +16,7 @@ ghost use Prim.Native.Nat.{pred, _+_, _*_, _/_, _≤_, _<_};
 ghost use lib.ListN.{length};
 ghost use Rattle.instance.specs.Held.{Sound, problemIn};
 ghost use Rattle.plan_rules.specs.AllowedPlans.{AllowedPlan};
+ghost use Rattle.plan_rules.specs.Windows.{window};
 ghost use Rattle.checks.specs.Checks.{jobsPass};
 ghost use Rattle.checks.specs.HeldJobs.{jobsServed, taskServed};
 ghost use Rattle.tables.specs.Tables.{tableSize};
@@ -54,21 +56,21 @@ fn is_served(
     levels: usize,
     number: Slot,
     choice: u32,
-    period: u32,
-    window: usize,
+    task: Task,
     ticks: usize,
 ) -> bool
     requires { ⌜ 0 < levels ⌝ }
-    requires { ⌜ window ≤ period ⌝ }
+    requires { ⌜ window task ≤ task .period ⌝ }
     requires { ⌜ pred choice / levels * span + span ≤ length (now table) ⌝ }
-    ensures { λ r. ⌜ r ≡ taskServed (now (table .entry)) span levels number choice period window ticks ⌝ }
+    ensures { λ r. ⌜ r ≡ taskServed (now (table .entry)) span levels number choice (task .period) (window task) ticks ⌝ }
 {
     if choice == 0 {
         return true;
     }
     let from = core_of(choice, levels) * span as usize;
-    let jobs = jobs_in(span, period) as usize;
-    jobs_served(table, from, number, period as usize, window, jobs, ticks)
+    let jobs = jobs_in(span, task.period) as usize;
+    let due = window_of(task) as usize;
+    jobs_served(table, from, number, task.period as usize, due, jobs, ticks)
 }
 
 // The test of the jobs: none has more or fewer slots than its ticks.
@@ -86,19 +88,8 @@ pub(crate) fn jobs_pass(inst: Instance, plan: &[u32], table: &[Slot]) -> Verdict
         let choice = plan[i];
         let task = inst.tasks[i];
         let level = inst.levels[level_of(choice, levels)];
-        let period = task.period;
-        let window = window_of(task) as usize;
         let ticks = ticks_of(task.cycles, level.speed) as usize;
-        if !is_served(
-            table,
-            span,
-            levels,
-            number as Slot,
-            choice,
-            period,
-            window,
-            ticks,
-        ) {
+        if !is_served(table, span, levels, number as Slot, choice, task, ticks) {
             return Verdict::Refused(Refusal::JobSlots(number));
         }
         i += 1;

@@ -25,16 +25,25 @@ jobs-in-requires c κs = search needs
 cast-jobs : tie.Need-cast-jobs
 cast-jobs c = search needs
 
-jobs-within : (c : tie.After-jobs-in) → let a = c .before .before .before .before .args in c .jobs-in .result * a .period ≤ a .span
+window-of-requires : tie.Need-window-of-requires
+window-of-requires c κs = search needs
+
+cast-due : tie.Need-cast-due
+cast-due c = search needs
+
+jobs-within : (c : tie.After-jobs-in) → let a = c .before .before .before .before .args in c .jobs-in .result * a .task .period ≤ a .span
 jobs-within c = rw (c .jobs-in .ensures) (div-mul-le-self _ _)
 
+cast-jobs-served : tie.Need-cast-jobs-served
+cast-jobs-served c = search needs
+
 jobs-served-requires : tie.Need-jobs-served-requires
-jobs-served-requires c κs = let start = c .before .before .before .before in
-    (start .pre .1 .0, omega (arith, row-begins (c .before), start .pre .1 .1, jobs-within c))
+jobs-served-requires c κs = let start = c .before .before .before .before .before .before in
+    (rw (c .before .window-of .ensures) (start .pre .1 .0), omega (arith, row-begins (c .before .before .before), start .pre .1 .1, jobs-within (c .before .before)))
 
 returns-2 : tie.Need-returns-2
 returns-2 c = c .jobs-served .ensures
-    ∙ kept-task-is-served-if-its-jobs-are _ _ _ _ _ _ _ _ (c .before .before .before .if1 .left) _ _ (row-begins (c .before .before)) (c .before .jobs-in .ensures)
+    ∙ kept-task-is-served-if-its-jobs-are _ _ _ _ _ _ _ _ (c .before .before .before .before .before .if1 .left) _ _ _ (row-begins (c .before .before .before .before)) (c .before .before .before .jobs-in .ensures) (c .before .before .window-of .ensures)
 
 pub is-served-spec : {M : Type 1} → statement M
-is-served-spec = tie.close (tie.spec returns core-of-requires mul-from jobs-in-requires cast-jobs jobs-served-requires returns-2)
+is-served-spec = tie.close (tie.spec returns core-of-requires mul-from jobs-in-requires cast-jobs window-of-requires cast-due cast-jobs-served jobs-served-requires returns-2)

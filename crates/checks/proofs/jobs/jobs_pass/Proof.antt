@@ -32,16 +32,16 @@ is-task c = omega (arith, held-taskcount _ (c .before .before .before .before .p
 level-below : (c : tie.After-level-of Inv-loop μ-loop) → c .level-of .result < c .before .before .before .before .before .before .before .args .t1 .levelcount
 level-below c = rw (c .level-of .ensures) (mod-lt _ (level-count-above-zero _ (c .before .before .before .before .before .before .before .pre .0)))
 
-tested : (c : tie.After-is-served Inv-loop μ-loop) → let a = c .before .before .before .before .before .before .before .before .before .before .before .args in
-    not (isServed (problemIn (a .t1)) (a .plan .now) (a .table .now) (c .before .before .before .before .before .before .before .before .loop .i)) ≡ not (c .is-served .result)
-tested c = let start = c .before .before .before .before .before .before .before .before .before .before .before in
+tested : (c : tie.After-is-served Inv-loop μ-loop) → let a = c .before .before .before .before .before .before .before .before .before .before .args in
+    not (isServed (problemIn (a .t1)) (a .plan .now) (a .table .now) (c .before .before .before .before .before .before .before .loop .i)) ≡ not (c .is-served .result)
+tested c = let start = c .before .before .before .before .before .before .before .before .before .before in
     let s = start .pre .0 in
-    let i = c .before .before .before .before .before .before .before .before .loop .i in
-    let h = is-task (c .before .before .before .before .before .before .before) in
+    let i = c .before .before .before .before .before .before .before .loop .i in
+    let h = is-task (c .before .before .before .before .before .before) in
     let its-period = ap (λ (t : Task). t .period) (held-task _ s i h) in
-    let each = c .before .ticks-of .ensures ∙ held-job-ticks _ s (start .args .plan .now) i h _ (c .before .before .before .before .level-of .ensures) in
+    let each = c .before .ticks-of .ensures ∙ held-job-ticks _ s (start .args .plan .now) i h _ (c .before .before .before .level-of .ensures) in
     ap not (sym (c .is-served .ensures
-    ∙ task-served-is-served (problemIn (start .args .t1)) (start .args .plan .now) (start .args .table .now) i (held-span _ s) (held-levelcount _ s) its-period (held-window _ s i h _ (c .before .before .window-of .ensures)) each))
+    ∙ task-served-is-served (problemIn (start .args .t1)) (start .args .plan .now) (start .args .table .now) i (held-span _ s) (held-levelcount _ s) its-period (held-window _ s i h) each))
 
 loop-holds : tie.Need-loop-holds Inv-loop μ-loop
 loop-holds c = (omega arith, below-none _)
@@ -70,12 +70,6 @@ mul-level c = omega (arith, level-below c, level-count-at-most _ (c .before .bef
 element-copy-out-level : tie.Need-element-copy-out-level Inv-loop μ-loop
 element-copy-out-level c = omega (arith, level-below c, level-count-at-most _ (c .before .before .before .before .before .before .before .pre .0))
 
-window-of-requires : tie.Need-window-of-requires Inv-loop μ-loop
-window-of-requires c κs = search needs
-
-cast-window : tie.Need-cast-window Inv-loop μ-loop
-cast-window c = search needs
-
 ticks-of-requires : tie.Need-ticks-of-requires Inv-loop μ-loop
 ticks-of-requires c κs = search needs
 
@@ -83,35 +77,35 @@ cast-ticks : tie.Need-cast-ticks Inv-loop μ-loop
 cast-ticks c = search needs
 
 cast-is-served : tie.Need-cast-is-served Inv-loop μ-loop
-cast-is-served c = omega (arith, is-task (c .before .before .before .before .before .before), c .before .before .before .before .before .before .before .before .before .before .pre .0 .valid .task-count)
+cast-is-served c = omega (arith, is-task (c .before .before .before .before .before), c .before .before .before .before .before .before .before .before .before .pre .0 .valid .task-count)
 
 is-served-requires : tie.Need-is-served-requires Inv-loop μ-loop
-is-served-requires c κs = let start = c .before .before .before .before .before .before .before .before .before .before in
+is-served-requires c κs = let start = c .before .before .before .before .before .before .before .before .before in
     let s = start .pre .0 in
-    let h = is-task (c .before .before .before .before .before .before) in
-    (level-count-above-zero _ s, (held-window-within-period _ s _ h _ (c .before .window-of .ensures), held-row-within _ s _ _ h (start .pre .1 .0) _ (start .pre .1 .1)))
+    let h = is-task (c .before .before .before .before .before) in
+    (level-count-above-zero _ s, (held-window-within-period _ s _ h, held-row-within _ s _ _ h (start .pre .1 .0) _ (start .pre .1 .1)))
 
 returns : tie.Need-returns Inv-loop μ-loop
 unfolding jobsPass
-returns c = let start = c .before .before .before .before .before .before .before .before .before .before .before .before in
+returns c = let start = c .before .before .before .before .before .before .before .before .before .before .before in
     let wanted = held-taskcount _ (start .pre .0) in
     rw add-one
     (found-is-refused (λ n. JobSlots (suc n)) _ _ wanted _ _
     (sym (first-unique _ (record {
-      at-most = omega (arith, c .before .before .before .before .before .before .before .before .loop-test .taken, wanted);
-      none-below = c .before .before .before .before .before .before .before .before .before .loop .inv .1;
+      at-most = omega (arith, c .before .before .before .before .before .before .before .loop-test .taken, wanted);
+      none-below = c .before .before .before .before .before .before .before .before .loop .inv .1;
       passes-below = λ _. tested (c .before) ∙ c .if1 .taken;
     })))
-    (c .before .before .before .before .before .before .before .before .loop-test .taken))
+    (c .before .before .before .before .before .before .before .loop-test .taken))
 
 add-i : tie.Need-add-i Inv-loop μ-loop
 add-i c = omega arith
 
 loop-less : tie.Need-loop-less Inv-loop μ-loop
-loop-less c = omega (arith, c .before .before .before .before .before .before .before .before .loop-test .taken)
+loop-less c = omega (arith, c .before .before .before .before .before .before .before .loop-test .taken)
 
 loop-again : tie.Need-loop-again Inv-loop μ-loop
-loop-again c = (omega (arith, c .before .before .before .before .before .before .before .before .loop-test .taken), below-more _ _ (c .before .before .before .before .before .before .before .before .before .loop .inv .1) (tested (c .before) ∙ c .if1 .left))
+loop-again c = (omega (arith, c .before .before .before .before .before .before .before .loop-test .taken), below-more _ _ (c .before .before .before .before .before .before .before .before .loop .inv .1) (tested (c .before) ∙ c .if1 .left))
 
 returns-2 : tie.Need-returns-2 Inv-loop μ-loop
 unfolding jobsPass
@@ -136,8 +130,6 @@ jobs-pass-spec =
     level-of-requires
     mul-level
     element-copy-out-level
-    window-of-requires
-    cast-window
     ticks-of-requires
     cast-ticks
     cast-is-served
