@@ -1,8 +1,9 @@
 -- Demands 1 to 3: above each theorem stands the demand that it meets, in our words. What documents 00 to 02 say stands in
 -- quotation marks. What the theorems speak of is defined in document 01's words in the crates below, and in `Endings` and
--- `Planned`. What (b), (c) and (e) of document 02 ask beside stands in `SleepDemands`, `DeadlineDemands` and `CountDemands`.
+-- `Planned`. What (b), (c), (e) and (f) of document 02 ask beside stands in `SleepDemands`, `DeadlineDemands`, `CountDemands` and
+-- `DispatchDemands`.
 use Prim.Native.Nat.{ℕ, _+_, _-_, _*_, _≤_, _<_, _∣_}
-use mathlib.Core.Bool.{true, false, cond}
+use mathlib.Core.Bool.{Bool, true, false, cond}
 use mathlib.Core.List.{List, [], _∷_, map, List·Memᴰ}
 use mathlib.Core.Logic.{_↔_}
 use mathlib.Core.Option.{none, some}
@@ -27,7 +28,7 @@ use Rattle.text.specs.SpelledLaws.{AllWords, spelled-is-read-back}
 use Rattle.text.specs.Text.{wordsOf}
 use Rattle.instance.specs.Valid.{Valid, Writes}
 use Rattle.refusals.specs.declared.Refusal.{Refusal}
-use Rattle.refusals.specs.declared.Refusal.the-variants.{Text, WordCount, WordRange, SpanTooLong, NoPlan, ShortBuffer, GivenPlan, CoreOverloaded, GivenTable, JobSlots, SwitchingWord}
+use Rattle.refusals.specs.declared.Refusal.the-variants.{Text, WordCount, WordRange, SpanTooLong, NoPlan, ShortBuffer, GivenPlan, CoreOverloaded, GivenTable, JobSlots, SwitchingWord, CoreOrState, EarlyEnd}
 use Rattle.refusals.specs.declared.Verdict.the-variants.{Accepted, Refused}
 use Rattle.text.specs.declared.TextRead.the-variants as TextRead
 use Rattle.drawings.specs.CheckTheorem.{check-accepts-exactly-drawings, check-accepts-exactly-drawn-tables}
@@ -61,6 +62,12 @@ use Rattle.planner.specs.PlannedLaws.{planOutcome-is-planned}
 use Rattle.planner.specs.Planning.{bestPlan}
 use Rattle.sleep.specs.EndingLaws.{sleeping-ends}
 use Rattle.sleep.specs.Outcomes.{sleepOutcome, SleepingEnds}
+use Rattle.dispatcher.specs.EndingLaws.{dispatching-ends, preparing-ends, core-tick-ends}
+use Rattle.dispatcher.specs.Outcomes.{dispatchOutcome, DispatchingEnds}
+use Rattle.dispatcher.specs.Preparing.{Prepares, PreparingEnds, CoreTickEnds, coreOutcome}
+use Rattle.dispatcher.specs.declared.DispatchState.{DispatchState}
+use Rattle.dispatcher.specs.declared.preparing.Prepared.{Prepared}
+use Rattle.dispatcher.specs.declared.preparing.PreparedCore.{PreparedCore}
 
 -- Demand 1. Every call comes to an end, whatever text, words, plan or table it is given. It does its work, or it returns the
 -- number and the place of the refusal that the papers have for that input, and then every buffer lent to it is as before.
@@ -73,10 +80,10 @@ pub record RefusalsExact : Type 0 where
       map (λ (r : Refusal). answerOf (Refused r))
       (Text place ∷ WordCount place ∷ WordRange place ∷ SpanTooLong place ∷ NoPlan
       ∷ ShortBuffer place ∷ GivenPlan place ∷ CoreOverloaded place ∷ GivenTable place ∷ JobSlots place
-      ∷ SwitchingWord place ∷ [])
+      ∷ SwitchingWord place ∷ CoreOrState ∷ EarlyEnd ∷ [])
       ≡ answer 1 place ∷ answer 2 place ∷ answer 3 place ∷ answer 4 place ∷ answer 5 0
       ∷ answer 6 place ∷ answer 7 place ∷ answer 8 place ∷ answer 9 place ∷ answer 10 place
-      ∷ answer 11 place ∷ []
+      ∷ answer 11 place ∷ answer 12 0 ∷ answer 13 0 ∷ []
   pub no-other-refusals : (r : Refusal) → List·Memᴰ r (refusalsAt (placeOf r))
   -- "Turning text into words: 1, then 6."
   pub text : (text words : List ℕ) → let o = wordsOutcome text words in TextEnds text words (o .answer) (o .words)
@@ -98,6 +105,12 @@ pub record RefusalsExact : Type 0 where
   pub sleeping : (words plan table : List ℕ) (energy time : ℕ) (energies sleeps : List ℕ) →
       let o = sleepOutcome words plan table energy time energies sleeps in
       SleepingEnds words plan table energy time energies sleeps (o .answer) (o .energies) (o .sleeps)
+  -- document 02 (f): 2, 3, 4; then 7 and 8; then 12; "then 13"; a refusal leaves "the state as handed in"
+  pub dispatching : (words plan : List ℕ) (core : ℕ) (s : DispatchState) (ended : Bool) →
+      DispatchingEnds words plan core s ended (dispatchOutcome words plan core s ended)
+  -- the same in two: a core that is prepared once, 2, 3, 4, 7, 8, then 12 of the core; and a tick over it, 12, "then 13"
+  pub preparing : (words plan : List ℕ) (core : ℕ) (prepared : Prepared) → Prepares words plan core prepared → PreparingEnds words plan core prepared
+  pub ticking : (core : PreparedCore) (s : DispatchState) (ended : Bool) → CoreTickEnds core s ended (coreOutcome core s ended)
   -- none is turned down without need: words written out in base ten are taken from the text as they are, ..
   pub written-words-are-taken : (words : List ℕ) → AllWords words → length (spelled words) ≤ mostTextBytes →
       wordsOf (spelled words) ≡ accepted words
@@ -124,6 +137,9 @@ demand-1 =
       checking = checking-ends;
       planning = planning-ends;
       sleeping = sleeping-ends;
+      dispatching = dispatching-ends;
+      preparing = preparing-ends;
+      ticking = core-tick-ends;
       written-words-are-taken = spelled-is-read-back;
       valid-instances-are-read = λ p words. valid-is-accepted;
       no-others-are-read = λ words p read. (accepted-is-valid words read, accepted-is-written words read);

@@ -3,8 +3,10 @@ pub mod Demands
 pub mod SleepDemands
 pub mod DeadlineDemands
 pub mod CountDemands
+pub mod DispatchDemands
 pub mod TextCalls
 pub mod TextCallLaws
 pub mod TextEndingLaws
+pub mod NodeLaws
 pub mod TextDemands
 pub mod Cases

@@ -1,6 +1,7 @@
 -- The calls that are given text end as those that are given its words, with 1 before all the rest; and the listing prints a
 -- refusal's line or the best plan.
 use Prim.Native.Nat.{ℕ}
+use mathlib.Core.Bool.{Bool}
 use mathlib.Core.List.{List, [], _∷_, List·Memᴰ·tail, Memᴰ·append-left}
 use mathlib.Core.Logic.{_↔_}
 use mathlib.Core.Option.{Option, none, some}
@@ -14,7 +15,7 @@ use Rattle.refusals.specs.Refusals.{Answer, numberOf, answerOf, Reading, room, 
 use Rattle.instance.specs.SiteFile.{problemOf}
 use Rattle.instance.specs.SiteFileLaws.{accepted-is-valid}
 use Rattle.refusals.specs.declared.Refusal.{Refusal}
-use Rattle.refusals.specs.declared.Refusal.the-variants.{Text, WordCount, WordRange, SpanTooLong, NoPlan, ShortBuffer, GivenPlan, CoreOverloaded, GivenTable, JobSlots, SwitchingWord}
+use Rattle.refusals.specs.declared.Refusal.the-variants.{Text, WordCount, WordRange, SpanTooLong, NoPlan, ShortBuffer, GivenPlan, CoreOverloaded, GivenTable, JobSlots, SwitchingWord, CoreOrState, EarlyEnd}
 use Rattle.refusals.specs.declared.Verdict.{Verdict}
 use Rattle.refusals.specs.declared.Verdict.the-variants.{Accepted, Refused}
 use Rattle.text.specs.OutcomeLaws.{text-refuses-1}
@@ -36,9 +37,13 @@ use Rattle.planner.specs.Planned.{Optimal}
 use Rattle.planner.specs.Planning.{bestPlan}
 use Rattle.sleep.specs.EndingLaws.{sleeping-ends}
 use Rattle.sleep.specs.Outcomes.{sleepTests}
+use Rattle.dispatcher.specs.EndingLaws.{dispatching-ends}
+use Rattle.dispatcher.specs.Outcomes.{DispatchEnds, dispatchTests}
+use Rattle.dispatcher.specs.declared.DispatchState.{DispatchState}
 use Rattle.towhepamu.specs.CallOutcomes.{plannedOf, checkedOf, textPlanOutcome, textPlanOutcomeOf, textSlotCheckOutcome, textSlotCheckOutcomeOf, textCheckOutcome, textCheckOutcomeOf, textSleepOutcome, textSleepOutcomeOf}
+use Rattle.towhepamu.specs.CallOutcomes.{taskToRunOf, textDispatchOutcome, textDispatchOutcomeOf}
 use Rattle.listings.specs.Listing.{listingOfPlan, listingOfProblem, listingOfWords, listingOf}
-use Rattle.demands.specs.TextCalls.{WritesProblem, TextPlanningEnds, TextSlotCheckingEnds, TextCheckingEnds, TextSleepingEnds, answerPlanned, answerChecked, OptimalNumbers, Prints}
+use Rattle.demands.specs.TextCalls.{WritesProblem, TextPlanningEnds, TextSlotCheckingEnds, TextCheckingEnds, TextSleepingEnds, TextDispatchingEnds, answerPlanned, answerChecked, answerTask, OptimalNumbers, Prints}
 
 -- a call that may return one number more
 one-more-number : {n : ℕ} {numbers : List ℕ} {buffers : List Lent} {a : Answer} →
@@ -122,6 +127,26 @@ text-sleeping-ends text plan table energy time energies sleeps = go (text-refuse
     go (read words) = may-return (sleeping-ends words plan table energy time energies sleeps)
     go (unread m) = turns-down (Memᴰ·append-left (2 ∷ 3 ∷ 4 ∷ 11 ∷ 6 ∷ 7 ∷ 9 ∷ 10 ∷ []) m) (unchanged, (unchanged, tt))
 
+pub text-dispatching-ends : (text plan : List ℕ) (core : ℕ) (s : DispatchState) (ended : Bool) →
+    TextDispatchingEnds text plan core s ended (textDispatchOutcome text plan core s ended)
+unfolding textDispatchOutcome
+text-dispatching-ends text plan core s ended = go (text-refuses-1 text)
+  where
+    go : {reading : Reading (List ℕ)} → UnreadOnly (1 ∷ []) reading →
+        DispatchEnds
+        (readThen reading (λ words. readThen (problemOf words) (λ p. dispatchTests p plan core s ended)))
+        (1 ∷ 2 ∷ 3 ∷ 4 ∷ 7 ∷ 8 ∷ 12 ∷ 13 ∷ [])
+        s
+        (textDispatchOutcomeOf reading plan core s ended)
+    go (read words) =
+        let of-words = dispatching-ends words plan core s ended in
+        record { as-tested = may-return (of-words .as-tested); refused-as-handed-in = of-words .refused-as-handed-in }
+    go (unread m) =
+        record {
+          as-tested = turns-down (Memᴰ·append-left (2 ∷ 3 ∷ 4 ∷ 7 ∷ 8 ∷ 12 ∷ 13 ∷ []) m) tt;
+          refused-as-handed-in = λ r e. (refl, refl);
+        }
+
 -- the numbers that the C entries return are those of the verdict
 
 pub planning-returns : (given : Priced) → answerPlanned (plannedOf given) ≡ answerOf (priceVerdict given)
@@ -131,6 +156,10 @@ planning-returns (Priced.Refused r) = refl
 pub checking-returns : (verdict : Verdict) → answerChecked (checkedOf verdict) ≡ answerOf verdict
 checking-returns Accepted = refl
 checking-returns (Refused r) = refl
+
+pub dispatching-returns : (verdict : Verdict) (task : ℕ) → answerTask (taskToRunOf verdict task) ≡ answerOf verdict
+dispatching-returns Accepted task = refl
+dispatching-returns (Refused r) task = refl
 
 -- no other refusal has the number of "no plan"
 number-5-is-no-plan : (r : Refusal) → numberOf r ≡ 5 → r ≡ NoPlan
@@ -145,6 +174,8 @@ number-5-is-no-plan (CoreOverloaded place) e = absurd (omega arith)
 number-5-is-no-plan (GivenTable place) e = absurd (omega arith)
 number-5-is-no-plan (JobSlots place) e = absurd (omega arith)
 number-5-is-no-plan (SwitchingWord place) e = absurd (omega arith)
+number-5-is-no-plan CoreOrState e = absurd (omega arith)
+number-5-is-no-plan EarlyEnd e = absurd (omega arith)
 
 returns-5 : (given : Priced) → plannedOf given .refusal ≡ 5 → given ≡ Priced.Refused NoPlan
 returns-5 (Priced.Cost price) e = absurd (omega arith)

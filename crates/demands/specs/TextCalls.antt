@@ -1,6 +1,7 @@
--- What is promised of the calls that are given text: reading, planning, the check, the reckoning of sleeps and the listing from C, and
--- what is printed. "In any other call that is given text, 1 comes before all the rest."
+-- What is promised of the calls that are given text: reading, planning, the check, the reckoning of sleeps, dispatching, preparing a core
+-- for it and the listing from C, and what is printed. "In any other call that is given text, 1 comes before all the rest."
 use Prim.Native.Nat.{ℕ}
+use mathlib.Core.Bool.{Bool}
 use mathlib.Core.List.{List, [], _∷_}
 use mathlib.Core.Logic.{_↔_}
 use mathlib.Core.Path.{_≡_}
@@ -24,11 +25,18 @@ use Rattle.planner.specs.Endings.{planFound}
 use Rattle.planner.specs.Planned.{NoDrawing, BestDrawing}
 use Rattle.planner.specs.Planning.{bestPlan}
 use Rattle.sleep.specs.Outcomes.{sleepTests}
-use Rattle.towhepamu.specs.CallOutcomes.{plannedOf}
+use Rattle.dispatcher.specs.Outcomes.{DispatchEnds, dispatchTests, preparingTests}
+use Rattle.dispatcher.specs.Preparing.{coreOutcome}
+use Rattle.dispatcher.specs.States.{freshState}
+use Rattle.dispatcher.specs.declared.DispatchState.{DispatchState}
+use Rattle.dispatcher.specs.declared.Dispatched.{Dispatched}
+use Rattle.towhepamu.specs.CallOutcomes.{plannedOf, checkedOf, textDispatchOutcome}
 use Rattle.towhepamu.specs.declared.answers.Checked.{Checked}
 use Rattle.towhepamu.specs.declared.answers.Listed.{Listed}
 use Rattle.towhepamu.specs.declared.answers.Planned.{Planned}
 use Rattle.towhepamu.specs.declared.answers.Site.{Site}
+use Rattle.towhepamu.specs.declared.answers.TaskToRun.{TaskToRun}
+use Rattle.towhepamu.specs.declared.nodes.PreparedNode.{PreparedNode}
 use Rattle.listing_lines.specs.ListingLines.{refusalLine, planLines}
 use Rattle.listings.specs.Listing.{mostListing, listingOf}
 use Rattle.listings.specs.Outcomes.{listVerdict}
@@ -89,6 +97,23 @@ TextSleepingEnds text plan table energy time energies sleeps given energiesAfter
     (lent cores energies energiesAfter ∷ lent cores sleeps sleepsAfter ∷ [])
     given
 
+-- 1; 2, 3, 4; then 7 and 8; then 12; then 13
+abbrev pub TextDispatchingEnds : (text plan : List ℕ) → ℕ → DispatchState → Bool → Dispatched → Type 0
+TextDispatchingEnds text plan core s ended =
+    DispatchEnds (textThen text (λ p. dispatchTests p plan core s ended)) (1 ∷ 2 ∷ 3 ∷ 4 ∷ 7 ∷ 8 ∷ 12 ∷ 13 ∷ []) s
+
+-- 1; 2, 3, 4; then 7 and 8; then 12 of the core. A refusal leaves the node as it was lent, and an accepted core begins with a fresh
+-- start.
+pub record NodePreparingEnds (text plan : List ℕ) (core : ℕ) (before : PreparedNode) (answer : Checked) (after : PreparedNode) : Type 0 where
+  pub verdict : Verdict
+  pub as-tested : Ends (textThen text (λ p. preparingTests p plan core)) (1 ∷ 2 ∷ 3 ∷ 4 ∷ 7 ∷ 8 ∷ 12 ∷ []) [] verdict
+  pub same-answer : answer ≡ checkedOf verdict
+  pub refused-as-lent : (r : Refusal) → verdict ≡ Refused r → after ≡ before
+  pub fresh-start : verdict ≡ Accepted → after .state ≡ freshState
+  -- a tick over it is the call for this text, plan and core
+  pub ticks-as-dispatched : verdict ≡ Accepted → (s : DispatchState) (ended : Bool) →
+      coreOutcome (after .core) s ended ≡ textDispatchOutcome text plan core s ended
+
 -- 1; 2, 3, 4; then 6, for which the longest listing of all counts; then 5
 abbrev pub TextListingEnds : List ℕ → List ℕ → PlanListed → List ℕ → Type 0
 TextListingEnds text out given after =
@@ -107,6 +132,9 @@ answerPlanned r = answer (r .refusal) (r .place)
 
 abbrev pub answerChecked : Checked → Answer
 answerChecked r = answer (r .refusal) (r .place)
+
+abbrev pub answerTask : TaskToRun → Answer
+answerTask r = answer (r .refusal) (r .place)
 
 abbrev pub answerListed : Listed → Answer
 answerListed r = answer (r .refusal) (r .place)

@@ -1,7 +1,8 @@
 -- The demands of the calls that are given text: `towhepamu_read`, `towhepamu_plan`, `towhepamu_check_slots`, `towhepamu_check`,
--- `towhepamu_sleep` and `towhepamu_list`, which a program in C calls, and `list_site`, whose bytes the listing program prints. Their
--- contracts equate what they return and write with the outcomes named here.
+-- `towhepamu_sleep`, `towhepamu_dispatch`, `towhepamu_prepare` and `towhepamu_list`, which a program in C calls, and `list_site`, whose
+-- bytes the listing program prints. Their contracts equate what they return and write with the outcomes named here.
 use Prim.Native.Nat.{ℕ, _≤_}
+use mathlib.Core.Bool.{Bool}
 use mathlib.Core.List.{List}
 use mathlib.Core.Logic.{_↔_}
 use mathlib.Core.Path.{_≡_}
@@ -12,11 +13,17 @@ use Rattle.drawings.specs.Drawings.{Drawing}
 use Rattle.prices.specs.Outcomes.{priceVerdict}
 use Rattle.tables.specs.Tables.{tableSize}
 use Rattle.demands.specs.Demands.{demand-3}
+use Rattle.dispatcher.specs.declared.DispatchState.{DispatchState}
 use Rattle.towhepamu.specs.CallOutcomes.{siteOf, plannedOf, checkedOf, listedOf, textReadOutcome, textPlanOutcome, textSlotCheckOutcome, textCheckOutcome, textSleepOutcome}
+use Rattle.towhepamu.specs.CallOutcomes.{taskToRunOf, textDispatchOutcome}
+use Rattle.towhepamu.specs.PreparedNodes.{PreparesNode}
+use Rattle.towhepamu.specs.declared.answers.Checked.{Checked}
+use Rattle.towhepamu.specs.declared.nodes.PreparedNode.{PreparedNode}
 use Rattle.listings.specs.Listing.{listingOf}
 use Rattle.listings.specs.Outcomes.{listOutcome, listVerdict}
-use Rattle.demands.specs.TextCallLaws.{text-planning-ends, text-slot-checking-ends, text-checking-ends, text-sleeping-ends, planning-returns, checking-returns, optimal-numbers, listing-prints, planned-as-words, checked-as-words, passes-iff}
-use Rattle.demands.specs.TextCalls.{WritesProblem, readVerdict, TextReadingEnds, TextPlanningEnds, TextSlotCheckingEnds, TextCheckingEnds, TextSleepingEnds, TextListingEnds, answerSite, answerPlanned, answerChecked, answerListed, OptimalNumbers, Prints}
+use Rattle.demands.specs.NodeLaws.{preparing-node-ends}
+use Rattle.demands.specs.TextCallLaws.{text-planning-ends, text-slot-checking-ends, text-checking-ends, text-sleeping-ends, text-dispatching-ends, planning-returns, checking-returns, dispatching-returns, optimal-numbers, listing-prints, planned-as-words, checked-as-words, passes-iff}
+use Rattle.demands.specs.TextCalls.{WritesProblem, readVerdict, TextReadingEnds, TextPlanningEnds, TextSlotCheckingEnds, TextCheckingEnds, TextSleepingEnds, TextDispatchingEnds, NodePreparingEnds, TextListingEnds, answerSite, answerPlanned, answerChecked, answerTask, answerListed, OptimalNumbers, Prints}
 use Rattle.demands.specs.TextEndingLaws.{text-reading-ends, text-listing-ends, reading-returns, listing-returns}
 
 -- Demand 1. Whatever text, plan and table it is given, each of these calls does its work or returns the number and place of
@@ -46,6 +53,14 @@ pub record TextRefusalsExact : Type 0 where
       TextSleepingEnds text plan table energy time energies sleeps (o .answer) (o .energies) (o .sleeps)
   pub sleeping-numbers : (text plan table : List ℕ) (energy time : ℕ) (energies sleeps : List ℕ) →
       let v = textSleepOutcome text plan table energy time energies sleeps .answer in answerChecked (checkedOf v) ≡ answerOf v
+  -- dispatching from C: 1; 2, 3, 4; 7; 8; 12; 13
+  pub dispatching : (text plan : List ℕ) (core : ℕ) (s : DispatchState) (ended : Bool) →
+      TextDispatchingEnds text plan core s ended (textDispatchOutcome text plan core s ended)
+  pub dispatching-numbers : (text plan : List ℕ) (core : ℕ) (s : DispatchState) (ended : Bool) →
+      let o = textDispatchOutcome text plan core s ended in answerTask (taskToRunOf (o .verdict) (o .task)) ≡ answerOf (o .verdict)
+  -- preparing a core from C: 1; 2, 3, 4; 7; 8; 12. `towhepamu_tick` over it answers as `ticking` of demand 1 has it.
+  pub preparing : (text plan : List ℕ) (core : ℕ) (before : PreparedNode) (answer : Checked) (after : PreparedNode) →
+      PreparesNode text plan core before answer after → NodePreparingEnds text plan core before answer after
   -- the listing from C: 1; 2, 3, 4; 6; 5
   pub listing : (text out : List ℕ) → let o = listOutcome text out in TextListingEnds text out (o .answer) (o .out)
   pub listing-numbers : (text out : List ℕ) →
@@ -67,6 +82,10 @@ demand-1-of-text =
       sleeping = text-sleeping-ends;
       sleeping-numbers = λ text plan table energy time energies sleeps.
           checking-returns (textSleepOutcome text plan table energy time energies sleeps .answer);
+      dispatching = text-dispatching-ends;
+      dispatching-numbers = λ text plan core s ended.
+          let o = textDispatchOutcome text plan core s ended in dispatching-returns (o .verdict) (o .task);
+      preparing = preparing-node-ends;
       listing = text-listing-ends;
       listing-numbers = λ text out. listing-returns (listOutcome text out .answer);
       printing = listing-prints;

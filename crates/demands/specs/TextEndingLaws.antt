@@ -38,7 +38,7 @@ read-then-accepts : {A : Type 0} (reading : Reading A) (tests : A → Verdict) �
 read-then-accepts (Reading.refused r) tests e = let z : _≡_ {A = ℕ} 0 1 = cc in absurd (omega arith)
 read-then-accepts (Reading.accepted a) tests e = (a, e)
 
-text-then-refuses : (text : List ℕ) {others : List ℕ} {tests : Problem → Verdict} → ((p : Problem) → RefusesOnly others (tests p)) →
+pub text-then-refuses : (text : List ℕ) {others : List ℕ} {tests : Problem → Verdict} → ((p : Problem) → RefusesOnly others (tests p)) →
     RefusesOnly (1 ∷ 2 ∷ 3 ∷ 4 ∷ others) (textThen text tests)
 text-then-refuses text next = read-then-refuses (text-refuses-1 text) (λ words. read-then-refuses (reading-refuses-2-3-4 words) next)
 

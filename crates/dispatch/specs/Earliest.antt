@@ -1,8 +1,8 @@
 -- What `earliest` chooses, as a relation: the earliest due of the tasks that have ticks left, of equal ones the lowest.
-use Prim.Native.Nat.{ℕ, zero, suc, pred, _≤_, _<_, zero-le}
+use Prim.Native.Nat.{ℕ, zero, suc, pred, _+_, _≤_, _<_, zero-le}
 use mathlib.Core.Bool.{Bool, true, false, cond}
 use mathlib.Core.Logic.{⊎-elim}
-use mathlib.Core.Path.{_≡_, refl}
+use mathlib.Core.Path.{_≡_, refl, sym, _∙_}
 use native.Mathlib.Nat.{le-step, le-refl, le-of-lt, pos-of-ne-zero, eq-zero-or-pos}
 use native.Mathlib.Omega.{arith}
 use lib.Dec.{eqb, ltb}
@@ -95,6 +95,18 @@ choice-among-same {due} {left} {due₂} {left₂} to from (Choice.runs k l has f
     (rw (there .1) at has)
     (λ i m some. let back = from i m some in omega (arith, first i (back .0) (rw (back .1) at some)))
     (λ i m some. let back = from i (omega arith) some in omega (arith, lower i m (rw (back .1) at some)))
+
+-- all due ticks may be moved alike
+pub choice-moved : {due left due₂ left₂ : ℕ → ℕ} {n number : ℕ} (c : ℕ) → ((i : ℕ) → i < n → left i ≡ left₂ i) →
+    ((i : ℕ) → i < n → due₂ i ≡ due i + c) → Choice due left n number → Choice due₂ left₂ n number
+choice-moved c same moved (Choice.idle all) = Choice.idle (λ i l. sym (same i l) ∙ all i l)
+choice-moved {n = n} c same moved (Choice.runs k l has first lower) =
+    Choice.runs
+    k
+    l
+    (rw (same k l) at has)
+    (λ i m some. omega (arith, moved k l, moved i m, first i m (rw (same i m) some)))
+    (λ i m some. let below : i < n = omega arith in omega (arith, moved k l, moved i below, lower i m (rw (same i below) some)))
 
 pub chosen-le-size : {due left : ℕ → ℕ} {n number : ℕ} → Choice due left n number → number ≤ n
 chosen-le-size (Choice.idle all) = zero-le

@@ -1,6 +1,8 @@
 pub mod Rows
 pub mod Earliest
 pub mod DispatchLaws
+pub mod Calls
+pub mod CallLaws
 pub mod Runs
 pub mod SelectedTasks
 pub mod Columns

@@ -23,7 +23,7 @@ unfolding numbered
 numbered-task number zero some = absurd (omega arith)
 numbered-task number (suc j) some = let place : j ≡ suc j - 1 = omega arith in ap number place
 
-numbered-same : (number number₂ : ℕ → ℕ) (n : ℕ) → ((j : ℕ) → j < n → number j ≡ number₂ j) →
+pub numbered-same : (number number₂ : ℕ → ℕ) (n : ℕ) → ((j : ℕ) → j < n → number j ≡ number₂ j) →
     (slot : ℕ) → slot ≤ n → numbered number slot ≡ numbered number₂ slot
 unfolding numbered
 numbered-same number number₂ n same zero l = refl
@@ -46,25 +46,19 @@ module _ (core kept : CoreTasks) (place : ℕ → ℕ) (selected : Selected core
   place-le i j l m =
       ⊎-elim (λ (e : i ≡ j). rw e (omega arith)) (λ (b : i < j). omega (arith, selected .ascending i j b m)) (eq-or-lt-of-le l)
 
-  -- both have the same left
-  abbrev SameLeft : ℕ → Type 0
-  SameLeft t = (j : ℕ) → j < kept .size → leftAt kept t j ≡ leftAt core t (place j)
-
-  module _ (t : ℕ) (left : SameLeft t) where
-    same-ready : (j : ℕ) → j < kept .size → readyAt kept t j ≡ readyAt core t (place j)
-    unfolding readyAt afterRelease
-    same-ready j l = rw (selected .same-period j l, selected .same-ticks j l, left j l)
-
+  -- each selected task has as many ticks left as on the core, where only tasks with ticks have some left
+  module _ (t : ℕ) (left leftOfKept : ℕ → ℕ) (same : (j : ℕ) → j < kept .size → leftOfKept j ≡ left (place j))
+      (no-others : (i : ℕ) → i < core .size → 0 < left i → 0 < core .ticks i) where
     same-due : (j : ℕ) → j < kept .size → dueAt kept t j ≡ dueAt core t (place j)
     unfolding dueAt
     same-due j l = rw (selected .same-period j l, selected .same-window j l)
 
     -- a task with ticks left is among the selected
-    is-selected : (i : ℕ) → i < core .size → 0 < readyAt core t i → (j : ℕ) × (j < kept .size) × (place j ≡ i)
-    is-selected i l some = selected .every-task i l (lt-of-lt-of-le some (ready-le-ticks core t i l))
+    is-selected : (i : ℕ) → i < core .size → 0 < left i → (j : ℕ) × (j < kept .size) × (place j ≡ i)
+    is-selected i l some = selected .every-task i l (no-others i l some)
 
-    choice-of-all : {slot : ℕ} → Choice (dueAt kept t) (readyAt kept t) (kept .size) slot →
-        Choice (dueAt core t) (readyAt core t) (core .size) (numbered number slot)
+    pub choice-of-all : {slot : ℕ} → Choice (dueAt kept t) leftOfKept (kept .size) slot →
+        Choice (dueAt core t) left (core .size) (numbered number slot)
     unfolding numbered
     choice-of-all (Choice.idle all) =
         Choice.idle
@@ -73,29 +67,42 @@ module _ (core kept : CoreTasks) (place : ℕ → ℕ) (selected : Selected core
         (λ none. none)
         (λ some.
         let j = is-selected i l some in
-        absurd (omega (arith, all (j .0) (j .1), same-ready (j .0) (j .1), rw (← (j .2)) at some)))
-        (eq-zero-or-pos (readyAt core t i)))
+        absurd (omega (arith, all (j .0) (j .1), same (j .0) (j .1), rw (← (j .2)) at some)))
+        (eq-zero-or-pos (left i)))
     choice-of-all (Choice.runs k l has first lower) =
         let due = same-due k l in
         Choice.runs
         (place k)
         (selected .is-task k l)
-        (rw (same-ready k l) at has)
+        (rw (same k l) at has)
         (λ i m some.
         let j = is-selected i m some in
-        let its : 0 < readyAt core t (place (j .0)) = rw (j .2) some in
-        let its-due = first (j .0) (j .1) (rw (same-ready (j .0) (j .1)) its) in
+        let its : 0 < left (place (j .0)) = rw (j .2) some in
+        let its-due = first (j .0) (j .1) (rw (same (j .0) (j .1)) its) in
         rw (← (j .2)) (omega (arith, due, same-due (j .0) (j .1), its-due)))
         (λ i m some.
         let j = is-selected i (omega (arith, selected .is-task k l)) some in
-        let its : 0 < readyAt core t (place (j .0)) = rw (j .2) some in
+        let its : 0 < left (place (j .0)) = rw (j .2) some in
         let before : j .0 < k =
         ⊎-elim (λ b. b) (λ (from : k ≤ j .0). absurd (omega (arith, place-le k (j .0) from (j .1), j .2))) (lt-or-le (j .0) k) in
-        let its-due = lower (j .0) before (rw (same-ready (j .0) (j .1)) its) in
+        let its-due = lower (j .0) before (rw (same (j .0) (j .1)) its) in
         rw (← (j .2)) (omega (arith, due, same-due (j .0) (j .1), its-due)))
 
+  -- both have the same left in dispatching
+  abbrev SameLeft : ℕ → Type 0
+  SameLeft t = (j : ℕ) → j < kept .size → leftAt kept t j ≡ leftAt core t (place j)
+
+  module _ (t : ℕ) (left : SameLeft t) where
+    same-ready : (j : ℕ) → j < kept .size → readyAt kept t j ≡ readyAt core t (place j)
+    unfolding readyAt afterRelease
+    same-ready j l = rw (selected .same-period j l, selected .same-ticks j l, left j l)
+
     same-slot : slotOf core t ≡ numbered number (slotOf kept t)
-    same-slot = choice-unique (slot-is-choice core t) (choice-of-all (slot-is-choice kept t))
+    same-slot =
+        choice-unique
+        (slot-is-choice core t)
+        (choice-of-all t (readyAt core t) (readyAt kept t) same-ready (λ i l some. lt-of-lt-of-le some (ready-le-ticks core t i l))
+        (slot-is-choice kept t))
 
   -- who runs among the selected is who runs on the core
   same-run : (slot j left : ℕ) → j < kept .size → slot ≤ kept .size → afterRun slot j left ≡ afterRun (numbered number slot) (place j) left

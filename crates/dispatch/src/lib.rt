@@ -174,7 +174,7 @@ fn run_earliest(periods: &[u32], windows: &[u32], tick: u32, soonest: u32, left:
     Run { task, end }
 }
 
-fn slot_of(numbers: &[Slot], task: usize) -> Slot
+pub fn slot_of(numbers: &[Slot], task: usize) -> Slot
     requires { ⌜ task ≤ length (now numbers) ⌝ }
     ensures { λ r. ⌜ r ≡ numbered (λ j. getD (now (numbers .entry)) j 0) task ⌝ }
 {

@@ -22,6 +22,15 @@ use Rattle.dispatch.specs.Rows.{CoreTasks, dueAt, afterRun, slotOf}
 abbrev pub slotsSoFar : CoreTasks → ℕ → ℕ → ℕ → ℕ
 slotsSoFar core i j x = count (λ k. eqb (slotOf core (j * core .period i + k)) (suc i)) x
 
+-- a tick with the task's number takes one of its ticks left
+pub run-takes-one : (number i left : ℕ) → (number ≡ suc i → 0 < left) → cond (eqb number (suc i)) 1 0 + afterRun number i left ≡ left
+run-takes-one number i left has = go (eqb number (suc i)) refl
+  where
+    go : (c : Bool) → eqb number (suc i) ≡ c → cond c 1 0 + afterRun number i left ≡ left
+    go true e =
+        let runs : number ≡ suc i = eqb-true number (suc i) e in rw (runs, afterRun-self i left) (omega (arith, has runs))
+    go false e = rw (afterRun-other number i left (λ same. eqb-false number (suc i) e (sym same))) (omega arith)
+
 module _ (core : CoreTasks) where
   running-has-left : (t i : ℕ) → slotOf core t ≡ suc i → 0 < readyAt core t i
   running-has-left t i e = chosen-has-left i (slot-is-choice core t) e
@@ -34,17 +43,8 @@ module _ (core : CoreTasks) where
       go slot (Choice.runs k l has first lower) =
           inr (record { task = k; is-task = l; its-number = refl; has-ticks = omega (arith, ready-le-ticks core t k l) })
 
-  -- a tick with the task's number takes one of its ticks left
   run-accounts : (t i : ℕ) → i < core .size → cond (eqb (slotOf core t) (suc i)) 1 0 + leftAt core (suc t) i ≡ readyAt core t i
-  run-accounts t i l = rw (left-after-run core t i l) (go (eqb (slotOf core t) (suc i)) refl)
-    where
-      go : (c : Bool) → eqb (slotOf core t) (suc i) ≡ c →
-          cond (eqb (slotOf core t) (suc i)) 1 0 + afterRun (slotOf core t) i (readyAt core t i) ≡ readyAt core t i
-      go true e =
-          let runs : slotOf core t ≡ suc i = eqb-true (slotOf core t) (suc i) e in
-          rw (e, runs, afterRun-self i (readyAt core t i)) (omega (arith, running-has-left t i runs))
-      go false e =
-          rw (e, afterRun-other (slotOf core t) i (readyAt core t i) (λ same. eqb-false (slotOf core t) (suc i) e (sym same))) (omega arith)
+  run-accounts t i l = rw (left-after-run core t i l) (run-takes-one (slotOf core t) i (readyAt core t i) (running-has-left t i))
 
   module _ (i j : ℕ) (l : i < core .size) where
     ready-at-release : readyAt core (j * core .period i + 0) i ≡ core .ticks i

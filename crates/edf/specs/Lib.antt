@@ -10,3 +10,9 @@ pub mod ServedLaws
 pub mod RepeatedRowLaws
 pub mod SchedulingTheorems
 pub mod PendingJobLaws
+pub mod WholeSpanLaws
+pub mod CallRunLaws
+pub mod CallRowLaws
+pub mod FinishedJobs
+pub mod CallJobLaws
+pub mod CallTheorems

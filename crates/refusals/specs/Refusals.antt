@@ -6,7 +6,7 @@ use mathlib.Core.List.{List, [], _∷_}
 use lib.Dec.{leb}
 use lib.ListN.{length}
 use Rattle.refusals.specs.declared.Refusal.{Refusal}
-use Rattle.refusals.specs.declared.Refusal.the-variants.{Text, WordCount, WordRange, SpanTooLong, NoPlan, ShortBuffer, GivenPlan, CoreOverloaded, GivenTable, JobSlots, SwitchingWord}
+use Rattle.refusals.specs.declared.Refusal.the-variants.{Text, WordCount, WordRange, SpanTooLong, NoPlan, ShortBuffer, GivenPlan, CoreOverloaded, GivenTable, JobSlots, SwitchingWord, CoreOrState, EarlyEnd}
 use Rattle.refusals.specs.declared.Verdict.{Verdict}
 use Rattle.refusals.specs.declared.Verdict.the-variants.{Accepted, Refused}
 
@@ -33,6 +33,11 @@ numberOf (GivenTable place) = 9
 numberOf (JobSlots place) = 10
 -- (b) "11, a switching word out of range, place 0 or 1"
 numberOf (SwitchingWord place) = 11
+-- (f) "12, a core out of range, or a state with more ticks left than a job has (any at all, for a task not kept on that core), a tick
+-- not below the span, or a last task, other than 0 for none, not kept there, place 0"
+numberOf CoreOrState = 12
+-- (f) "13, an early end reported after an idle tick or before the first, place 0"
+numberOf EarlyEnd = 13
 
 abbrev pub placeOf : Refusal → ℕ
 placeOf (Text place) = place
@@ -46,13 +51,15 @@ placeOf (CoreOverloaded place) = place
 placeOf (GivenTable place) = place
 placeOf (JobSlots place) = place
 placeOf (SwitchingWord place) = place
+placeOf CoreOrState = 0
+placeOf EarlyEnd = 0
 
 -- every case of a refusal, with one place for all that have one
 abbrev pub refusalsAt : ℕ → List Refusal
 refusalsAt place =
     Text place ∷ WordCount place ∷ WordRange place ∷ SpanTooLong place ∷ NoPlan
     ∷ ShortBuffer place ∷ GivenPlan place ∷ CoreOverloaded place ∷ GivenTable place ∷ JobSlots place
-    ∷ SwitchingWord place ∷ []
+    ∷ SwitchingWord place ∷ CoreOrState ∷ EarlyEnd ∷ []
 
 -- the columns "Returned" and "Place returned with it"
 pub record Answer : Type 0 where

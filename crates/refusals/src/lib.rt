@@ -16,6 +16,8 @@ pub enum Refusal {
     GivenTable(usize),
     JobSlots(usize),
     SwitchingWord(usize),
+    CoreOrState,
+    EarlyEnd,
 }
 
 pub enum Verdict {
@@ -39,6 +41,8 @@ pub fn refusal_number(refusal: Refusal) -> u64
         Refusal::GivenTable(_) => return 9,
         Refusal::JobSlots(_) => return 10,
         Refusal::SwitchingWord(_) => return 11,
+        Refusal::CoreOrState => return 12,
+        Refusal::EarlyEnd => return 13,
     }
 }
 
@@ -58,5 +62,7 @@ pub fn refusal_place(refusal: Refusal) -> u64
         | Refusal::JobSlots(place)
         | Refusal::SwitchingWord(place) => return place as u64,
         Refusal::NoPlan => return 0,
+        Refusal::CoreOrState => return 0,
+        Refusal::EarlyEnd => return 0,
     }
 }

@@ -60,7 +60,7 @@ module _ (p : Problem) (v : Valid p) (plan : List ℕ) (k : ℕ) (kept : KeptTas
         };
       }
 
-  kept-are-selected : Selected (coreTasks p plan k) rowColumns (λ j. placeOf kept j)
+  pub kept-are-selected : Selected (coreTasks p plan k) rowColumns (λ j. placeOf kept j)
   unfolding coreTasks
   kept-are-selected = record {
     is-task = λ j l. is-task p plan k kept columns j (is-held j l);

@@ -2,7 +2,9 @@
 -- afterwards. Plans and tables are the lists that the lent bytes are: "there a choice is one byte". What listing answers and
 -- leaves in its buffer is `listOutcome` of the crate `listings`.
 use Prim.Native.Nat.{ℕ}
+use mathlib.Core.Bool.{Bool}
 use mathlib.Core.List.{List}
+use mathlib.Core.Path.{_≡_}
 use Rattle.refusals.specs.Refusals.{Reading, refused, accepted, numberOf, placeOf}
 use Rattle.text.specs.Text.{wordsOf}
 use Rattle.instance.specs.Node.{Problem, levelCount, taskCount, span}
@@ -11,6 +13,9 @@ use Rattle.refusals.specs.declared.Verdict.{Verdict}
 use Rattle.refusals.specs.declared.Verdict.the-variants.{Accepted, Refused}
 use Rattle.checks.specs.Outcomes.{slotCheckOutcome, checkOutcome}
 use Rattle.sleep.specs.Outcomes.{SleepOutcome, sleepOutcome}
+use Rattle.dispatcher.specs.Outcomes.{dispatchOutcome}
+use Rattle.dispatcher.specs.declared.DispatchState.{DispatchState}
+use Rattle.dispatcher.specs.declared.Dispatched.{Dispatched}
 use Rattle.prices.specs.declared.amounts.Priced.{Priced}
 use Rattle.prices.specs.declared.amounts.Priced.the-variants as Priced
 use Rattle.planner.specs.Outcomes.{PlanOutcome, planRefused, planOutcome}
@@ -20,6 +25,7 @@ use Rattle.towhepamu.specs.declared.answers.Checked.{Checked}
 use Rattle.towhepamu.specs.declared.answers.Listed.{Listed}
 use Rattle.towhepamu.specs.declared.answers.Planned.{Planned}
 use Rattle.towhepamu.specs.declared.answers.Site.{Site}
+use Rattle.towhepamu.specs.declared.answers.TaskToRun.{TaskToRun}
 
 -- a refusal's number and place, or 0 and 0 with how large the instance is
 abbrev pub siteOf : Reading Problem → Site
@@ -41,6 +47,11 @@ checkedOf (Refused r) = record { refusal = numberOf r; place = placeOf r }
 abbrev pub listedOf : PlanListed → Listed
 listedOf (PlanListed.Bytes n) = record { refusal = 0; place = 0; length = n }
 listedOf (PlanListed.Refused r) = record { refusal = numberOf r; place = placeOf r; length = 0 }
+
+-- the task to run, 0 where the call is refused
+abbrev pub taskToRunOf : Verdict → ℕ → TaskToRun
+taskToRunOf Accepted task = record { refusal = 0; place = 0; task = task }
+taskToRunOf (Refused r) task = record { refusal = numberOf r; place = placeOf r; task = task }
 
 -- "In any other call that is given text, 1 comes before all the rest."
 abbrev pub textReadOutcomeOf : Reading (List ℕ) → Reading Problem
@@ -80,3 +91,17 @@ textSleepOutcomeOf (accepted words) plan table energy time energies sleeps =
 unfoldable pub textSleepOutcome : (text plan table : List ℕ) → (energy time : ℕ) → (energies sleeps : List ℕ) → SleepOutcome
 textSleepOutcome text plan table energy time energies sleeps =
     textSleepOutcomeOf (wordsOf text) plan table energy time energies sleeps
+
+abbrev pub textDispatchOutcomeOf : Reading (List ℕ) → (plan : List ℕ) → ℕ → DispatchState → Bool → Dispatched
+textDispatchOutcomeOf (refused r) plan core s ended = record { verdict = Refused r; task = 0; state = s }
+textDispatchOutcomeOf (accepted words) plan core s ended = dispatchOutcome words plan core s ended
+
+unfoldable pub textDispatchOutcome : (text plan : List ℕ) → ℕ → DispatchState → Bool → Dispatched
+textDispatchOutcome text plan core s ended = textDispatchOutcomeOf (wordsOf text) plan core s ended
+
+-- the numbers that dispatching returns, and what stands in the state's place afterwards
+pub record TextDispatches (text plan : List ℕ) (core : ℕ) (before : DispatchState) (ended : Bool) (answer : TaskToRun) (after : DispatchState) : Type 0 where
+  pub same-answer :
+      answer
+      ≡ taskToRunOf (textDispatchOutcome text plan core before ended .verdict) (textDispatchOutcome text plan core before ended .task)
+  pub next-state : after ≡ textDispatchOutcome text plan core before ended .state

@@ -27,18 +27,18 @@ use Rattle.refusals.specs.VerdictLaws.{longer-is-refused}
 use Rattle.sleep.specs.CoreSleeps.{switchingPasses, leastEnergies, sleepCounts}
 use Rattle.sleep.specs.Outcomes.{Gives, roomForBoth, sleepWhere, sleepOutcomeOf, sleepOutcome}
 
-longer-plan-is-refused : (p : Problem) (plan : List ℕ) → taskCount p < length plan →
+pub longer-plan-is-refused : (p : Problem) (plan : List ℕ) → taskCount p < length plan →
     choicesPass p plan ≡ Refused (GivenPlan (taskCount p))
 unfolding choicesPass
 longer-plan-is-refused p plan long = sym (longer-is-refused GivenPlan (taskCount p) (taskCount p) refl (length plan) _ long)
 
 -- the first m choices: all of them, or k
 module _ (plan : List ℕ) (k m : ℕ) (cut : m ≡ min (length plan) k) where
-  front-length : length (take m plan) ≡ m
+  pub front-length : length (take m plan) ≡ m
   front-length = length-take-le m plan (omega arith)
 
   -- the front as code copies it
-  front-of-copy : (blank choices : List ℕ) → choices ≡ onto (take m plan) blank → take m choices ≡ take m plan
+  pub front-of-copy : (blank choices : List ℕ) → choices ≡ onto (take m plan) blank → take m choices ≡ take m plan
   unfolding onto
   front-of-copy blank choices copied = rw copied (take-at (take m plan) _ m front-length)
 

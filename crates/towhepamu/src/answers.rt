@@ -9,7 +9,7 @@ use refusals::refusal_place;
 ghost use mathlib.Core.Path.{_≡_};
 ghost use Rattle.instance.specs.Held.{Sound, problemIn};
 ghost use Rattle.refusals.specs.Refusals.{refused, accepted};
-ghost use Rattle.towhepamu.specs.CallOutcomes.{siteOf, plannedOf, checkedOf, listedOf};
+ghost use Rattle.towhepamu.specs.CallOutcomes.{siteOf, plannedOf, checkedOf, listedOf, taskToRunOf};
 
 // Reading: the refusal's number and place, both 0 where the text is an instance; and how large that is, all 0 where it is none.
 #[repr(C)]
@@ -45,6 +45,14 @@ pub struct Listed {
     pub refusal: u64,
     pub place: u64,
     pub length: u64,
+}
+
+// Dispatching: the refusal's number and place, both 0 where the call is accepted; and the task to run, 0 for none.
+#[repr(C)]
+pub struct TaskToRun {
+    pub refusal: u64,
+    pub place: u64,
+    pub task: u64,
 }
 
 pub(crate) fn no_site(refusal: Refusal) -> Site
@@ -123,6 +131,23 @@ pub(crate) fn listed_of(listed: PlanListed) -> Listed
             refusal: refusal_number(refusal),
             place: refusal_place(refusal),
             length: 0,
+        },
+    }
+}
+
+pub(crate) fn task_to_run(verdict: Verdict, task: u32) -> TaskToRun
+    ensures { λ r. ⌜ r ≡ taskToRunOf verdict task ⌝ }
+{
+    match verdict {
+        Verdict::Accepted => TaskToRun {
+            refusal: 0,
+            place: 0,
+            task: task as u64,
+        },
+        Verdict::Refused(refusal) => TaskToRun {
+            refusal: refusal_number(refusal),
+            place: refusal_place(refusal),
+            task: task as u64,
         },
     }
 }

@@ -1,4 +1,5 @@
 // Examples at a site, whose words are lent as text.
+use crate::dispatching;
 use crate::numbers::MOST_NUMBERS;
 use crate::numbers::slots_of;
 use crate::numbers::words_of;
@@ -47,6 +48,24 @@ fn run_kind(kind: u8, words: &[u32], given: &[u32]) {
         if 5 <= given.len() {
             run_table(kind, words, &given[0..4], given[4], &given[5..]);
         }
+    }
+    if kind == b'D' {
+        if 2 <= given.len() {
+            run_calls(words, &given[0..1], given[1], &given[2..]);
+        }
+    }
+    if kind == b'E' {
+        if 5 <= given.len() {
+            run_calls(words, &given[0..4], given[4], &given[5..]);
+        }
+    }
+}
+
+// The first so many numbers are a plan, those after it reports or ticks left.
+fn run_calls(words: &[u32], front: &[u32], choices: u32, given: &[u32]) {
+    let n = choices as usize;
+    if n <= given.len() {
+        dispatching::run(words, front, &given[0..n], &given[n..]);
     }
 }
 

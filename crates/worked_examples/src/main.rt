@@ -3,6 +3,7 @@
 mod alone;
 mod at_site;
 mod counts;
+mod dispatching;
 mod lines;
 mod listing;
 mod numbers;
