@@ -13,6 +13,7 @@ typedef struct {
     const char *plan, *table;     /* of `plan`: where to write them, or NULL */
     bool text;                    /* of `picture`: for a terminal */
     const char *energy, *time;    /* of `sleep`: the switching words, as given, or NULL */
+    const char *core, *ended; /* of `dispatch`: which core, as given, and the reports, or NULL */
 } arguments;
 
 int run_plan(const arguments *given);
@@ -22,5 +23,6 @@ int run_compare(const arguments *given);
 int run_sums(const arguments *given);
 int run_sleep(const arguments *given);
 int run_picture(const arguments *given);
+int run_dispatch(const arguments *given);
 
 #endif

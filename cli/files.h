@@ -16,6 +16,9 @@ typedef struct {
 
 digits grouped(uint64_t number);
 
+/* The word that a number in base ten is; one too large for a word stays too large. */
+uint32_t word_of(const char *number);
+
 /* "1 core", "2 cores"; the number with commas. */
 typedef struct {
     char text[64];

@@ -130,6 +130,19 @@ void tell_given_refusal(const subject *of, towhepamu_checked why) {
         tell_job(of, why.place - 1);
 }
 
+int take_given_plan(const char *name, const parsed_site *site, subject *of) {
+    static node_file file;
+    if (!node_read(name, &file))
+        return UNUSABLE;
+    if (tell_nothing_given(&file))
+        return REFUSED;
+    bool dump = file.count == site->tasks + site->cores * site->span;
+    of->site = site;
+    take_plan(of, &file, dump ? site->tasks : SIZE_MAX);
+    of->plan_len = smaller(of->choices, sizeof of->plan);
+    return WELL;
+}
+
 int take_given(const arguments *given, const parsed_site *site, subject *of) {
     static node_file first, second;
     const node_file *plan = &first, *table = given->files == 3 ? &second : &first;

@@ -20,6 +20,9 @@ typedef struct {
    taken, which is then told, else WELL. */
 int take_given(const arguments *given, const parsed_site *site, subject *of);
 
+/* Takes the plan of a file, which may be a dump or a listing, and no table; as above. */
+int take_given_plan(const char *name, const parsed_site *site, subject *of);
+
 /* Tells in words why the library refuses them. */
 void tell_given_refusal(const subject *of, towhepamu_checked why);
 

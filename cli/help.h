@@ -13,6 +13,7 @@
     "  towhepamu sums SITE                                lay out the sums to add up by hand\n"    \
     "  towhepamu picture [--text] SITE                    draw the slot table\n"                   \
     "  towhepamu sleep SITE --energy E --time T [..]      what sleeping through gaps saves\n"      \
+    "  towhepamu dispatch SITE --core C [..]              what a core runs, tick by tick\n"        \
     "\n"                                                                                           \
     "  towhepamu SUBCOMMAND --help, towhepamu --version\n"                                         \
     "\n"                                                                                           \
@@ -95,5 +96,18 @@
     "Ends with 0, 1 where the site, E, T, plan or table is refused, 2 where a file cannot be "     \
     "used\n"                                                                                       \
     "or the sums are not the library's.\n"
+
+#define HELP_DISPATCH                                                                              \
+    "towhepamu dispatch SITE --core C [--ended FILE] [PLAN]\n"                                     \
+    "\n"                                                                                           \
+    "Prints what the dispatcher of a core answers, tick by tick from a fresh start, a line for\n"  \
+    "each span: of the site's own plan, or of a given one, as check takes it. Without reports\n"   \
+    "each line is the core's row.\n"                                                               \
+    "  --core C       which core, from 1\n"                                                        \
+    "  --ended FILE   numbers of calls, from 0, that report that the job which ran in the tick\n"  \
+    "                 before has ended early; as many spans are printed as they reach\n"           \
+    "  PLAN           numbers, one a task, or a listing\n"                                         \
+    "Ends with 0, 1 where the site, the core, the plan or a report is refused, 2 where a file\n"   \
+    "cannot be used or the library contradicts itself.\n"
 
 #endif

@@ -19,7 +19,7 @@ static const command commands[] = {
     {"plan", HELP_PLAN, 1, 1, run_plan},    {"check", HELP_CHECK, 2, 3, run_check},
     {"slots", HELP_SLOTS, 2, 3, run_slots}, {"compare", HELP_COMPARE, 2, 2, run_compare},
     {"sums", HELP_SUMS, 1, 1, run_sums},    {"picture", HELP_PICTURE, 1, 1, run_picture},
-    {"sleep", HELP_SLEEP, 1, 3, run_sleep},
+    {"sleep", HELP_SLEEP, 1, 3, run_sleep}, {"dispatch", HELP_DISPATCH, 1, 2, run_dispatch},
 };
 
 static bool is_help(const char *word) {
@@ -41,6 +41,10 @@ static const char **kept_at(const command *of, const char *word, arguments *give
         return &given->energy;
     if (of->run == run_sleep && strcmp(word, "--time") == 0)
         return &given->time;
+    if (of->run == run_dispatch && strcmp(word, "--core") == 0)
+        return &given->core;
+    if (of->run == run_dispatch && strcmp(word, "--ended") == 0)
+        return &given->ended;
     return NULL;
 }
 
@@ -48,9 +52,16 @@ static bool is_number(const char *word) {
     return *word != 0 && word[strspn(word, "0123456789")] == 0;
 }
 
-/* Whether a word may follow an option: a number in `sleep`, a file's name in `plan`. */
-static bool may_follow(const command *of, const char *word) {
-    return word != NULL && (of->run == run_sleep ? is_number(word) : strcmp(word, "-") != 0);
+/* Whether a number follows an option, and not a file's name. */
+static bool takes_number(const command *of, const char *option) {
+    return of->run == run_sleep || strcmp(option, "--core") == 0;
+}
+
+/* Whether a word may follow an option; a file that is written is not -. */
+static bool may_follow(const command *of, const char *option, const char *word) {
+    return word != NULL &&
+           (takes_number(of, option) ? is_number(word)
+                                     : of->run != run_plan || strcmp(word, "-") != 0);
 }
 
 /* Takes the word at `*at`, and the next one where it belongs to it. */
@@ -63,8 +74,8 @@ static void take_option(const command *of, char **words, arguments *given, size_
     }
     if (kept == NULL)
         give_up_on("no such option: ", word, of->name);
-    if (!may_follow(of, words[*at + 1]))
-        give_up_on(of->run == run_sleep ? "a number must follow " : "a file's name must follow ",
+    if (!may_follow(of, word, words[*at + 1]))
+        give_up_on(takes_number(of, word) ? "a number must follow " : "a file's name must follow ",
                    word, of->name);
     if (*kept != NULL)
         give_up_on("given twice: ", word, of->name);
@@ -90,6 +101,8 @@ static bool take_arguments(const command *of, char **words, arguments *given) {
         give_up_on("a file is missing", "", of->name);
     if (of->run == run_sleep && (given->energy == NULL || given->time == NULL))
         give_up_on("missing: ", given->energy == NULL ? "--energy" : "--time", of->name);
+    if (of->run == run_dispatch && given->core == NULL)
+        give_up_on("missing: ", "--core", of->name);
     return true;
 }
 

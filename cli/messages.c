@@ -20,6 +20,13 @@ digits grouped(uint64_t number) {
     return out;
 }
 
+uint32_t word_of(const char *number) {
+    uint64_t word = 0;
+    for (; *number != 0 && word <= UINT32_MAX; number++)
+        word = 10 * word + (uint64_t)(*number - '0');
+    return word < UINT32_MAX ? (uint32_t)word : UINT32_MAX;
+}
+
 amount amount_of(uint64_t number, const char *thing) {
     amount out;
     snprintf(out.text, sizeof out.text, "%s %s%s", grouped(number).text, thing,

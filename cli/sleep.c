@@ -13,14 +13,6 @@ typedef struct {
     uint32_t sleeps[TOWHEPAMU_MOST_CORES];
 } reckoning;
 
-/* A number too large for a word stays too large. */
-static uint32_t word_of(const char *number) {
-    uint64_t word = 0;
-    for (; *number != 0 && word <= UINT32_MAX; number++)
-        word = 10 * word + (uint64_t)(*number - '0');
-    return word < UINT32_MAX ? (uint32_t)word : UINT32_MAX;
-}
-
 static void tell_switching(const arguments *given, uint64_t place) {
     fprintf(
         stderr, "towhepamu: switching %s is %s; it must be 0 to %s\n",

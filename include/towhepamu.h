@@ -6,7 +6,9 @@
  * which is refused, at the least cost, and draws the slot table of every core. Checking tells
  * whether a given plan and table serve every job, and checking slots whether the table's slots name
  * the right tasks. Reckoning sleeps tells what the gaps of a table are worth where a core may be
- * switched off in them. Listing writes the best plan and its table as lines of text.
+ * switched off in them. Dispatching tells, tick by tick and without a table, which task a core of a
+ * given plan runs; a core can be prepared for it once. Listing writes the best plan and its table
+ * as lines of text.
  *
  * A site file is text, numbers in base ten parted by spaces and line feeds:
  *   3 or 4, energy weight 1 to 1,000, penalty weight 1 to 1,000, cores 1 to 4; after a 4 also idle
@@ -32,6 +34,7 @@
 #ifndef TOWHEPAMU_H
 #define TOWHEPAMU_H
 
+#include <stdbool.h>
 #include <stddef.h>
 #include <stdint.h>
 
@@ -40,9 +43,9 @@ extern "C" {
 #endif
 
 /* The version of the header and the archive. */
-#define TOWHEPAMU_VERSION "1.4.0"
+#define TOWHEPAMU_VERSION "1.5.0"
 #define TOWHEPAMU_VERSION_MAJOR 1
-#define TOWHEPAMU_VERSION_MINOR 4
+#define TOWHEPAMU_VERSION_MINOR 5
 #define TOWHEPAMU_VERSION_PATCH 0
 
 /* The longest site file that is read, in bytes. */
@@ -67,8 +70,8 @@ extern "C" {
 #define TOWHEPAMU_MOST_LISTING_BYTES 51200
 
 /* The stack that a call must find free, in bytes. Measured: reading 12,280, planning 1,147,296,
-   checking 11,400, listing 1,164,224, sleeping 11,464 (tests/desk/test_stack.c, which fails where a
-   call takes more than is promised). */
+   checking 11,400, listing 1,164,224, sleeping 11,464, dispatching 13,176, preparing 13,128, a tick
+   3,048 (tests/desk/test_stack.c, which fails where a call takes more than is promised). */
 #define TOWHEPAMU_STACK_BYTES (1536 * 1024)
 
 /* Why a call was refused, and what `place` then says. */
@@ -106,7 +109,7 @@ enum towhepamu_refusal {
     TOWHEPAMU_CHOICES = 7,
 
     /* A core of a given plan does not fit: by some tick more is due on it than it can have run.
-       None of the calls below returns this one. Place: the lowest such core, from 1. */
+       Only dispatching and preparing return this one. Place: the lowest such core, from 1. */
     TOWHEPAMU_OVERLOAD = 8,
 
     /* The given table has another length than cores x span; or a slot other than 0 names no task
@@ -121,7 +124,16 @@ enum towhepamu_refusal {
 
     /* A switching word out of range. Place: 0 for an energy above 1,000,000, 1 for a time above
        4,096. */
-    TOWHEPAMU_SWITCHING = 11
+    TOWHEPAMU_SWITCHING = 11,
+
+    /* A core to dispatch that is not one of 1 to the number of cores; or a state with more ticks
+       left than a job of that task has, any at all for a task that the plan does not keep on that
+       core, with a tick not below the span, or with a last task other than 0 that is not kept
+       there. Place: 0. */
+    TOWHEPAMU_STATE = 12,
+
+    /* An early end is reported after an idle tick or before the first. Place: 0. */
+    TOWHEPAMU_EARLY_END = 13
 };
 
 /* What reading answers. Where it refuses, tasks, levels, cores and span are 0. */
@@ -148,6 +160,36 @@ typedef struct {
     uint64_t refusal; /* an enum towhepamu_refusal; 0 where plan and table pass */
     uint64_t place;   /* what the refusal says of it; 0 where plan and table pass */
 } towhepamu_checked;
+
+/* Where the dispatching of a core stands; all zero is a fresh start. */
+typedef struct {
+    uint32_t tick;                       /* the next tick, below the span */
+    uint32_t left[TOWHEPAMU_MOST_TASKS]; /* the ticks left of each task's job, task 1's first */
+    uint32_t last;                       /* the task that ran in the tick before; 0 for none */
+} towhepamu_state;
+
+/* A core that is prepared for dispatching: its kept tasks. */
+typedef struct {
+    uint32_t span;                          /* of the site */
+    size_t tasks;                           /* how many: so many places are filled, of each */
+    uint8_t numbers[TOWHEPAMU_MOST_TASKS];  /* its number, rising, */
+    uint32_t periods[TOWHEPAMU_MOST_TASKS]; /* its period, */
+    uint32_t windows[TOWHEPAMU_MOST_TASKS]; /* its deadline */
+    uint32_t ticks[TOWHEPAMU_MOST_TASKS];   /* and the ticks of a job */
+} towhepamu_core;
+
+/* A prepared core, and where its dispatching stands. */
+typedef struct {
+    towhepamu_core core;
+    towhepamu_state state;
+} towhepamu_node;
+
+/* What dispatching answers. */
+typedef struct {
+    uint64_t refusal; /* an enum towhepamu_refusal; 0 where the call is accepted */
+    uint64_t place;   /* what the refusal says of it; 0 where the call is accepted */
+    uint64_t task;    /* the task to run, from 1; 0 for none, and where it refuses */
+} towhepamu_dispatched;
 
 /* What listing answers. */
 typedef struct {
@@ -242,6 +284,48 @@ towhepamu_checked towhepamu_sleep(const uint8_t *text, size_t text_len, const ui
                                   uint32_t switching_energy, uint32_t switching_time,
                                   uint64_t *energies, size_t energies_len, uint32_t *sleeps,
                                   size_t sleeps_len);
+
+/*
+ * Dispatches core `core`, from 1, of a given plan for the site of `text`: answers the task that
+ * runs in the state's tick and puts the next state in the state's place. Called once a tick from a
+ * fresh start, with `ended` false, it answers slot after slot of that core's row, for ever. `ended`
+ * reports that the job which ran in the tick before has ended early: that job runs no more. It has
+ * no effect where the job had all its ticks. Whatever is reported, every job of a kept task has by
+ * its due tick run its ticks or been reported ended, and runs in no tick outside its window.
+ *
+ * In one call an early end comes first; then, of each task that is released in this tick, the ticks
+ * left become those of a job; then, of the tasks with ticks left, the one whose latest job is due
+ * first runs, of equal ones the lower number; after the span's last tick comes tick 0.
+ *
+ * Tested in this order: TEXT; then, number by number, WORDS, RANGE and SPAN; CHOICES, with the
+ * length first; OVERLOAD; STATE; EARLY_END. A refused call leaves `state` as it was. `state`
+ * overlaps no other buffer of the call.
+ */
+towhepamu_dispatched towhepamu_dispatch(const uint8_t *text, size_t text_len, const uint8_t *plan,
+                                        size_t plan_len, uint32_t core, towhepamu_state *state,
+                                        bool ended);
+
+/*
+ * Prepares core `core`, from 1, of a given plan for the site of `text`, so that a node can dispatch
+ * it tick by tick without reading text and plan again: `node` holds it then, at a fresh start.
+ *
+ * Tested in this order: TEXT; then, number by number, WORDS, RANGE and SPAN; CHOICES, with the
+ * length first; OVERLOAD; STATE, of the core alone. A refused call leaves `node` as it was. `node`
+ * overlaps no other buffer of the call.
+ */
+towhepamu_checked towhepamu_prepare(const uint8_t *text, size_t text_len, const uint8_t *plan,
+                                    size_t plan_len, uint32_t core, towhepamu_node *node);
+
+/*
+ * Dispatches a prepared core: answers what towhepamu_dispatch would answer in this state for the
+ * text, plan and core that it was prepared from, and puts the next state in the place of the
+ * node's.
+ *
+ * Tested in this order: STATE, also where what is prepared is no core's: more tasks than there are
+ * places, numbers that do not rise within 1 to 12, or a period of 0; EARLY_END. A refused call
+ * leaves `node` as it was.
+ */
+towhepamu_dispatched towhepamu_tick(towhepamu_node *node, bool ended);
 
 /*
  * Lists the plan of the site of `text`, as lines of text that each end with a line feed, in this

@@ -1,5 +1,5 @@
 /*
- * Documents 01 and 02 (a) to (e) in plain C, written from the papers alone: what the archive is
+ * Documents 01 and 02 (a) to (f) in plain C, written from the papers alone: what the archive is
  * compared with and timed against. Choices and slots are bytes, as at the C interface.
  */
 #ifndef REFERENCE_H
@@ -145,5 +145,14 @@ towhepamu_checked reference_sleep(const uint8_t *text, size_t text_len, const ui
                                   uint32_t switching_energy, uint32_t switching_time,
                                   uint64_t *energies, size_t energies_len, uint32_t *sleeps,
                                   size_t sleeps_len);
+
+/* towhepamu_dispatch: refusals 1, 2, 3, 4, 7, 8, 12, 13 (dispatching.c). */
+towhepamu_dispatched reference_dispatch(const uint8_t *text, size_t text_len, const uint8_t *plan,
+                                        size_t plan_len, uint32_t core, towhepamu_state *state,
+                                        bool ended);
+
+/* towhepamu_prepare: refusals 1, 2, 3, 4, 7, 8, 12. Places that are not filled are 0. */
+towhepamu_checked reference_prepare(const uint8_t *text, size_t text_len, const uint8_t *plan,
+                                    size_t plan_len, uint32_t core, towhepamu_node *node);
 
 #endif

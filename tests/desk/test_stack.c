@@ -17,6 +17,7 @@ static uint8_t text[TOWHEPAMU_MOST_TEXT_BYTES], plan[TOWHEPAMU_MOST_TASKS];
 static uint8_t table[TOWHEPAMU_MOST_TABLE_BYTES], out[TOWHEPAMU_MOST_LISTING_BYTES];
 static uint64_t energies[MOST_CORES];
 static uint32_t sleeps[MOST_CORES];
+static towhepamu_node node;
 static size_t text_len, tasks, slots;
 static uint8_t *from; /* where the stack stood before the call */
 
@@ -63,6 +64,28 @@ static void *sleep_text(void *unused) {
     return NULL;
 }
 
+static void *dispatch_text(void *unused) {
+    (void)unused;
+    static towhepamu_state state;
+    from = __builtin_frame_address(0);
+    towhepamu_dispatch(text, text_len, plan, tasks, 1, &state, false);
+    return NULL;
+}
+
+static void *prepare_text(void *unused) {
+    (void)unused;
+    from = __builtin_frame_address(0);
+    towhepamu_prepare(text, text_len, plan, tasks, 1, &node);
+    return NULL;
+}
+
+static void *tick_node(void *unused) {
+    (void)unused;
+    from = __builtin_frame_address(0);
+    towhepamu_tick(&node, false);
+    return NULL;
+}
+
 static size_t stack_of(void *(*call)(void *)) {
     pthread_attr_t attributes;
     pthread_t thread;
@@ -96,9 +119,10 @@ int main(void) {
     static const struct {
         const char *name;
         void *(*call)(void *);
-    } calls[] = {{"reading", read_text},   {"planning", plan_text},
-                 {"checking", check_text}, {"checking slots", check_slots},
-                 {"listing", list_text},   {"sleeping", sleep_text}};
+    } calls[] = {
+        {"reading", read_text},          {"planning", plan_text},     {"checking", check_text},
+        {"checking slots", check_slots}, {"listing", list_text},      {"sleeping", sleep_text},
+        {"dispatching", dispatch_text},  {"preparing", prepare_text}, {"a tick", tick_node}};
     enum { CALLS = sizeof calls / sizeof calls[0] };
     generator g = {20010911};
     uint32_t words[MOST_DRAWN_WORDS];

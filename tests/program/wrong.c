@@ -17,6 +17,7 @@ towhepamu_checked __real_towhepamu_sleep(const uint8_t *text, size_t text_len, c
                                          uint32_t switching_energy, uint32_t switching_time,
                                          uint64_t *energies, size_t energies_len, uint32_t *sleeps,
                                          size_t sleeps_len);
+towhepamu_dispatched __real_towhepamu_tick(towhepamu_node *node, bool ended);
 towhepamu_site __wrap_towhepamu_read(const uint8_t *text, size_t text_len);
 towhepamu_planned __wrap_towhepamu_plan(const uint8_t *text, size_t text_len, uint8_t *plan,
                                         size_t plan_len, uint8_t *table, size_t table_len);
@@ -27,6 +28,7 @@ towhepamu_checked __wrap_towhepamu_sleep(const uint8_t *text, size_t text_len, c
                                          uint32_t switching_energy, uint32_t switching_time,
                                          uint64_t *energies, size_t energies_len, uint32_t *sleeps,
                                          size_t sleeps_len);
+towhepamu_dispatched __wrap_towhepamu_tick(towhepamu_node *node, bool ended);
 
 static bool is_wrong(const char *what) {
     const char *wrong = getenv("WRONG");
@@ -71,5 +73,12 @@ towhepamu_checked __wrap_towhepamu_sleep(const uint8_t *text, size_t text_len, c
     sleeps[0] += is_wrong("sleeps");
     if (is_wrong("refusal"))
         answer = (towhepamu_checked){TOWHEPAMU_JOB, 1};
+    return answer;
+}
+
+towhepamu_dispatched __wrap_towhepamu_tick(towhepamu_node *node, bool ended) {
+    towhepamu_dispatched answer = __real_towhepamu_tick(node, ended);
+    answer.task += is_wrong("task");
+    node->state.left[0] += is_wrong("left");
     return answer;
 }
