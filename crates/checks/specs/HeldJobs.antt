@@ -1,5 +1,5 @@
 -- The test of a table's jobs by numbers, and these from the fields of the struct that holds the problem.
-use Prim.Native.Nat.{ℕ, pred, _+_, _*_, _-_, _/_, _%_, _≤_, _<_}
+use Prim.Native.Nat.{ℕ, pred, _+_, _*_, _-_, _/_, _≤_, _<_}
 use mathlib.Core.Bool.{Bool, true, _&&_, _||_}
 use mathlib.Core.List.{List}
 use mathlib.Core.Logic.{_↔_, Iff·trans}
@@ -16,19 +16,17 @@ use Rattle.laws.specs.Search.{every, count}
 use Rattle.laws.specs.SearchFacts.{count-same, count-of-none}
 use Rattle.laws.specs.Truth.{and-is-true}
 use Rattle.instance.specs.Held.{problemIn, Sound, held-levelcount, held-span, held-task}
-use Rattle.instance.specs.Node.{Problem, levelCount, taskCount, taskAt, noLevel, noTask, span}
+use Rattle.instance.specs.Node.{Problem, levelCount, taskCount, taskAt, noTask, span}
 use Rattle.instance.specs.Valid.{Valid}
 use Rattle.instance.specs.declared.Instance.{Instance}
-use Rattle.instance.specs.declared.Level.{Level}
 use Rattle.instance.specs.declared.Task.{Task}
 use Rattle.checks.specs.JobCountLaws.{right-iff}
 use Rattle.checks.specs.JobCounts.{slotsHeld, countJob, HasItsTicks}
 use Rattle.checks.specs.declared.count.CountKind.the-variants.{Right}
 use Rattle.checks.specs.Checks.{jobSlots, lateSlots, isServed}
 use Rattle.plan_rules.specs.AllowedPlans.{AllowedPlan}
-use Rattle.plan_rules.specs.HeldQuantities.{held-level-of}
 use Rattle.tables.specs.HeldTables.{row-within-table}
-use Rattle.plan_rules.specs.Quantities.{choiceAt, coreOf, ticks, jobs, jobTicks}
+use Rattle.plan_rules.specs.Quantities.{choiceAt, coreOf, jobs, jobTicks}
 use Rattle.plan_rules.specs.Windows.{window}
 use Rattle.tables.specs.Tables.{tableSize, slotAt}
 
@@ -122,8 +120,3 @@ module _ (inst : Instance) (s : Sound inst) (plan : List ℕ) (i : ℕ) (h : i <
   held-row-within allowed n whole =
       rw (held-levelcount inst s)
       (row-within-table (problemIn inst) (inst .span) n _ (held-span inst s) (le-of-eq (sym whole)) (core-in-range (problemIn inst) (s .valid) plan allowed i h))
-
-  pub held-job-ticks : (l : ℕ) → l ≡ pred (choiceAt plan i) % inst .levelcount →
-      ticks (getD (inst .tasks) i noTask .cycles) (getD (inst .levels) l noLevel .speed) ≡ jobTicks (problemIn inst) plan i
-  unfolding jobTicks
-  held-job-ticks l e = ap₂ ticks (ap (λ (t : Task). t .cycles) (held-task inst s i h)) (ap (λ (v : Level). v .speed) (held-level-of inst s (choiceAt plan i) l e))

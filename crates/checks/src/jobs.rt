@@ -88,7 +88,7 @@ pub(crate) fn jobs_pass(inst: Instance, plan: &[u32], table: &[Slot]) -> Verdict
         let choice = plan[i];
         let task = inst.tasks[i];
         let level = inst.levels[level_of(choice, levels)];
-        let ticks = ticks_of(task.cycles, level.speed) as usize;
+        let ticks = ticks_of(inst.start, task.cycles, level.speed) as usize;
         if !is_served(table, span, levels, number as Slot, choice, task, ticks) {
             return Verdict::Refused(Refusal::JobSlots(number));
         }

@@ -10,6 +10,7 @@ use generator::TABLE_ROOM;
 use generator::Table;
 use generator::count_deadlines;
 use generator::count_idle;
+use generator::count_start;
 use generator::draw_room;
 use generator::end_of_tasks;
 use generator::has_busy_slots;
@@ -29,13 +30,15 @@ fn count_kept(answer: &[u64; 5], counts: &mut Counts) {
     add_if(counts, tally::REFUSING_ALL, answer[2] == 0);
 }
 
-// What kind of plan it is: which cores are used, by the table, and which tasks are kept; and whether idle power was given.
+// What kind of plan it is: which cores are used, by the table, and which tasks are kept; and whether idle power and start ticks were
+// given.
 fn count_plan(words: &[u32], site: Site, answer: &[u64; 5], table: &Table, counts: &mut Counts) {
     let span = site.span as usize;
     let others = has_busy_slots(table, span, span, site.slots, 1);
     let full = has_busy_slots(table, span, 0, site.slots, span);
     add(counts, tally::PLANNED, 1);
     count_idle(words, site.levels, counts);
+    count_start(words, answer[2], counts);
     add_if(counts, tally::OTHER_CORES, others);
     add_if(counts, tally::FULL_ROWS, full);
     if 0 < site.tasks {

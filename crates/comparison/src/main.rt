@@ -51,9 +51,12 @@ fn print_all(counts: &Counts) {
           # refused with 4\n\
           # refused with 5, no plan\n\
           # refused with 6, a short buffer\n\
-          # planned with settings that count 4\n\
+          # planned with settings that count 4 or 5\n\
           # of them with idle power below every level's power, but not 0\n\
           # of them with idle power above every level's power\n\
+          # planned with settings that count 5\n\
+          # of them with start ticks and a kept task\n\
+          # of them with start ticks and no kept task\n\
           # planned with a deadline before its period's end\n\
           # of them with a deadline below a job's ticks at the lowest level\n\
           # of them with a deadline below a job's ticks at every level\n\

@@ -27,10 +27,10 @@ use Rattle.planner.specs.Outcomes.{planAnswered, planOutcome}
 use Rattle.planner.specs.PlannedLaws.{where-room}
 use Rattle.planner.specs.Planning.{bestPlan}
 
--- the least number of ticks in which the cycles are done
-pub ticks-round-up : (cycles speed n : ℕ) → 0 < speed → (ticks cycles speed ≤ n) ↔ (cycles ≤ n * speed)
+-- after the start ticks the least number of ticks in which the cycles are done
+pub ticks-round-up : (start cycles speed n : ℕ) → 0 < speed → (ticks start cycles speed ≤ n + start) ↔ (cycles ≤ n * speed)
 unfolding ticks
-ticks-round-up cycles speed n above =
+ticks-round-up start cycles speed n above =
     let below = div-lt-iff-lt-mul {k = speed} {x = cycles + (speed - 1)} {y = suc n} above in (
       λ h. let product : cycles + (speed - 1) < suc n * speed = below .0 (omega arith) in omega arith,
       λ h. let quotient : (cycles + (speed - 1)) / speed < suc n = below .1 (omega arith) in omega arith,

@@ -9,7 +9,7 @@ use Rattle.instance.specs.Node.{Problem, taskCount, span, spanFrom}
 use Rattle.refusals.specs.Refusals.{Reading, refused, accepted, numberOf, placeOf, room}
 use Rattle.formats.specs.Formats.{times}
 use Rattle.formats.specs.Taking.{between, takeWord, takeTested, takeUnlessEnded, takeEnd}
-use Rattle.instance.specs.SiteFile.{problemOf, siteFile, idlePower, settings, level, lastAfter, levels, period, isPenalty, task, tasks}
+use Rattle.instance.specs.SiteFile.{problemOf, siteFile, settingFrom, settings, level, lastAfter, levels, period, isPenalty, task, tasks}
 use Rattle.instance.specs.SiteFile.{withDeadline, withDeadlines, isDeadlineCount, deadlineSection, deadlines}
 use Rattle.text.specs.Text.{wordsOf, numbers, firstFault, faulty, begins, isDigit, isBlank, valueAfter}
 use Rattle.refusals.specs.declared.Refusal.{Refusal}
@@ -110,6 +110,10 @@ k2 = usual k2-tasks
 abbrev k2-idle : List ℕ
 k2-idle = (4 ∷ 1 ∷ 1 ∷ 1 ∷ 50 ∷ []) ++ xscale ++ k2-tasks
 
+-- K2 with this idle power and these start ticks, of document 02 (g)
+abbrev k2-start : ℕ → ℕ → List ℕ
+k2-start idle start = (5 ∷ 1 ∷ 1 ∷ 1 ∷ idle ∷ start ∷ []) ++ xscale ++ k2-tasks
+
 -- K2 with these deadlines, of document 02 (c)
 abbrev k2-due : ℕ → ℕ → List ℕ
 k2-due first second = k2 ++ (2 ∷ first ∷ second ∷ [])
@@ -173,10 +177,16 @@ cases =
     -- (c): K2 with deadlines 4 and 10
     case (k2-due 4 10) (plan (3 ∷ 5 ∷ []) 12800) ∷
     case (k2-due 4 10) (table (1 ∷ 1 ∷ 1 ∷ 1 ∷ 2 ∷ 2 ∷ 2 ∷ 2 ∷ 2 ∷ 2 ∷ 1 ∷ 1 ∷ 1 ∷ 1 ∷ 0 ∷ 0 ∷ 0 ∷ 0 ∷ 0 ∷ 0 ∷ [])) ∷
+    -- (g): K2 with start ticks 2; with idle power 50 and start ticks 1; with 1,001
+    case (k2-start 0 2) (plan (0 ∷ 2 ∷ []) 12890) ∷
+    case (k2-start 0 2) (price 2890 10000 12890) ∷
+    case (k2-start 50 1) (plan (4 ∷ 3 ∷ []) 11650) ∷
+    case (k2-start 50 1) (table (1 ∷ 1 ∷ 1 ∷ 1 ∷ 2 ∷ 2 ∷ 2 ∷ 2 ∷ 2 ∷ 2 ∷ 1 ∷ 1 ∷ 1 ∷ 1 ∷ 2 ∷ 2 ∷ 2 ∷ 2 ∷ 2 ∷ 0 ∷ [])) ∷
+    case (k2-start 0 1001) (refusal 3 5) ∷
     []
 
 pub K1-to-K13 : map (λ c. defined (c .words) (c .claim)) cases ≡ map (λ c. c .claim) cases
-unfolding wordsOf numbers firstFault faulty begins isDigit isBlank valueAfter problemOf siteFile idlePower settings level lastAfter levels period
+unfolding wordsOf numbers firstFault faulty begins isDigit isBlank valueAfter problemOf siteFile settingFrom settings level lastAfter levels period
     isPenalty task tasks withDeadline withDeadlines isDeadlineCount deadlineSection deadlines
     times between takeWord takeTested takeUnlessEnded takeEnd
     span spanFrom lcm first every listOf joined onto sum room isMust badChoice choicesPass

@@ -151,9 +151,9 @@ demand-1 =
 -- check passes exactly the tables in which each job of a kept task has exactly its ticks between release and deadline on its
 -- core and every other slot is idle.
 pub record QuantitiesExact (words : List ℕ) (p : Problem) : Type 0 where
-  -- "c divided by s, rounded up"
+  -- "c divided by s, rounded up", and (g) "plus the start ticks"
   pub ticks-rounded-up : (i l n : ℕ) → i < taskCount p → l < levelCount p →
-      (ticks (taskAt p i .cycles) (levelAt p l .speed) ≤ n) ↔ (taskAt p i .cycles ≤ n * levelAt p l .speed)
+      (ticks (p .start) (taskAt p i .cycles) (levelAt p l .speed) ≤ n + p .start) ↔ (taskAt p i .cycles ≤ n * levelAt p l .speed)
   -- "least common multiple of the periods"
   pub span-is-common-multiple : (i : ℕ) → i < taskCount p → taskAt p i .period ∣ span p
   pub span-is-least : (m : ℕ) → ((i : ℕ) → i < taskCount p → taskAt p i .period ∣ m) → span p ∣ m
@@ -195,7 +195,7 @@ pub demand-2 : (words : List ℕ) (p : Problem) → problemOf words ≡ accepted
 demand-2 words p read =
     let valid = accepted-is-valid words read in
     record {
-      ticks-rounded-up = λ i l n is-task is-level. ticks-round-up _ _ n (valid .level l is-level .speed .at-least);
+      ticks-rounded-up = λ i l n is-task is-level. ticks-round-up _ _ _ n (valid .level l is-level .speed .at-least);
       span-is-common-multiple = period-divides-span valid;
       span-is-least = span-divides-common-multiple valid;
       energy-of-kept-tasks-and-idle-ticks = priced-energy p;

@@ -47,7 +47,8 @@ fn ticks_on(inst: Instance, task: Task, choice: u32, core: u32) -> u32 {
     if quotient(choice - 1, levels) != core {
         return 0;
     }
-    rounded_up(task.cycles, speed_of(inst, rest(choice - 1, levels)))
+    let busy = rounded_up(task.cycles, speed_of(inst, rest(choice - 1, levels)));
+    std::num::wrapping_add_u32(busy, inst.start)
 }
 
 fn job_ticks(inst: Instance, choices: &[u32; MOST_TASKS], core: u32) -> JobTicks {

@@ -2,9 +2,9 @@
 use crate::draw::below;
 use ranges::Slot;
 
-// Room for the longest list that is drawn, and a word more: five settings, a level count and four levels, a task count and four
-// tasks, their count again and four deadlines.
-pub const WORDS_ROOM: usize = 5 + 9 + 13 + 5 + 1;
+// Room for the longest list that is drawn, and a word more: a settings count and five settings, a level count and four levels, a
+// task count and four tasks, their count again and four deadlines.
+pub const WORDS_ROOM: usize = 6 + 9 + 13 + 5 + 1;
 
 // Room for one choice of each task.
 pub const PLAN_ROOM: usize = ranges::MOST_TASKS as usize;

@@ -32,8 +32,15 @@ fn count_power(idle: u32, least: u32, largest: u32, counts: &mut Counts) {
 
 // Counts a list that was accepted, with so many levels.
 pub fn count_idle(words: &[u32], levels: u32, counts: &mut Counts) {
-    if word(words, 0) == SETTINGS_WITH_IDLE {
-        let last = 5 + times(2, levels) as usize;
-        count_power(word(words, 4), word(words, 7), word(words, last), counts);
+    let settings = word(words, 0);
+    if SETTINGS_WITH_IDLE <= settings {
+        let first = settings as usize + 3;
+        let last = settings as usize + 1 + times(2, levels) as usize;
+        count_power(
+            word(words, 4),
+            word(words, first),
+            word(words, last),
+            counts,
+        );
     }
 }

@@ -11,8 +11,10 @@ use crate::draw::up_to;
 use crate::idle::BELOW_LEVELS;
 use crate::idle::idle_power;
 use crate::site_words::deadlines_at;
+use crate::start::any_start_ticks;
 use ranges::MAY_NOT_BE_REFUSED;
 use ranges::SETTINGS_WITH_IDLE;
+use ranges::SETTINGS_WITH_START;
 use ranges::SETTINGS_WITHOUT_IDLE;
 
 const PERIODS: [u32; 8] = [1, 2, 3, 4, 6, 8, 12, 24];
@@ -28,20 +30,27 @@ const PENALTIES: [u32; 8] = [0, 0, 4, 4, 20, 20, 200, 200];
 const TASKS: [u32; 16] = [0, 1, 1, 2, 2, 2, 3, 3, 3, 3, 3, 4, 4, 4, 4, 4];
 
 // Words that are in few ranges.
-const ODD_WORDS: [u32; 8] = [0, 0, 5, 5, 13, 4095, 4095, 100_000_001];
+const ODD_WORDS: [u32; 8] = [0, 0, 5, 6, 13, 4095, 4095, 100_000_001];
 
-// The number of settings, the two weights, the cores, and in one list of three idle power; answers where the next word goes.
+// The number of settings, the two weights, the cores; in half of the lists idle power, and in half of these start ticks; answers
+// where the next word goes.
 fn put_settings(words: &mut Words, state: &mut u32) -> usize {
     words[0] = SETTINGS_WITHOUT_IDLE;
     words[1] = up_to(state, 3);
     words[2] = up_to(state, 3);
     words[3] = up_to(state, 3);
-    if below(state, 3) != 0 {
+    let drawn = below(state, 4);
+    if drawn < 2 {
         return 4;
     }
     words[0] = SETTINGS_WITH_IDLE;
     words[4] = idle_power(state);
-    5
+    if drawn == 2 {
+        return 5;
+    }
+    words[0] = SETTINGS_WITH_START;
+    words[5] = any_start_ticks(state);
+    6
 }
 
 // Levels whose speeds rise by 1 to 3, and powers by 1 to 4; answers where the next word goes.

@@ -6,6 +6,7 @@ mod idle;
 mod instances;
 mod other_tables;
 mod site_words;
+mod start;
 pub mod tally;
 mod trials;
 
@@ -24,6 +25,7 @@ pub use deadlines::end_of_tasks;
 pub use deadlines::has_early_deadlines;
 pub use idle::count_idle;
 pub use instances::draw_instance;
+pub use start::count_start;
 pub use trials::table_fails;
 pub use trials::try_answered;
 pub use trials::try_drawn_plans;

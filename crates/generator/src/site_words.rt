@@ -40,13 +40,34 @@ pub(crate) fn period_of(words: &[u32], number: Slot) -> u32 {
     word(words, period_at(words, number))
 }
 
-// The ticks of a job of a task at a level, from 0.
+// The fifth setting, 0 where there are fewer.
+pub(crate) fn start_ticks(words: &[u32]) -> u32 {
+    if word(words, 0) < ranges::SETTINGS_WITH_START {
+        return 0;
+    }
+    word(words, 5)
+}
+
+fn rounded_up(a: u32, b: u32) -> u32 {
+    if b == 0 {
+        return 0;
+    }
+    if a % b == 0 {
+        return a / b;
+    }
+    std::num::wrapping_add_u32(a / b, 1)
+}
+
+// The ticks of a job of a task at a level, from 0, reckoned here once more.
 pub(crate) fn ticks_at(words: &[u32], number: Slot, level: u32) -> u32 {
     let cycles = word(
         words,
         std::num::wrapping_add_usize(period_at(words, number), 1),
     );
-    plan_rules::ticks_of(cycles, speed_of(words, level))
+    std::num::wrapping_add_u32(
+        rounded_up(cycles, speed_of(words, level)),
+        start_ticks(words),
+    )
 }
 
 // The place of the deadlines' count, which is where the tasks end.

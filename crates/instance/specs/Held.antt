@@ -16,6 +16,7 @@ problemIn inst =
       weights = inst .weights;
       cores = inst .cores;
       idle = inst .idle;
+      start = inst .start;
       levels = take (inst .levelcount) (inst .levels);
       tasks = take (inst .taskcount) (inst .tasks);
     }
@@ -32,6 +33,7 @@ problem-in-stored p hl ht = λ i.
       weights = p .weights;
       cores = p .cores;
       idle = p .idle;
+      start = p .start;
       levels = take-padded mostLevels noLevel (p .levels) hl i;
       tasks = take-padded mostTasks noTask (p .tasks) ht i;
     }
@@ -68,11 +70,12 @@ module _ (inst : Instance) (s : Sound inst) where
   unfolding problemIn
   held-level l h = sym (getD-take (inst .levelcount) (inst .levels) l noLevel (omega (arith, held-levelcount)))
 
--- the struct has the problem's weights, cores and idle power, as many levels and tasks, each of these, and its span
+-- the struct has the problem's weights, cores, idle power and start ticks, as many levels and tasks, each of these, and its span
 pub record HoldsProblem (p : Problem) (inst : Instance) : Type 0 where
   pub same-weights : inst .weights ≡ p .weights
   pub same-cores : inst .cores ≡ p .cores
   pub same-idle : inst .idle ≡ p .idle
+  pub same-start : inst .start ≡ p .start
   pub same-level-count : inst .levelcount ≡ levelCount p
   pub same-levels : (l : ℕ) → l < levelCount p → getD (inst .levels) l noLevel ≡ levelAt p l
   pub same-task-count : inst .taskcount ≡ taskCount p
@@ -86,6 +89,7 @@ sound-holds-problem inst s =
       same-weights = refl;
       same-cores = refl;
       same-idle = refl;
+      same-start = refl;
       same-level-count = held-levelcount inst s;
       same-levels = held-level inst s;
       same-task-count = held-taskcount inst s;

@@ -17,6 +17,8 @@ pub record Problem : Type 0 where
   pub cores : ℕ
   -- idle power, of document 02 (a): what an awake core draws in an idle tick
   pub idle : ℕ
+  -- start ticks, of document 02 (g): "Each job begins by setting the clock."
+  pub start : ℕ
   pub levels : List Level
   pub tasks : List Task
 
@@ -54,6 +56,7 @@ stored p =
       weights = p .weights;
       cores = p .cores;
       idle = p .idle;
+      start = p .start;
       levelcount = levelCount p;
       levels = padded mostLevels noLevel (p .levels);
       taskcount = taskCount p;
@@ -68,6 +71,7 @@ noInstance =
       weights = record { energy = 0; penalty = 0 };
       cores = 0;
       idle = 0;
+      start = 0;
       levelcount = 0;
       levels = replicate mostLevels noLevel;
       taskcount = 0;

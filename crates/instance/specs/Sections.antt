@@ -21,7 +21,7 @@ use Rattle.instance.specs.declared.tasks.TaskGot.{TaskGot}
 use Rattle.instance.specs.declared.tasks.TasksGot.{TasksGot}
 
 abbrev pub settingsIn : SettingsGot → Settings
-settingsIn r = record { weights = r .weights; cores = r .cores; idle = r .idle }
+settingsIn r = record { weights = r .weights; cores = r .cores; idle = r .idle; start = r .start }
 
 pub record LevelWithinLimits (l : Level) : Type 0 where
   pub speed : l .speed ≤ Limits.mostSpeed

@@ -27,20 +27,30 @@ pub record Settings : Type 0 where
   pub weights : Weights
   pub cores : ℕ
   pub idle : ℕ
+  pub start : ℕ
+
+-- a setting, 0 to `most`, that is given where the settings count `from` or more, and is 0 where they count fewer
+unfoldable pub settingFrom : (from most count : ℕ) → SiteFormat ℕ
+settingFrom from most count = cond (leb from count) (word 0 most) (done 0)
 
 -- (a) "Settings may now count 4, the fourth word being idle power, 0 to 65,535; a count of 3 means 0."
-unfoldable pub idlePower : ℕ → SiteFormat ℕ
-idlePower count = cond (eqb count Limits.settingsWithIdle) (word 0 Limits.mostIdlePower) (done 0)
+abbrev pub idlePower : ℕ → SiteFormat ℕ
+idlePower = settingFrom Limits.settingsWithIdle Limits.mostIdlePower
 
--- settings | 3 or 4
+-- (g) "Settings may count 5, the fifth word being start ticks, 0 to 1,000, and 0 when absent."
+abbrev pub startTicks : ℕ → SiteFormat ℕ
+startTicks = settingFrom Limits.settingsWithStart Limits.mostStartTicks
+
+-- settings | 3, 4 or 5
 unfoldable pub settings : SiteFormat Settings
 settings = do
-  count ← word Limits.settingsWithoutIdle Limits.settingsWithIdle
+  count ← word Limits.settingsWithoutIdle Limits.settingsWithStart
   energy ← word 1 Limits.mostWeight
   penalty ← word 1 Limits.mostWeight
   cores ← word 1 Limits.mostCores
   idle ← idlePower count
-  done (record { weights = record { energy = energy; penalty = penalty }; cores = cores; idle = idle })
+  start ← startTicks count
+  done (record { weights = record { energy = energy; penalty = penalty }; cores = cores; idle = idle; start = start })
 
 -- "speed 1 to 65,535, then power 1 to 65,535, for each level; both rise strictly from level to level": the level after
 -- `before`
@@ -123,7 +133,7 @@ siteFile = do
   ts ← tasks
   due ← deadlines ts
   nothing ← end
-  done (record { weights = s .weights; cores = s .cores; idle = s .idle; levels = ls; tasks = due })
+  done (record { weights = s .weights; cores = s .cores; idle = s .idle; start = s .start; levels = ls; tasks = due })
 
 abbrev pub readingOf : Taken Problem → Reading Problem
 readingOf (refused r) = Reading.refused r

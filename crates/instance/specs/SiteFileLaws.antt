@@ -14,35 +14,51 @@ use Rattle.instance.specs.LevelsWritten.{rising-in-range, rising-rises, 
 use Rattle.instance.specs.Node.{Problem, levelCount, taskCount, noLevel, span, spanFrom}
 use Rattle.instance.specs.PeriodEnds.{period-ends-count, same-count, same-span, same-words}
 use Rattle.instance.specs.RangeLaws.{between-in-range, in-range-between}
-use Rattle.instance.specs.SettingsWritten.{IdleWritten, absent, given, idle-written, idle-at-most, settings-written}
+use Rattle.instance.specs.SettingsWritten.{SettingWritten, absent, given, setting-written, setting-at-most, settings-written}
 use Rattle.instance.specs.SiteFile.{settings, level, lastAfter, levels, task, tasks, siteFile, readingOf, problemOf}
 use Rattle.instance.specs.TasksWritten.{tasks-written, valid-tasks}
-use Rattle.instance.specs.Valid.{InRange, Valid, wordsOfLevels, wordsOfTasks, three, four, WritesDeadlines, Writes, sections}
+use Rattle.instance.specs.Valid.{InRange, Valid, wordsOfLevels, wordsOfTasks, WritesSettings, three, four, five, WritesDeadlines, Writes, sections}
 
 record Read (p : Problem) (words : List ℕ) : Type 0 where
   valid : Valid p
   written : Writes p words
 
-together : (p : Problem) (deadlines : List ℕ) →
-    wordsOfLevels (p .levels) ++ taskCount p ∷ wordsOfTasks (p .tasks) ++ deadlines
-    ≡ wordsOfLevels (p .levels) ++ (taskCount p ∷ (wordsOfTasks (p .tasks) ++ deadlines))
-together p = append-assoc (wordsOfLevels (p .levels)) (taskCount p ∷ wordsOfTasks (p .tasks))
+-- the sections one after the other
+apart : (p : Problem) (front back : List ℕ) →
+    front ++ levelCount p ∷ wordsOfLevels (p .levels) ++ taskCount p ∷ wordsOfTasks (p .tasks) ++ back
+    ≡ front ++ (levelCount p ∷ (wordsOfLevels (p .levels) ++ (taskCount p ∷ (wordsOfTasks (p .tasks) ++ back))))
+apart p front back =
+    append-assoc (front ++ levelCount p ∷ wordsOfLevels (p .levels)) (taskCount p ∷ wordsOfTasks (p .tasks)) back
+    ∙ append-assoc front (levelCount p ∷ wordsOfLevels (p .levels)) (taskCount p ∷ wordsOfTasks (p .tasks) ++ back)
 
-writes-sections : {p : Problem} {settings-count level-count task-count : ℕ} {idle-words level-words task-words deadline-words : List ℕ} →
-    IdleWritten (p .idle) (level-count ∷ level-words) settings-count idle-words → levelCount p ≡ level-count →
+writes-settings : {p : Problem} {count : ℕ} {idle-words start-words rest : List ℕ} → InRange Limits.settingsWithoutIdle Limits.settingsWithStart count →
+    SettingWritten Limits.settingsWithIdle Limits.mostIdlePower (p .idle) start-words count idle-words →
+    SettingWritten Limits.settingsWithStart Limits.mostStartTicks (p .start) rest count start-words →
+    (front : List ℕ) × WritesSettings p front × (count ∷ p .weights .energy ∷ p .weights .penalty ∷ p .cores ∷ idle-words ≡ front ++ rest)
+writes-settings {p} {count} range (absent fewer none) (absent also nothing-to-start) =
+    let three-words : count ≡ Limits.settingsWithoutIdle = omega (arith, range .at-least) in
+    rw three-words (_, three none nothing-to-start, refl)
+writes-settings {p} {count} range (given enough most) (absent fewer nothing-to-start) =
+    let four-words : count ≡ Limits.settingsWithIdle = omega arith in
+    rw four-words (_, four nothing-to-start, refl)
+writes-settings {p} {count} range (given enough most) (given more many) =
+    let five-words : count ≡ Limits.settingsWithStart = omega (arith, range .at-most) in
+    rw five-words (_, five, refl)
+writes-settings {p} {count} range (absent fewer none) (given more many) = absurd (omega arith)
+
+writes-sections : {p : Problem} {level-count task-count : ℕ} {words level-words task-words deadline-words : List ℕ} →
+    (front : List ℕ) × WritesSettings p front × (words ≡ front ++ level-count ∷ level-words) → levelCount p ≡ level-count →
     level-words ≡ wordsOfLevels (p .levels) ++ task-count ∷ task-words → taskCount p ≡ task-count →
     task-words ≡ wordsOfTasks (p .tasks) ++ deadline-words → WritesDeadlines (p .tasks) deadline-words →
-    Writes p (settings-count ∷ p .weights .energy ∷ p .weights .penalty ∷ p .cores ∷ idle-words)
-writes-sections {p} {deadline-words} (absent none) level-count levels task-count tasks deadlines =
-    rw (← level-count, levels, ← task-count, tasks, ← together p deadline-words) (sections (three none) deadlines)
-writes-sections {p} {deadline-words} (given most) level-count levels task-count tasks deadlines =
-    rw (← level-count, levels, ← task-count, tasks, ← together p deadline-words) (sections four deadlines)
+    Writes p words
+writes-sections {p} {deadline-words} (front, settings, are) level-count levels task-count tasks deadlines =
+    rw (are, ← level-count, levels, ← task-count, tasks, ← apart p front deadline-words) (sections settings deadlines)
 
 site-file-read : {p : Problem} {words : List ℕ} (rest : List ℕ) → siteFile .Writes p words rest → Read p words
 unfolding siteFile settings levels tasks lastAfter spanFrom span
 site-file-read rest
     (then
-    (then (Written.word count t-passes) (then (Written.word energy e-passes) (then (Written.word penalty p-passes) (then (Written.word cores c-passes) (then idle-words nothing)))))
+    (then (Written.word count t-passes) (then (Written.word energy e-passes) (then (Written.word penalty p-passes) (then (Written.word cores c-passes) (then idle-words (then start-words nothing))))))
     (then
     (then (Written.word level-count l-passes) some-levels)
     (then
@@ -53,7 +69,8 @@ site-file-read rest
     let rise = levels-rise (ls .many) in
     let spanned = tasks-written (ts .many) in
     let dated = rw (ts .are) at (deadlines-written _ some-deadlines) in
-    let idle = idle-written count (between-in-range t-passes) idle-words in
+    let idle = setting-written Limits.settingsWithIdle Limits.mostIdlePower count idle-words in
+    let start = setting-written Limits.settingsWithStart Limits.mostStartTicks count start-words in
     let counts = same-count (dated .same) ∙ ts .count in
     rw (ls .are) (record {
       valid =
@@ -61,7 +78,8 @@ site-file-read rest
             energy-weight = between-in-range e-passes;
             penalty-weight = between-in-range p-passes;
             cores = between-in-range c-passes;
-            idle = idle-at-most idle;
+            idle = setting-at-most idle;
+            start = setting-at-most start;
             level-count = rw (ls .count) (between-in-range l-passes);
             level = λ l below.
                 record {
@@ -75,7 +93,7 @@ site-file-read rest
             span-at-most = rw (same-span (dated .same) 1) (spanned .span-at-most (omega arith));
           };
       written =
-          writes-sections idle (ls .count) (rise .1) counts
+          writes-sections (writes-settings (between-in-range t-passes) idle start) (ls .count) (rise .1) counts
           (rw (same-words (dated .same)) (spanned .written))
           (dated .written (spanned .due) refl);
     })
@@ -86,9 +104,7 @@ site-file-writes {p} v (sections {settings = front} {deadlines = back} settings-
     let task-count : InRange 0 Limits.mostTasks (taskCount p) = omega (arith, v .task-count) in
     let ls = rising-levels [] (p .levels) (taskCount p ∷ wordsOfTasks (p .tasks) ++ back) (valid-speeds v) (valid-powers v) in
     let ts = many-written (λ before. task (spanFrom 1 before)) (valid-tasks [] (p .tasks) back (omega arith) (v .task) (v .span-at-most)) in
-    let front-apart = append-assoc front (levelCount p ∷ wordsOfLevels (p .levels)) (taskCount p ∷ wordsOfTasks (p .tasks) ++ back) in
-    let back-apart = append-assoc (front ++ levelCount p ∷ wordsOfLevels (p .levels)) (taskCount p ∷ wordsOfTasks (p .tasks)) back in
-    rw (back-apart, front-apart)
+    rw (apart p front back)
     (then
     (settings-written v settings-words _)
     (then

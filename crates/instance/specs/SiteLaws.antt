@@ -1,10 +1,9 @@
 -- Code that takes the whole site file: what its sections say together.
-use Prim.Native.Nat.{ℕ}
+use Prim.Native.Nat.{ℕ, _≤_, _<_}
 use mathlib.Core.Path.{_≡_, sym, _∙_}
 use mathlib.Core.List.{List}
-use mathlib.Core.Logic.{_≢_}
 use lib.ListN.{take}
-use borrow.Author.Tests.{eq-eqb, ne-eqb}
+use borrow.Author.Tests.{le-leb, lt-leb}
 use Rattle.ranges.specs.Limits
 use Rattle.refusals.specs.Refusals.{refused}
 use Rattle.refusals.specs.declared.Refusal.{Refusal}
@@ -19,33 +18,35 @@ use Rattle.instance.specs.Node.{Problem, span, stored}
 use Rattle.instance.specs.Outcomes.{instanceReadOf, instanceOutcome}
 use Rattle.instance.specs.PeriodEnds.{same-span}
 use Rattle.instance.specs.Sections.{settingsIn, levelsIn, GetsLevels, tasksIn, GetsTasks, GetsDeadlines}
-use Rattle.instance.specs.SiteFile.{idlePower, settings, deadlines, siteFile, problemOf}
+use Rattle.instance.specs.SiteFile.{settingFrom, idlePower, startTicks, settings, deadlines, siteFile, problemOf}
 use Rattle.instance.specs.declared.Instance.{Instance}
 use Rattle.instance.specs.declared.deadlines.DeadlinesGot.{DeadlinesGot}
 use Rattle.instance.specs.declared.levels.LevelsGot.{LevelsGot}
 use Rattle.instance.specs.declared.site.SettingsGot.{SettingsGot}
 use Rattle.instance.specs.declared.tasks.TasksGot.{TasksGot}
 
-module _ {all : List ℕ} {c : Cursor} {count : ℕ} where
-  pub idle-word-gets : {got : Got} → count ≡ Limits.settingsWithIdle → GetsWord all c 0 Limits.mostIdlePower got →
-      Gets all c (idlePower count .take) (got .value) (got .cursor)
-  unfolding idlePower
-  idle-word-gets four word = rw (eq-eqb count Limits.settingsWithIdle four) (word .gets)
+module _ {all : List ℕ} {c : Cursor} (from most count : ℕ) where
+  pub setting-gets : {got : Got} → from ≤ count → GetsWord all c 0 most got →
+      Gets all c (settingFrom from most count .take) (got .value) (got .cursor)
+  unfolding settingFrom
+  setting-gets enough word = rw (le-leb from count enough) (word .gets)
 
-  pub no-idle-word-gets : count ≢ Limits.settingsWithIdle → Gets all c (idlePower count .take) 0 c
-  unfolding idlePower
-  no-idle-word-gets other = rw (ne-eqb count Limits.settingsWithIdle other) (gets-done 0)
+  pub no-setting-gets : count < from → Gets all c (settingFrom from most count .take) 0 c
+  unfolding settingFrom
+  no-setting-gets fewer = rw (lt-leb from count fewer) (gets-done 0)
 
-pub settings-gets : {all : List ℕ} {c : Cursor} {count energy penalty cores idle : Got} →
-    GetsWord all c Limits.settingsWithoutIdle Limits.settingsWithIdle count → GetsWord all (count .cursor) 1 Limits.mostWeight energy →
+pub settings-gets : {all : List ℕ} {c : Cursor} {count energy penalty cores idle start : Got} →
+    GetsWord all c Limits.settingsWithoutIdle Limits.settingsWithStart count → GetsWord all (count .cursor) 1 Limits.mostWeight energy →
     GetsWord all (energy .cursor) 1 Limits.mostWeight penalty → GetsWord all (penalty .cursor) 1 Limits.mostCores cores →
     Gets all (cores .cursor) (idlePower (count .value) .take) (idle .value) (idle .cursor) →
+    Gets all (idle .cursor) (startTicks (count .value) .take) (start .value) (start .cursor) →
     Gets all c (settings .take)
-    (record { weights = record { energy = energy .value; penalty = penalty .value }; cores = cores .value; idle = idle .value })
-    (idle .cursor)
+    (record { weights = record { energy = energy .value; penalty = penalty .value }; cores = cores .value; idle = idle .value; start = start .value })
+    (start .cursor)
 unfolding settings
-settings-gets count energy penalty cores idle =
-    and-then _ (count .gets) (and-then _ (energy .gets) (and-then _ (penalty .gets) (and-then _ (cores .gets) (and-then _ idle (gets-done _)))))
+settings-gets count energy penalty cores idle start =
+    and-then _ (count .gets)
+    (and-then _ (energy .gets) (and-then _ (penalty .gets) (and-then _ (cores .gets) (and-then _ idle (and-then _ start (gets-done _))))))
 
 module _ {words : List ℕ} {start end : Cursor} {s : SettingsGot} {l : LevelsGot} {t : TasksGot} {d : DeadlinesGot}
     (at-start : start ≡ atStart) (settings-gets : Gets words start (settings .take) (settingsIn s) (s .cursor))
@@ -53,7 +54,7 @@ module _ {words : List ℕ} {start end : Cursor} {s : SettingsGot} {l : LevelsGo
     (deadlines-get : GetsDeadlines words (t .cursor) (deadlines (tasksIn t)) (t .count) d)
     (end-gets : Gets words (d .cursor) takeEnd tt end) where
   abbrev read : Problem
-  read = record { weights = s .weights; cores = s .cores; idle = s .idle; levels = levelsIn l; tasks = take (t .count) (d .tasks) }
+  read = record { weights = s .weights; cores = s .cores; idle = s .idle; start = s .start; levels = levelsIn l; tasks = take (t .count) (d .tasks) }
 
   site-gets : Gets words atStart (siteFile .take) read end
   unfolding siteFile
@@ -73,6 +74,7 @@ module _ {words : List ℕ} {start end : Cursor} {s : SettingsGot} {l : LevelsGo
         weights = s .weights;
         cores = s .cores;
         idle = s .idle;
+        start = s .start;
         levelcount = l .count;
         levels = l .levels;
         taskcount = t .count;
@@ -95,6 +97,7 @@ module _ {words : List ℕ} {start end : Cursor} {s : SettingsGot} {l : LevelsGo
         weights = s .weights;
         cores = s .cores;
         idle = s .idle;
+        start = s .start;
         levelcount = sym (levels-get .filled .count) i;
         levels = levels-get .filled .is-padded i;
         taskcount = sym (deadlines-get .filled .count) i;

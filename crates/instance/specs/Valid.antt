@@ -1,4 +1,4 @@
--- Document 01's section 'Site file', with (a) and (c) of document 02, as what holds of an instance, and the words that the
+-- Document 01's section 'Site file', with (a), (c) and (g) of document 02, as what holds of an instance, and the words that the
 -- instance is written in. Nothing here reads: that what is read is valid and written so, and that whatever is valid and
 -- written so is read, are laws.
 use Prim.Native.Nat.{ℕ, suc, _≤_, _<_}
@@ -36,6 +36,8 @@ pub record Valid (p : Problem) : Type 0 where
   pub cores : InRange 1 Limits.mostCores (p .cores)
   -- (a) "idle power, 0 to 65,535"
   pub idle : p .idle ≤ Limits.mostIdlePower
+  -- (g) "start ticks, 0 to 1,000"
+  pub start : p .start ≤ Limits.mostStartTicks
   -- "levels | 1 to 8"
   pub level-count : InRange 1 Limits.mostLevels (levelCount p)
   pub level : (l : ℕ) → l < levelCount p → ValidLevel (levelAt p l)
@@ -56,11 +58,15 @@ unfoldable pub wordsOfTasks : List Task → List ℕ
 wordsOfTasks [] = []
 wordsOfTasks (t ∷ ts) = t .period ∷ t .cycles ∷ t .penalty ∷ wordsOfTasks ts
 
--- settings | 3 or 4. "A count of 3 means 0": an instance of idle power 0 is written in either way.
+-- settings | 3, 4 or 5. "A count of 3 means 0", and so does a count of 4 for start ticks: an instance without either is written in
+-- three ways, one without start ticks in two.
 pub data WritesSettings (p : Problem) : List ℕ → Type 0 where
-  three : p .idle ≡ 0 →
+  three : p .idle ≡ 0 → p .start ≡ 0 →
       WritesSettings p (Limits.settingsWithoutIdle ∷ p .weights .energy ∷ p .weights .penalty ∷ p .cores ∷ [])
-  four : WritesSettings p (Limits.settingsWithIdle ∷ p .weights .energy ∷ p .weights .penalty ∷ p .cores ∷ p .idle ∷ [])
+  four : p .start ≡ 0 →
+      WritesSettings p (Limits.settingsWithIdle ∷ p .weights .energy ∷ p .weights .penalty ∷ p .cores ∷ p .idle ∷ [])
+  five : WritesSettings p
+      (Limits.settingsWithStart ∷ p .weights .energy ∷ p .weights .penalty ∷ p .cores ∷ p .idle ∷ p .start ∷ [])
 
 unfoldable pub wordsOfDeadlines : List Task → List ℕ
 wordsOfDeadlines [] = []

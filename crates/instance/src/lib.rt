@@ -28,11 +28,13 @@ pub struct Weights {
     pub penalty: u32,
 }
 
-// An accepted instance; `idle` is the power that an awake core draws in an idle tick. Only the first `levelcount` levels and `taskcount` tasks are its own; the others are all zero.
+// An accepted instance; `idle` is the power that an awake core draws in an idle tick, `start` the ticks in which each job begins by
+// setting the clock. Only the first `levelcount` levels and `taskcount` tasks are its own; the others are all zero.
 pub struct Instance {
     pub weights: Weights,
     pub cores: u32,
     pub idle: u32,
+    pub start: u32,
     pub levelcount: usize,
     pub levels: [Level; ranges::MOST_LEVELS as usize],
     pub taskcount: usize,

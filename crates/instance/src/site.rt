@@ -19,21 +19,22 @@ ghost use Rattle.formats.specs.Cursors.{Gets};
 ghost use Rattle.instance.specs.Outcomes.{instanceOutcome, instanceReadOf, ReadingEnds};
 ghost use Rattle.refusals.specs.Refusals.{refused};
 ghost use Rattle.instance.specs.Sections.{settingsIn};
-ghost use Rattle.instance.specs.SiteFile.{idlePower, settings};
+ghost use Rattle.instance.specs.SiteFile.{settingFrom, settings};
 
 struct SettingsGot {
     weights: Weights,
     cores: u32,
     idle: u32,
+    start: u32,
     cursor: Cursor,
 }
 
-// The idle power, a word only where the settings count 4; else 0.
-fn idle_next(words: &[u32], cursor: Cursor, count: u32) -> Got
-    ensures { λ r. ⌜ Gets (now (words .entry)) cursor (idlePower count .take) (r .value) (r .cursor) ⌝ }
+// A setting of 0 to `most`, a word only where the settings count `from` or more; else 0.
+fn setting_next(words: &[u32], cursor: Cursor, count: u32, from: u32, most: u32) -> Got
+    ensures { λ r. ⌜ Gets (now (words .entry)) cursor (settingFrom from most count .take) (r .value) (r .cursor) ⌝ }
 {
-    if count == ranges::SETTINGS_WITH_IDLE {
-        return word_next(words, cursor, 0, ranges::MOST_IDLE_POWER);
+    if from <= count {
+        return word_next(words, cursor, 0, most);
     }
     Got { value: 0, cursor }
 }
@@ -45,13 +46,26 @@ fn settings_next(words: &[u32], cursor: Cursor) -> SettingsGot
         words,
         cursor,
         ranges::SETTINGS_WITHOUT_IDLE,
-        ranges::SETTINGS_WITH_IDLE,
+        ranges::SETTINGS_WITH_START,
     );
     let energy = word_next(words, count.cursor, 1, ranges::MOST_WEIGHT);
     let penalty = word_next(words, energy.cursor, 1, ranges::MOST_WEIGHT);
     let cores = word_next(words, penalty.cursor, 1, ranges::MOST_CORES);
-    let idle = idle_next(words, cores.cursor, count.value);
-    let after = idle.cursor;
+    let idle = setting_next(
+        words,
+        cores.cursor,
+        count.value,
+        ranges::SETTINGS_WITH_IDLE,
+        ranges::MOST_IDLE_POWER,
+    );
+    let start = setting_next(
+        words,
+        idle.cursor,
+        count.value,
+        ranges::SETTINGS_WITH_START,
+        ranges::MOST_START_TICKS,
+    );
+    let after = start.cursor;
     SettingsGot {
         weights: Weights {
             energy: energy.value,
@@ -59,6 +73,7 @@ fn settings_next(words: &[u32], cursor: Cursor) -> SettingsGot
         },
         cores: cores.value,
         idle: idle.value,
+        start: start.value,
         cursor: after,
     }
 }
@@ -75,6 +90,7 @@ fn no_instance(why: Refusal) -> InstanceRead
             },
             cores: 0,
             idle: 0,
+            start: 0,
             levelcount: 0,
             levels: [Level { speed: 0, power: 0 }; ranges::MOST_LEVELS as usize],
             taskcount: 0,
@@ -115,6 +131,7 @@ pub fn read_instance(words: &[u32]) -> InstanceRead
             weights,
             cores: settings.cores,
             idle: settings.idle,
+            start: settings.start,
             levelcount: levelsection.count,
             levels,
             taskcount,

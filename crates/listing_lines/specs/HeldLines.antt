@@ -10,13 +10,11 @@ use lib.ListN.{length, getD, take, drop, length-drop}
 use lib.Seq.{getD-drop}
 use Rattle.laws.specs.JoinedLaws.{listOf-same, take-is-listOf}
 use Rattle.laws.specs.Lists.{listOf, joined}
-use Rattle.instance.specs.Held.{problemIn, Sound, held-levelcount, held-span, held-task}
+use Rattle.instance.specs.Held.{problemIn, Sound, held-levelcount, held-span}
 use Rattle.instance.specs.Node.{taskCount, noLevel, noTask, span}
 use Rattle.instance.specs.declared.Instance.{Instance}
-use Rattle.instance.specs.declared.Level.{Level}
-use Rattle.instance.specs.declared.Task.{Task}
-use Rattle.plan_rules.specs.HeldQuantities.{held-level-of}
-use Rattle.plan_rules.specs.Quantities.{choiceAt, coreOf, levelOf, jobTicks, ticks}
+use Rattle.plan_rules.specs.HeldQuantities.{held-job-ticks}
+use Rattle.plan_rules.specs.Quantities.{choiceAt, coreOf, levelOf, ticks}
 use Rattle.prices.specs.Prices.{priceOf}
 use Rattle.tables.specs.Tables.{tableSize, slotAt}
 use Rattle.prices.specs.declared.amounts.Price.{Price}
@@ -27,15 +25,8 @@ module _ (inst : Instance) (s : Sound inst) (plan : List ℕ) (i : ℕ) where
   unfolding taskLine
   refused-task-line none = rw (eq-eqb (choiceAt plan i) 0 none, add-one)
 
-  held-job-ticks : (l : ℕ) → i < taskCount (problemIn inst) → l ≡ pred (choiceAt plan i) % inst .levelcount →
-      ticks (getD (inst .tasks) i noTask .cycles) (getD (inst .levels) l noLevel .speed) ≡ jobTicks (problemIn inst) plan i
-  unfolding jobTicks
-  held-job-ticks l h e =
-      ap₂ ticks (ap (λ (t : Task). t .cycles) (held-task inst s i h))
-      (ap (λ (v : Level). v .speed) (held-level-of inst s (choiceAt plan i) l e))
-
   pub kept-task-line : (t : ℕ) → i < taskCount (problemIn inst) → (choiceAt plan i ≡ 0 → ⊥) →
-      t ≡ ticks (getD (inst .tasks) i noTask .cycles)
+      t ≡ ticks (inst .start) (getD (inst .tasks) i noTask .cycles)
       (getD (inst .levels) ((choiceAt plan i - 1) % inst .levelcount) noLevel .speed) →
       taskLine (problemIn inst) plan i
       ≡ keptLine (i + 1) ((choiceAt plan i - 1) / inst .levelcount + 1) ((choiceAt plan i - 1) % inst .levelcount + 1) t
@@ -45,7 +36,7 @@ module _ (inst : Instance) (s : Sound inst) (plan : List ℕ) (i : ℕ) where
       let held = held-levelcount inst s in
       let core : (choice - 1) / inst .levelcount ≡ coreOf (problemIn inst) plan i = ap₂ _/_ (sub-one choice) held in
       let level : (choice - 1) % inst .levelcount ≡ levelOf (problemIn inst) plan i = ap₂ _%_ (sub-one choice) held in
-      let same = e ∙ held-job-ticks _ h (ap (λ (n : ℕ). n % inst .levelcount) (sub-one choice)) in
+      let same = e ∙ held-job-ticks inst s i h plan _ (ap (λ (n : ℕ). n % inst .levelcount) (sub-one choice)) in
       rw (ne-eqb choice 0 kept, same, add-one i, add-one (_ / _), add-one (_ % _), core, level) refl
 
 module _ (inst : Instance) (s : Sound inst) (table : List ℕ) (whole : length table ≡ tableSize (problemIn inst))

@@ -28,7 +28,7 @@ fn put_task(out: &mut [u8], at: usize, inst: Instance, plan: &[u32], i: usize) -
     let placed = (choice - 1) as usize;
     let core = placed / inst.levelcount;
     let level = placed % inst.levelcount;
-    let ticks = ticks_of(inst.tasks[i].cycles, inst.levels[level].speed);
+    let ticks = ticks_of(inst.start, inst.tasks[i].cycles, inst.levels[level].speed);
     put_kept(
         out,
         at,

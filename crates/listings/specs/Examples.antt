@@ -6,7 +6,7 @@ use Rattle.text.specs.Decimal.{decimal, digitsOf}
 use Rattle.instance.specs.Node.{span, spanFrom}
 use Rattle.formats.specs.Formats.{times}
 use Rattle.formats.specs.Taking.{between, takeWord, takeTested, takeUnlessEnded, takeEnd}
-use Rattle.instance.specs.SiteFile.{problemOf, siteFile, idlePower, settings, level, lastAfter, levels, period, isPenalty, task, tasks}
+use Rattle.instance.specs.SiteFile.{problemOf, siteFile, settingFrom, settings, level, lastAfter, levels, period, isPenalty, task, tasks}
 use Rattle.instance.specs.SiteFile.{withDeadline, withDeadlines, isDeadlineCount, deadlineSection, deadlines}
 use Rattle.text.specs.Text.{wordsOf, numbers, firstFault, faulty, begins, isDigit, isBlank, valueAfter}
 use Rattle.laws.specs.Lists.{listOf, joined}
@@ -51,6 +51,10 @@ worked =
     listed
     "3 1 1 1\n5 150 80 400 170 600 400 800 900 1000 1600\n2 10 2400 5000 20 6000 4294967295\n2 4 10\n"
     "span 20\ncost 12800 0 12800\ntask 1 core 1 level 3 ticks 4\ntask 2 core 1 level 5 ticks 6\ncore 1 1 1 1 1 2 2 2 2 2 2 1 1 1 1 0 0 0 0 0 0\n" ∷
+    -- (g): K2 with start ticks 2
+    listed
+    "5 1 1 1 0 2\n5 150 80 400 170 600 400 800 900 1000 1600\n2 10 2400 5000 20 6000 4294967295\n"
+    "span 20\ncost 2890 10000 12890\ntask 1 refused\ntask 2 core 1 level 2 ticks 17\ncore 1 2 2 2 2 2 2 2 2 2 2 2 2 2 2 2 2 2 0 0 0\n" ∷
     -- K6: no task, two cores
     listed "3 1 1 2\n5 150 80 400 170 600 400 800 900 1000 1600\n0\n" "span 1\ncost 0 0 0\ncore 1 0\ncore 2 0\n" ∷
     -- K8: refusal 5
@@ -63,7 +67,7 @@ worked =
 
 pub worked-listings : map (λ w. listingOf (bytes (w .text))) worked ≡ map (λ w. bytes (w .listing)) worked
 unfolding bytes ended line numbersLine refusalLine spanLine costLine keptLine refusedLine taskLine coreLine planLines listingOf
-    decimal digitsOf wordsOf numbers firstFault faulty begins isDigit isBlank valueAfter problemOf siteFile idlePower settings level lastAfter levels period
+    decimal digitsOf wordsOf numbers firstFault faulty begins isDigit isBlank valueAfter problemOf siteFile settingFrom settings level lastAfter levels period
     isPenalty task tasks withDeadline withDeadlines isDeadlineCount deadlineSection deadlines
     times between takeWord takeTested takeUnlessEnded takeEnd
     span spanFrom lcm first every listOf joined sum isMust badChoice choicesPass

@@ -25,13 +25,13 @@ levelOf p plan i = pred (choiceAt plan i) % levelCount p
 unfoldable pub keeps : Problem → List ℕ → ℕ → ℕ → Bool
 keeps p plan k i = not (isRefused plan i) && eqb (coreOf p plan i) k
 
--- "Ticks of a job: c divided by s, rounded up."
-unfoldable pub ticks : ℕ → ℕ → ℕ
-ticks cycles speed = (cycles + (speed - 1)) / speed
+-- "Ticks of a job: c divided by s, rounded up.", and (g) "plus the start ticks"
+unfoldable pub ticks : (start cycles speed : ℕ) → ℕ
+ticks start cycles speed = (cycles + (speed - 1)) / speed + start
 
 -- the ticks of a job of task i, if the plan keeps it
 unfoldable pub jobTicks : Problem → List ℕ → ℕ → ℕ
-jobTicks p plan i = ticks (taskAt p i .cycles) (levelAt p (levelOf p plan i) .speed)
+jobTicks p plan i = ticks (p .start) (taskAt p i .cycles) (levelAt p (levelOf p plan i) .speed)
 
 -- the ticks of a job of task i on core k: none where the plan does not keep it there
 unfoldable pub ticksOn : Problem → List ℕ → ℕ → ℕ → ℕ

@@ -46,7 +46,7 @@ pub fn kept_tasks(inst: Instance, plan: &[u32], k: usize) -> KeptTasks
             kept.numbers[n] = (i + 1) as Slot;
             kept.periods[n] = task.period;
             kept.windows[n] = window_of(task);
-            kept.ticks[n] = ticks_of(task.cycles, level.speed);
+            kept.ticks[n] = ticks_of(inst.start, task.cycles, level.speed);
             kept.powers[n] = level.power;
             kept.count = n + 1;
         }

@@ -2,20 +2,22 @@
 use instance::Task;
 ghost use mathlib.Core.Bool.{not, _&&_};
 ghost use mathlib.Core.Path.{_≡_};
-ghost use Prim.Native.Nat.{pred, _*_, _/_, _%_, _<_};
+ghost use Prim.Native.Nat.{pred, _*_, _/_, _%_, _<_, _≤_};
 ghost use lib.Dec.{eqb};
+ghost use Rattle.ranges.specs.Limits.{mostCycles, mostStartTicks};
 ghost use Rattle.plan_rules.specs.Quantities.{ticks};
 ghost use Rattle.plan_rules.specs.Windows.{window};
 
-// The ticks of a job: cycles divided by speed, rounded up; 0 at no speed.
-pub fn ticks_of(cycles: u32, speed: u32) -> u32
-    ensures { λ r. ⌜ r ≡ ticks cycles speed ⌝ }
+// The ticks of a job: cycles divided by speed, rounded up, and the start ticks; these alone at no speed.
+pub fn ticks_of(start: u32, cycles: u32, speed: u32) -> u32
+    requires { ⌜ (start ≤ mostStartTicks) × (cycles ≤ mostCycles) ⌝ }
+    ensures { λ r. ⌜ r ≡ ticks start cycles speed ⌝ }
 {
     if speed == 0 {
-        return 0;
+        return start;
     }
     let raised = cycles as u64 + (speed as u64 - 1);
-    (raised / speed as u64) as u32
+    (raised / speed as u64) as u32 + start
 }
 
 // The jobs that a span holds; none for a period of 0.

@@ -57,7 +57,7 @@ same-on-core F idle levels k c = go (isOn levels k c)
 module _ (p : Problem) (plan : List ℕ) (k : ℕ) where
   -- the load of task i where it is kept at level l, and the energy
   loadIf : ℕ → Bool → ℕ → ℕ
-  loadIf i b l = jobs p i * cond b (ticks (taskAt p i .cycles) (levelAt p l .speed)) 0
+  loadIf i b l = jobs p i * cond b (ticks (p .start) (taskAt p i .cycles) (levelAt p l .speed)) 0
 
   energyIf : ℕ → Bool → ℕ → ℕ
   energyIf i b l = loadIf i b l * levelAt p l .power
@@ -76,7 +76,7 @@ module _ (p : Problem) (plan : List ℕ) (k : ℕ) where
   unfolding ticksOn keeps jobTicks
   ticks-of-pattern i =
       rw (corePattern-at (levelCount p) k plan i)
-      (same-on-core (λ b l. cond b (ticks (taskAt p i .cycles) (levelAt p l .speed)) 0) (λ l m. refl) (levelCount p) k (choiceAt plan i))
+      (same-on-core (λ b l. cond b (ticks (p .start) (taskAt p i .cycles) (levelAt p l .speed)) 0) (λ l m. refl) (levelCount p) k (choiceAt plan i))
 
   tasks-of-pattern : coreTasks p (corePattern (levelCount p) k plan) 0 ≡ coreTasks p plan k
   unfolding coreTasks

@@ -10,8 +10,9 @@ use Rattle.instance.specs.Node.{levelCount, taskCount, taskAt, noLevel, noTask}
 use Rattle.instance.specs.declared.Instance.{Instance}
 use Rattle.instance.specs.declared.Level.{Level}
 use Rattle.instance.specs.declared.Task.{Task}
+use Rattle.plan_rules.specs.HeldQuantities.{start-ticks-at-most}
 use Rattle.plan_rules.specs.Quantities.{ticks}
-use Rattle.plan_rules.specs.QuantityBounds.{ticks-at-most}
+use Rattle.plan_rules.specs.QuantityBounds.{mostTicks, ticks-at-most}
 use Rattle.core_tables.specs.AwakeCores.{aloneCost}
 use Rattle.planner.specs.OptionsOf.{jobsOf, loadAt, itemOf, offerOf, idleCost, offeredCost}
 
@@ -40,17 +41,17 @@ module _ (inst : Instance) (s : Sound inst) where
     jobs-at-most-span = le-trans (le-of-eq jobs-held) (le-trans (div-le-self (inst .span) (t .period)) held-span-at-most)
 
     module _ (i l x : ℕ) (same : t ≡ taskAt (problemIn inst) i) (k : l < levelCount (problemIn inst))
-        (ticks-held : x ≡ ticks (t .cycles) (getD (inst .levels) l noLevel .speed)) where
+        (ticks-held : x ≡ ticks (inst .start) (t .cycles) (getD (inst .levels) l noLevel .speed)) where
       pub held-load : n * x ≡ offerOf (problemIn inst) (taskAt (problemIn inst) i) .load l
-      unfolding offerOf loadAt
+      unfolding offerOf loadAt problemIn
       held-load =
           let speed = ap (λ (level : Level). level .speed) (held-level inst s l k) in
-          rw (← same) (ap₂ _*_ held-jobs-of (ticks-held ∙ ap (λ (v : ℕ). ticks (t .cycles) v) speed))
+          rw (← same) (ap₂ _*_ held-jobs-of (ticks-held ∙ ap (λ (v : ℕ). ticks (inst .start) (t .cycles) v) speed))
 
-      pub held-load-at-most : i < taskCount (problemIn inst) → n * x ≤ mostSpan * mostCycles
+      pub held-load-at-most : i < taskCount (problemIn inst) → n * x ≤ mostSpan * mostTicks
       held-load-at-most h =
           let cycles : t .cycles ≤ mostCycles = rw same (s .valid .task i h .cycles .at-most) in
-          mul-le-mul jobs-at-most-span (le-trans (le-of-eq ticks-held) (le-trans (ticks-at-most _ _) cycles))
+          mul-le-mul jobs-at-most-span (le-trans (le-of-eq ticks-held) (ticks-at-most _ _ _ (start-ticks-at-most inst s) cycles))
 
     pub held-refusal : (i : ℕ) → t ≡ taskAt (problemIn inst) i →
         inst .weights .penalty * (n * t .penalty) ≡ itemOf (problemIn inst) (taskAt (problemIn inst) i) .refusal

@@ -59,7 +59,7 @@ module _ (p : Problem) where
   module _ (i : ℕ) where
     -- what choice c asks of core 0 for task i, as the problem says it
     loadOf : ℕ → ℕ
-    loadOf c = jobs p i * cond (not (eqb c 0) && eqb (pred c / levelCount p) 0) (ticks (taskAt p i .cycles) (levelAt p (pred c % levelCount p) .speed)) 0
+    loadOf c = jobs p i * cond (not (eqb c 0) && eqb (pred c / levelCount p) 0) (ticks (p .start) (taskAt p i .cycles) (levelAt p (pred c % levelCount p) .speed)) 0
 
     entry-load : (c : ℕ) → c ≤ levelCount p → entryLoad (offerOf p (taskAt p i)) c ≡ loadOf c
     unfolding entryLoad loadOf offerOf loadAt jobsOf jobs

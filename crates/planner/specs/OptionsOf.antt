@@ -27,7 +27,7 @@ itemOf p t =
 
 -- "jobs × ticks": what the task asks of a core over a span, at level l
 unfoldable pub loadAt : Problem → Task → ℕ → ℕ
-loadAt p t l = jobsOf p t * ticks (t .cycles) (levelAt p l .speed)
+loadAt p t l = jobsOf p t * ticks (p .start) (t .cycles) (levelAt p l .speed)
 
 -- what a task asks of a core at each level, and the weighted energy of its busy ticks
 unfoldable pub offerOf : Problem → Task → Offer

@@ -41,7 +41,7 @@ module _ {p : Problem} {timings : List ℕ} (t : TimingsOffered p (taskCount p *
   window-is i h = t .word i 1 (omega arith) (omega arith)
 
   pub ticks-are : (i l : ℕ) → levelCount p ≤ mostLevels → i < taskCount p → l < levelCount p →
-      timingAt timings i .ticks l ≡ ticks (taskAt p i .cycles) (levelAt p l .speed)
+      timingAt timings i .ticks l ≡ ticks (p .start) (taskAt p i .cycles) (levelAt p l .speed)
   unfolding timingAt wordOf
   ticks-are i l few h k =
       let place : i * timingWidth + 2 + l ≡ i * timingWidth + (suc (suc l)) = omega arith in
@@ -67,7 +67,7 @@ module _ {p : Problem} {timings : List ℕ} (t : TimingsOffered p (taskCount p *
 
     -- what choice c asks of core 0 for task i, as the problem says it
     ticksIf : ℕ → ℕ → ℕ
-    ticksIf i c = cond (not (eqb c 0) && eqb (pred c / levelCount p) 0) (ticks (taskAt p i .cycles) (levelAt p (pred c % levelCount p) .speed)) 0
+    ticksIf i c = cond (not (eqb c 0) && eqb (pred c / levelCount p) 0) (ticks (p .start) (taskAt p i .cycles) (levelAt p (pred c % levelCount p) .speed)) 0
 
     entry-ticks : (i c : ℕ) → i < taskCount p → c ≤ levelCount p → entryTicks (timingAt timings i) c ≡ ticksIf i c
     unfolding entryTicks ticksIf

@@ -21,7 +21,7 @@ use Rattle.timed_sets.specs.TimedCores.{timingWidth}
 unfoldable pub wordOf : Problem → Task → ℕ → ℕ
 wordOf p t zero = t .period
 wordOf p t (suc zero) = window t
-wordOf p t (suc (suc l)) = ticks (t .cycles) (levelAt p l .speed)
+wordOf p t (suc (suc l)) = ticks (p .start) (t .cycles) (levelAt p l .speed)
 
 -- word by word
 
@@ -34,13 +34,13 @@ unfolding wordOf
 word-1 p t is = rw is refl
 
 pub word-of-level : (inst : Instance) (sound : Sound inst) (t : Task) (w : ℕ) → 2 ≤ w → w < levelCount (problemIn inst) + 2 → {l : ℕ} → l ≡ w - 2 →
-    ticks (t .cycles) (getD (inst .levels) l noLevel .speed) ≡ wordOf (problemIn inst) t w
-unfolding wordOf
+    ticks (inst .start) (t .cycles) (getD (inst .levels) l noLevel .speed) ≡ wordOf (problemIn inst) t w
+unfolding wordOf problemIn
 word-of-level inst sound t zero two below is = absurd (omega arith)
 word-of-level inst sound t (suc zero) two below is = absurd (omega arith)
 word-of-level inst sound t (suc (suc n)) two below {l} is =
     let same : l ≡ n = omega arith in
-    rw same (ap (λ (v : Level). ticks (t .cycles) (v .speed)) (held-level inst sound n (omega arith)))
+    rw same (ap (λ (v : Level). ticks (inst .start) (t .cycles) (v .speed)) (held-level inst sound n (omega arith)))
 
 -- the words whose places are below `end`
 pub record TimingsOffered (p : Problem) (end : ℕ) (timings : List ℕ) : Type 0 where

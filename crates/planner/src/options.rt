@@ -56,7 +56,7 @@ fn fill_levels(
     let mut l = 0;
     while l < inst.levelcount {
         let level = inst.levels[l];
-        let ticks = ticks_of(task.cycles, level.speed);
+        let ticks = ticks_of(inst.start, task.cycles, level.speed);
         let asked = jobs as u64 * ticks as u64;
         let at = i * STRIDE + l;
         load[at] = asked;

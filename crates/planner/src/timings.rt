@@ -6,9 +6,10 @@ use plan_rules::window_of;
 use ranges::MOST_TASKS;
 use timed_sets::TIMING_WIDTH;
 ghost use mathlib.Core.Path.{_≡_};
-ghost use Prim.Native.Nat.{_+_, _*_, _<_};
+ghost use Prim.Native.Nat.{_+_, _*_, _≤_, _<_};
 ghost use Rattle.instance.specs.Held.{Sound, problemIn};
 ghost use Rattle.instance.specs.Node.{levelCount, taskAt, taskCount};
+ghost use Rattle.ranges.specs.Limits.{mostCycles};
 ghost use Rattle.timed_sets.specs.TimedCores.{timingWidth};
 ghost use Rattle.planner.specs.TimedOptions.{TimingsOffered, wordOf};
 
@@ -17,6 +18,7 @@ pub(crate) const TIMINGS: usize = MOST_TASKS as usize * TIMING_WIDTH;
 // Word w of a task's timing.
 fn timing_word(inst: Instance, task: Task, w: usize) -> u32
     requires { ⌜ Sound inst ⌝ }
+    requires { ⌜ task .cycles ≤ mostCycles ⌝ }
     requires { ⌜ w < levelCount (problemIn inst) + 2 ⌝ }
     ensures { λ r. ⌜ r ≡ wordOf (problemIn inst) task w ⌝ }
 {
@@ -27,7 +29,7 @@ fn timing_word(inst: Instance, task: Task, w: usize) -> u32
         return window_of(task);
     }
     let level = inst.levels[w - 2];
-    ticks_of(task.cycles, level.speed)
+    ticks_of(inst.start, task.cycles, level.speed)
 }
 
 // Writes the timing of task i after those of the tasks before it.

@@ -6,12 +6,12 @@ use mathlib.Core.Logic.{⊎-elim}
 use native.Mathlib.Nat.{mod-lt, mul-le-mul, mul-le-mul-right}
 use native.Mathlib.Omega.{arith}
 use Rattle.laws.specs.SumBounds.{sum-at-most, sum-of-products-at-most}
-use Rattle.ranges.specs.Limits.{mostCores, mostCycles, mostIdlePower, mostPower, mostSpan, mostTasks, mayNotBeRefused}
+use Rattle.ranges.specs.Limits.{mostCores, mostIdlePower, mostPower, mostSpan, mostTasks, mayNotBeRefused}
 use Rattle.instance.specs.Node.{Problem, levelAt, taskAt, taskCount, span}
 use Rattle.instance.specs.Valid.{Valid}
 use Rattle.plan_rules.specs.FitLaws.{load-of-passing-plan}
 use Rattle.plan_rules.specs.PlanLaws.{PassingPlan}
-use Rattle.plan_rules.specs.QuantityBounds.{jobs-at-most, loadOn-at-most}
+use Rattle.plan_rules.specs.QuantityBounds.{mostTicks, jobs-at-most, loadOn-at-most}
 use Rattle.plan_rules.specs.Quantities.{isRefused, levelOf, jobs, loadOn, coreLoad}
 use Rattle.prices.specs.Prices.{busyEnergy, isAwake, idleTicks, coreEnergy, energy, penalty}
 
@@ -25,7 +25,7 @@ penaltyOf p plan i = cond (isRefused plan i) (jobs p i * taskAt p i .penalty) 0
 
 -- of any plan, also one whose cores do not fit
 abbrev pub mostEnergyOn : ℕ
-mostEnergyOn = mostSpan * mostCycles * mostPower
+mostEnergyOn = mostSpan * mostTicks * mostPower
 
 abbrev pub mostCoreEnergy : ℕ
 mostCoreEnergy = mostTasks * mostEnergyOn + mostIdlePower * mostSpan

@@ -1,4 +1,4 @@
--- The numbers of the papers, each once: of document 01's section 'Site file', of document 02 (a) and (b), and the largest span.
+-- The numbers of the papers, each once: of document 01's section 'Site file', of document 02 (a), (b) and (g), and the largest span.
 use Prim.Native.Nat.{ℕ}
 
 -- "As text it is at most 4,096 bytes"
@@ -19,6 +19,13 @@ settingsWithIdle = 4
 
 abbrev pub mostIdlePower : ℕ
 mostIdlePower = 65535
+
+-- (g) "Settings may count 5, the fifth word being start ticks, 0 to 1,000"
+abbrev pub settingsWithStart : ℕ
+settingsWithStart = 5
+
+abbrev pub mostStartTicks : ℕ
+mostStartTicks = 1000
 
 abbrev pub mostWeight : ℕ
 mostWeight = 1000

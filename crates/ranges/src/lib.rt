@@ -1,5 +1,5 @@
 // The numbers of the papers that inputs are tested against, each once: the ranges of document 01's section 'Site file', and of
-// document 02 (a) and (b), and the largest span. And what follows from them.
+// document 02 (a), (b) and (g), and the largest span. And what follows from them.
 
 pub const MOST_TEXT_BYTES: u32 = 4_096;
 
@@ -10,11 +10,15 @@ pub const SETTINGS_WITHOUT_IDLE: u32 = 3;
 
 pub const SETTINGS_WITH_IDLE: u32 = 4;
 
+pub const SETTINGS_WITH_START: u32 = 5;
+
 pub const MOST_WEIGHT: u32 = 1_000;
 
 pub const MOST_CORES: u32 = 4;
 
 pub const MOST_IDLE_POWER: u32 = 65_535;
+
+pub const MOST_START_TICKS: u32 = 1_000;
 
 pub const MOST_LEVELS: u32 = 8;
 

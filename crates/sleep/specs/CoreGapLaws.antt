@@ -1,6 +1,6 @@
 -- The rows of a table that passes the check, as their gaps need them: an awake core has a busy slot and as many as its load, a core
 -- that is off has none.
-use Prim.Native.Nat.{ℕ, zero, suc, _+_, _-_, _*_, _≤_, _<_}
+use Prim.Native.Nat.{ℕ, zero, suc, _+_, _-_, _*_, _/_, _≤_, _<_}
 use mathlib.Core.Bool.{Bool, true, false, not}
 use mathlib.Core.List.{List}
 use mathlib.Core.Logic.{⊎-elim}
@@ -39,9 +39,10 @@ use Rattle.sleep.specs.Rows.{busyAt}
 use Rattle.tables.specs.Periods.{Periodic, valid-is-periodic, jobs-fill-span}
 use Rattle.tables.specs.Tables.{slotAt}
 
-ticks-above-zero : (cycles speed : ℕ) → 0 < cycles → 0 < speed → 0 < ticks cycles speed
+ticks-above-zero : (start cycles speed : ℕ) → 0 < cycles → 0 < speed → 0 < ticks start cycles speed
 unfolding ticks
-ticks-above-zero cycles speed some above = le-div-iff-mul-le above .1 (omega arith)
+ticks-above-zero start cycles speed some above =
+    let one : 1 ≤ (cycles + (speed - 1)) / speed = le-div-iff-mul-le above .1 (omega arith) in omega arith
 
 jobs-above-zero : (p : Problem) → Periodic p → (i : ℕ) → i < taskCount p → 0 < jobs p i
 jobs-above-zero p periodic i h = go (jobs p i) (jobs-fill-span p periodic i h)
@@ -78,7 +79,7 @@ module _ (p : Problem) (valid : Valid p) (plan table : List ℕ) (passes : check
   load-of-kept-task i is-task kept =
       let periodic = valid-is-periodic valid in
       let each : 0 < jobTicks p plan i =
-      ticks-above-zero _ _ (valid .task i is-task .cycles .at-least) (valid .level (levelOf p plan i) (mod-lt _ (valid .level-count .at-least)) .speed .at-least) in
+      ticks-above-zero (p .start) _ _ (valid .task i is-task .cycles .at-least) (valid .level (levelOf p plan i) (mod-lt _ (valid .level-count .at-least)) .speed .at-least) in
       let some : 0 < jobs p i = jobs-above-zero p periodic i is-task in
       let product : 0 < loadOn p plan k i = rw kept (mul-pos some each) in
       omega (arith, product, term-le-sum (loadOn p plan k) (taskCount p) i is-task)

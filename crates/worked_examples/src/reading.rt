@@ -46,18 +46,18 @@ pub(crate) fn text_into_three(bytes: &[u8]) {
     print_words(&words);
 }
 
-fn print_sizes(cores: u32, idle: u32, levels: usize, tasks: usize, span: u32) {
-    let numbers = [
-        cores as u64,
-        idle as u64,
-        levels as u64,
-        tasks as u64,
-        span as u64,
-    ];
-    print_filled(
-        b"cores # idle # levels # tasks # span # deadlines",
-        &numbers,
-    );
+fn print_sizes(levels: usize, tasks: usize, span: u32) {
+    let numbers = [levels as u64, tasks as u64, span as u64];
+    print_filled(b" levels # tasks # span # deadlines", &numbers);
+}
+
+// Cores and idle power, and start ticks where there are some.
+fn print_settings(cores: u32, idle: u32, start: u32) {
+    print_field(b"cores ", cores as u64);
+    print_field(b" idle ", idle as u64);
+    if 0 < start {
+        print_field(b" start ", start as u64);
+    }
 }
 
 fn print_deadlines(inst: Instance) {
@@ -72,18 +72,13 @@ fn print_deadlines(inst: Instance) {
 }
 
 fn print_instance(inst: Instance) {
-    print_sizes(
-        inst.cores,
-        inst.idle,
-        inst.levelcount,
-        inst.taskcount,
-        inst.span,
-    );
+    print_settings(inst.cores, inst.idle, inst.start);
+    print_sizes(inst.levelcount, inst.taskcount, inst.span);
     print_deadlines(inst);
     print(b"\n");
 }
 
-// The instance that a list of words is: cores, idle power, levels, tasks, span and the deadline of each task.
+// The instance that a list of words is: cores, idle power, start ticks, levels, tasks, span and the deadline of each task.
 pub(crate) fn words(list: &[u32]) {
     let read = instance::read_instance(list);
     let verdict = read.verdict;

@@ -13,8 +13,8 @@ use Rattle.instance.specs.Node.{taskCount}
 use Rattle.instance.specs.declared.Task.{Task}
 use Rattle.refusals.specs.declared.Refusal.the-variants.{JobSlots}
 use Rattle.checks.specs.Checks.{isServed, jobsPass}
-use Rattle.checks.specs.HeldJobs.{held-job-ticks, held-row-within, held-window, held-window-within-period, task-served-is-served}
-use Rattle.plan_rules.specs.HeldQuantities.{level-count-above-zero, level-count-at-most}
+use Rattle.checks.specs.HeldJobs.{held-row-within, held-window, held-window-within-period, task-served-is-served}
+use Rattle.plan_rules.specs.HeldQuantities.{level-count-above-zero, level-count-at-most, start-ticks-at-most, cycles-at-most, held-job-ticks}
 use Rattle.refusals.specs.VerdictLaws.{found-is-refused, none-found-passes}
 use borrow.Author.Needs.{needs}
 use Rattle.checks.proofs.jobs.jobs_pass.Statement.{statement}
@@ -39,7 +39,7 @@ tested c = let start = c .before .before .before .before .before .before .before
     let i = c .before .before .before .before .before .before .before .loop .i in
     let h = is-task (c .before .before .before .before .before .before) in
     let its-period = ap (λ (t : Task). t .period) (held-task _ s i h) in
-    let each = c .before .ticks-of .ensures ∙ held-job-ticks _ s (start .args .plan .now) i h _ (c .before .before .before .level-of .ensures) in
+    let each = c .before .ticks-of .ensures ∙ held-job-ticks _ s i h (start .args .plan .now) _ (c .before .before .before .level-of .ensures) in
     ap not (sym (c .is-served .ensures
     ∙ task-served-is-served (problemIn (start .args .t1)) (start .args .plan .now) (start .args .table .now) i (held-span _ s) (held-levelcount _ s) its-period (held-window _ s i h) each))
 
@@ -71,7 +71,10 @@ element-copy-out-level : tie.Need-element-copy-out-level Inv-loop μ-loop
 element-copy-out-level c = omega (arith, level-below c, level-count-at-most _ (c .before .before .before .before .before .before .before .pre .0))
 
 ticks-of-requires : tie.Need-ticks-of-requires Inv-loop μ-loop
-ticks-of-requires c κs = search needs
+ticks-of-requires c κs =
+    let turn = c .before .before .before .before in
+    let s = turn .before .before .before .before .pre .0 in
+    (omega (arith, start-ticks-at-most _ s), cycles-at-most _ s _ (is-task turn))
 
 cast-ticks : tie.Need-cast-ticks Inv-loop μ-loop
 cast-ticks c = search needs

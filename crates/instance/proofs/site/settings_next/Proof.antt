@@ -16,17 +16,21 @@ word-next-requires-3 c κs = search needs
 word-next-requires-4 : tie.Need-word-next-requires-4
 word-next-requires-4 c κs = search needs
 
-idle-next-requires : tie.Need-idle-next-requires
-idle-next-requires c κs = search needs
+setting-next-requires : tie.Need-setting-next-requires
+setting-next-requires c κs = search needs
+
+setting-next-requires-2 : tie.Need-setting-next-requires-2
+setting-next-requires-2 c κs = search needs
 
 returns : tie.Need-returns
 returns c =
     settings-gets
-    (c .before .before .before .before .before .word-next .ensures)
-    (c .before .before .before .before .word-next2 .ensures)
-    (c .before .before .before .word-next3 .ensures)
-    (c .before .before .word-next4 .ensures)
-    (c .before .idle-next .ensures)
+    (c .before .before .before .before .before .before .word-next .ensures)
+    (c .before .before .before .before .before .word-next2 .ensures)
+    (c .before .before .before .before .word-next3 .ensures)
+    (c .before .before .before .word-next4 .ensures)
+    (c .before .before .setting-next .ensures)
+    (c .before .setting-next2 .ensures)
 
 pub settings-next-spec : {M : Type 1} → statement M
 settings-next-spec =
@@ -36,5 +40,6 @@ settings-next-spec =
     word-next-requires-2
     word-next-requires-3
     word-next-requires-4
-    idle-next-requires
+    setting-next-requires
+    setting-next-requires-2
     returns)

@@ -2,7 +2,7 @@ use Prim.Native.Nat.{_-_}
 use lib.ListN.{getD}
 use native.Mathlib.Omega.{arith}
 use native.Mathlib.Nat.{div-le-self, mod-lt}
-use Rattle.plan_rules.specs.HeldQuantities.{level-count-above-zero, level-count-at-most}
+use Rattle.plan_rules.specs.HeldQuantities.{level-count-above-zero, level-count-at-most, start-ticks-at-most, cycles-at-most}
 use Rattle.listing_lines.specs.HeldLines.{refused-task-line, kept-task-line}
 use borrow.Author.Needs.{needs}
 use Rattle.listing_lines.proofs.tasks.put_task.Statement.{statement}
@@ -55,7 +55,9 @@ element-copy-out-ticks-of-2 c =
     omega (arith, mod-lt (getD (start .args .plan .now) (start .args .i) 0 - 1) (level-count-above-zero _ (start .pre .0)), level-count-at-most _ (start .pre .0))
 
 ticks-of-requires : tie.Need-ticks-of-requires
-ticks-of-requires c κs = search needs
+ticks-of-requires c κs =
+    let start = c .before .before .before .before in
+    (start-ticks-at-most _ (start .pre .0), cycles-at-most _ (start .pre .0) _ (start .pre .1 .0))
 
 add-put-kept : tie.Need-add-put-kept
 add-put-kept c =

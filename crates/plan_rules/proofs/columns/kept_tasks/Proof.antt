@@ -1,7 +1,7 @@
 -- `kept_tasks` has the kept ones of the tasks that it has passed.
 use Prim.Native.Nat.{_-_, _≤_, _<_}
 use mathlib.Core.Logic.{⊎-elim}
-use mathlib.Core.Path.{_≡_, refl, sym, ap, ap₂, _∙_}
+use mathlib.Core.Path.{_≡_, refl, sym, ap, _∙_}
 use lib.ListN.{getD}
 use native.Mathlib.Omega.{arith}
 use borrow.Author.Needs.{needs}
@@ -10,10 +10,9 @@ use Rattle.instance.specs.Node.{taskCount}
 use Rattle.instance.specs.declared.Level.{Level}
 use Rattle.instance.specs.declared.Task.{Task}
 use Rattle.ranges.specs.Limits.{mostTasks}
-use Rattle.plan_rules.specs.HeldQuantities.{level-count-above-zero, level-below, held-level-of, held-keeps}
+use Rattle.plan_rules.specs.HeldQuantities.{level-count-above-zero, level-below, start-ticks-at-most, cycles-at-most, held-level-of, held-job-ticks, held-keeps}
 use Rattle.plan_rules.specs.KeptColumns.{KeptColumns}
 use Rattle.plan_rules.specs.KeptColumnLaws.{no-tasks-yet, passed-over, entered}
-use Rattle.plan_rules.specs.Quantities.{ticks, jobTicks}
 use Rattle.plan_rules.specs.Windows.{window}
 use Rattle.plan_rules.proofs.columns.kept_tasks.Statement.{statement}
 use Rattle.plan_rules.proofs.columns.kept_tasks.Tie as tie
@@ -88,7 +87,10 @@ element-write-kept-3 : tie.Need-element-write-kept-3 Inv-loop μ-loop
 element-write-kept-3 c = omega (arith, has-place (c .before .before .before .before .before .before .before))
 
 ticks-of-requires : tie.Need-ticks-of-requires Inv-loop μ-loop
-ticks-of-requires c κs = search needs
+ticks-of-requires c κs =
+    let turn = c .before .before .before .before .before .before .before in
+    let s = turn .before .before .before .pre .0 in
+    (omega (arith, start-ticks-at-most _ s), cycles-at-most _ s _ (task-below turn))
 
 mul-kept-3 : tie.Need-mul-kept-3 Inv-loop μ-loop
 mul-kept-3 c = omega (arith, has-place (c .before .before .before .before .before .before .before .before))
@@ -112,7 +114,6 @@ loop-less : tie.Need-loop-less Inv-loop μ-loop
 loop-less c = omega (arith, c .before .before .before .loop-test .taken)
 
 loop-again : tie.Need-loop-again Inv-loop μ-loop
-unfolding jobTicks
 loop-again c =
     let start = c .before .before .before .before .before .before in
     let s = start .pre .0 in
@@ -126,7 +127,7 @@ loop-again c =
           let level = held-level-of _ s (getD plan (at .i) 0) _ (its .2 .ensures) in
           rw (its .6)
           (entered _ _ _ _ _ (at .inv .1) _ _ _ _ _ (task-is-few (c .before .before .before)) (keeps-it ∙ its .0 .taken) refl (ap (λ (t : Task). t .period) task)
-          (its .4 .ensures ∙ ap window task) (its .5 .ensures ∙ ap₂ ticks (ap (λ (t : Task). t .cycles) task) (ap (λ (v : Level). v .speed) level))
+          (its .4 .ensures ∙ ap window task) (its .5 .ensures ∙ held-job-ticks _ s (at .i) (task-below (c .before .before .before)) plan _ (its .2 .ensures))
           (ap (λ (v : Level). v .power) level)))
           (λ its. rw (its .1) (passed-over _ _ _ _ _ (at .inv .1) (keeps-it ∙ its .0 .left)))
           (c .if1 .came),

@@ -6,6 +6,7 @@ use borrow.Author.Needs.{needs}
 use Rattle.instance.specs.Held.{problemIn, held-levelcount, held-span}
 use Rattle.instance.specs.Node.{levelCount, taskAt}
 use Rattle.ranges.specs.Limits.{mostLevels, mostTasks}
+use Rattle.plan_rules.specs.HeldQuantities.{start-ticks-at-most}
 use Rattle.planner.specs.HeldOptions.{held-span-at-most, energy-weight-at-most, idle-power-at-most, held-load, held-load-at-most, held-cost, level-power-at-most}
 use Rattle.planner.specs.OfferedOptions.{LevelsOffered, level-offered, task-offered}
 use Rattle.planner.specs.OptionsOf.{offerOf}
@@ -49,7 +50,9 @@ element-copy-out-level : tie.Need-element-copy-out-level Inv-loop μ-loop
 element-copy-out-level c = omega (arith, level-below c, c .before .before .before .pre .0 .valid .level-count .at-most)
 
 ticks-of-requires : tie.Need-ticks-of-requires Inv-loop μ-loop
-ticks-of-requires c κs = search needs
+ticks-of-requires c κs =
+    let start = c .before .before .before .before in
+    (omega (arith, start-ticks-at-most _ (start .pre .0)), rw (start .pre .1 .1 .0) (start .pre .0 .valid .task _ (start .pre .1 .0) .cycles .at-most))
 
 cast-asked : tie.Need-cast-asked Inv-loop μ-loop
 cast-asked c = search needs

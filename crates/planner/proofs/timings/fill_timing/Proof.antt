@@ -33,7 +33,13 @@ loop-holds c =
 -- src/timings.rt:44:41
 timing-word-requires : tie.Need-timing-word-requires Inv-loop μ-loop
 timing-word-requires c κs =
-    (c .before .before .before .pre .0, omega (arith, c .loop-test .taken, held-levelcount _ (c .before .before .before .pre .0)))
+    let start = c .before .before .before in (
+      start .pre .0,
+      (
+        rw (start .pre .1 .1 .0) (start .pre .0 .valid .task _ (start .pre .1 .0) .cycles .at-most),
+        omega (arith, c .loop-test .taken, held-levelcount _ (start .pre .0)),
+      ),
+    )
 
 -- src/timings.rt:44:17
 mul-timings : tie.Need-mul-timings Inv-loop μ-loop

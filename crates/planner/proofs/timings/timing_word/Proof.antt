@@ -4,6 +4,7 @@ use native.Mathlib.Omega.{arith}
 use borrow.Author.Needs.{needs}
 use lib.ListN.{length, getD}
 use Rattle.instance.specs.Held.{held-level}
+use Rattle.plan_rules.specs.HeldQuantities.{start-ticks-at-most}
 use Rattle.planner.specs.TimedOptions.{wordOf, word-0, word-1, word-of-level}
 use borrow.Author.Needs.{needs}
 use Rattle.planner.proofs.timings.timing_word.Statement.{statement}
@@ -35,23 +36,25 @@ sub-level c =
 -- src/timings.rt:29:17
 mul-level : tie.Need-mul-level
 mul-level c =
-    let sound = c .before .before .pre .0 in omega (arith, c .before .before .pre .1, sound .valid .level-count .at-most)
+    let sound = c .before .before .pre .0 in omega (arith, c .before .before .pre .1 .1, sound .valid .level-count .at-most)
 
 -- src/timings.rt:29:17
 element-copy-out-level : tie.Need-element-copy-out-level
 element-copy-out-level c =
-    let sound = c .before .before .pre .0 in omega (arith, c .before .before .pre .1, sound .valid .level-count .at-most)
+    let sound = c .before .before .pre .0 in omega (arith, c .before .before .pre .1 .1, sound .valid .level-count .at-most)
 
 -- src/timings.rt:30:5
 ticks-of-requires : tie.Need-ticks-of-requires
-ticks-of-requires c κs = search needs
+ticks-of-requires c κs =
+    let start = c .before .before .before in
+    (start-ticks-at-most _ (start .pre .0), start .pre .1 .0)
 
 -- src/timings.rt:18:1
 returns-3 : tie.Need-returns-3
 returns-3 c =
     let start = c .before .before .before .before in
     let sound = start .pre .0 in
-    c .ticks-of .ensures ∙ word-of-level _ sound _ _ (omega (arith, c .before .before .before .if1 .left, c .before .before .if2 .left)) (start .pre .1) refl
+    c .ticks-of .ensures ∙ word-of-level _ sound _ _ (omega (arith, c .before .before .before .if1 .left, c .before .before .if2 .left)) (start .pre .1 .1) refl
 
 pub timing-word-spec : {M : Type 1} → statement M
 timing-word-spec =

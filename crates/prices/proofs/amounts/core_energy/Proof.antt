@@ -6,12 +6,12 @@ use borrow.Author.Needs.{needs}
 use lib.ListN.{getD}
 use Rattle.laws.specs.Sums.{sum}
 use Rattle.instance.specs.Held.{problemIn, held-span}
-use Rattle.ranges.specs.Limits.{mostCycles, mostSpan, mostTasks}
+use Rattle.ranges.specs.Limits.{mostSpan, mostTasks}
 use Rattle.plan_rules.specs.KeptColumns.{placeOf}
 use Rattle.plan_rules.specs.KeptSumLaws.{sumOfKept, sum-of-kept-at-most, load-in-columns}
 use Rattle.prices.specs.KeptEnergyLaws.{energy-from-columns, energy-in-columns}
 use Rattle.prices.specs.PriceBounds.{energyOn, mostEnergyOn, power-at-most, energyOn-at-most, coreEnergy-at-most}
-use Rattle.plan_rules.specs.QuantityBounds.{loadOn-at-most}
+use Rattle.plan_rules.specs.QuantityBounds.{mostTicks, loadOn-at-most}
 use Rattle.plan_rules.specs.Quantities.{loadOn}
 use Rattle.prices.specs.Prices.{coreEnergy}
 use Rattle.prices.proofs.amounts.core_energy.Statement.{statement}
@@ -51,7 +51,7 @@ load-so-far : (c : tie.In-loop Inv-loop μ-loop) →
     let kept = c .before .before .kept-tasks .result in
     let its = loadOn (problemIn (args .inst)) (args .plan .now) (args .k) in
     let j = c .before .loop .j in
-    sumOfKept kept its j + its (placeOf kept j) ≤ mostTasks * (mostSpan * mostCycles)
+    sumOfKept kept its j + its (placeOf kept j) ≤ mostTasks * (mostSpan * mostTicks)
 load-so-far c =
     let args = c .before .before .before .before .args in
     let v = c .before .before .before .before .pre .0 .valid in
