@@ -123,13 +123,13 @@ static bool answers_so(const implementation *by, const timed_site *site) {
     return checks_so(by, site);
 }
 
-/* Whether there is an older state, and it knows deadlines where the site has some. */
+/* Whether there is an older state, and it reads the site. */
 static bool is_known_before(void) {
     plan_entry *plan = implementations[BEFORE].plan;
     const timed_site *site = &sites[NO_IDLE];
     return plan != NULL &&
-           plan(site->text, site->text_len, spare_plan, MOST_TASKS, spare_table, 0).refusal !=
-               TOWHEPAMU_WORDS;
+           plan(site->text, site->text_len, spare_plan, MOST_TASKS, spare_table, 0).refusal >
+               TOWHEPAMU_RANGE;
 }
 
 /* An older state is asked for sites without idle power only. */

@@ -56,7 +56,7 @@ static void draw_loads(generator *g, reference_instance *in, uint32_t least, uin
 /* Penalties in percent of what a job costs at top speed. */
 static void draw_penalties(generator *g, reference_instance *in, uint32_t least, uint32_t most) {
     for (size_t i = 0; i < in->tasks; i++) {
-        uint32_t ticks = in->task[i].cycles / top_level(in)->speed + 1;
+        uint32_t ticks = in->task[i].cycles / top_level(in)->speed + 1 + in->start_ticks;
         uint64_t energy = (uint64_t)ticks * top_level(in)->power;
         in->task[i].penalty = clamp(energy * draw_between(g, least, most) / 100, 1000000);
     }
@@ -96,6 +96,12 @@ static void draw_hard_middle(generator *g, reference_instance *in, uint32_t must
     draw_loads(g, in, in->span / 40, in->span / 5);
     if (musts == 0)
         draw_penalties(g, in, 300, 1000);
+}
+
+/* The same with start ticks, which every job takes besides. */
+static void draw_started(generator *g, reference_instance *in, uint32_t least, uint32_t most) {
+    in->start_ticks = between(g, least, most);
+    draw_hard_middle(g, in, 0, 0);
 }
 
 /*
@@ -217,6 +223,8 @@ static const struct {
     {"short deadlines", draw_timed, 8, SHORT, 0},
     {"deadlines just met", draw_timed, 8, JUST_MET, 0},
     {"deadlines just met, musts", draw_timed, 8, JUST_MET_MUSTS, 0},
+    {"few start ticks", draw_started, 8, 1, 4},
+    {"many start ticks", draw_started, 8, 16, 64},
 };
 
 const char *family_name(size_t family) {
@@ -236,7 +244,7 @@ static uint32_t idle_power(const reference_instance *in, enum idle idle) {
 
 size_t write_instance(size_t family, size_t number, enum idle idle, uint8_t *text) {
     generator g = {UINT64_C(0x9E3779B97F4A7C15) * (1 + 1000 * family + number)};
-    reference_instance in = {1, 1, 4, 0, 0, 12, 4096, {{0, 0}}, {{0, 0, 0, 0}}};
+    reference_instance in = {1, 1, 4, 0, 0, 0, 12, 4096, {{0, 0}}, {{0, 0, 0, 0}}};
     uint32_t words[MOST_INSTANCE_WORDS];
     if (family_list[family].levels == 5)
         use_xscale(&in);
@@ -244,7 +252,8 @@ size_t write_instance(size_t family, size_t number, enum idle idle, uint8_t *tex
         use_eight_levels(&in, 2000);
     family_list[family].draw(&g, &in, family_list[family].first, family_list[family].second);
     in.idle_power = idle_power(&in, idle);
-    written_as as = {idle == NO_IDLE ? 3 : 4, reference_has_early(&in) ? EACH_DEADLINE : LIST_ENDS};
+    uint32_t settings = in.start_ticks > 0 ? 5 : idle == NO_IDLE ? 3 : 4;
+    written_as as = {settings, reference_has_early(&in) ? EACH_DEADLINE : LIST_ENDS};
     size_t count = list_words(&in, as, words);
     return write_text(&g, words, count, false, text);
 }

@@ -5,7 +5,7 @@
 #include <stddef.h>
 #include <stdint.h>
 
-enum { FAMILIES = 29, SITES_A_FAMILY = 12 };
+enum { FAMILIES = 31, SITES_A_FAMILY = 12 };
 
 /* What idle power a family's sites are given: none, half the power of the lowest level, or twice
    that of the highest. Otherwise they are the same sites. */

@@ -176,7 +176,7 @@ static void print_lane(const planned_site *answer, size_t core, size_t tick, siz
 /* ---- Legend ---- */
 
 static size_t legend_lines(const planned_site *answer) {
-    return 1 + (answer->site.idle_power > 0) + answer->site.tasks;
+    return 1 + (answer->site.idle_power > 0) + (answer->site.start_ticks > 0) + answer->site.tasks;
 }
 
 static void print_legend(const planned_site *answer, size_t top) {
@@ -188,6 +188,12 @@ static void print_legend(const planned_site *answer, size_t top) {
         top += LEGEND;
         printf("<text x=\"12\" y=\"%zu\">", top + 14);
         print_idle_line(answer);
+        puts("</text>");
+    }
+    if (answer->site.start_ticks > 0) {
+        top += LEGEND;
+        printf("<text x=\"12\" y=\"%zu\">", top + 14);
+        print_start_line(answer);
         puts("</text>");
     }
     for (size_t i = 0; i < answer->site.tasks; i++) {

@@ -11,7 +11,7 @@ typedef struct {
 } section;
 
 static const section sections[] = {
-    {SETTINGS_COUNT, ENERGY_WEIGHT, IDLE_POWER, true},
+    {SETTINGS_COUNT, ENERGY_WEIGHT, START_TICKS, true},
     {LEVELS_COUNT, SPEED, POWER, false},
     {TASKS_COUNT, PERIOD, PENALTY, false},
     {DEADLINES_COUNT, DEADLINE, DEADLINE, false},
@@ -20,11 +20,12 @@ static const section sections[] = {
 enum { SECTIONS = sizeof sections / sizeof sections[0] };
 
 static const site_field_words fields[] = {
-    [SETTINGS_COUNT] = {"count of settings", NULL, 3, 4},
+    [SETTINGS_COUNT] = {"count of settings", NULL, 3, 5},
     [ENERGY_WEIGHT] = {"energy weight", NULL, 1, 1000},
     [PENALTY_WEIGHT] = {"penalty weight", NULL, 1, 1000},
     [CORES] = {"number of cores", NULL, 1, TOWHEPAMU_MOST_CORES},
     [IDLE_POWER] = {"idle power", NULL, 0, 65535},
+    [START_TICKS] = {"number of start ticks", NULL, 0, 1000},
     [LEVELS_COUNT] = {"count of levels", NULL, 1, TOWHEPAMU_MOST_LEVELS},
     [SPEED] = {"speed", "level", 1, 65535},
     [POWER] = {"power", "level", 1, 65535},
@@ -48,6 +49,8 @@ static uint32_t *kept_at(parsed_site *site, site_name name) {
         return &site->cores;
     case IDLE_POWER:
         return &site->idle_power;
+    case START_TICKS:
+        return &site->start_ticks;
     case LEVELS_COUNT:
         return &site->levels;
     case SPEED:
@@ -142,7 +145,7 @@ size_t site_count_before(const parsed_site *site, size_t index) {
 
 void site_fill_in(parsed_site *site, size_t span) {
     site->span = span;
-    site->idle_power = 0;
+    site->idle_power = site->start_ticks = 0;
     for (size_t i = 0; i < TOWHEPAMU_MOST_TASKS; i++)
         site->task[i].deadline = 0;
     for (size_t i = 0; i < site->count; i++) {
@@ -192,5 +195,5 @@ uint64_t site_jobs_due(const parsed_site *site, size_t task, uint64_t tick) {
 
 uint64_t site_ticks(const parsed_site *site, size_t task, size_t level) {
     uint32_t cycles = site->task[task].cycles, speed = site->level[level].speed;
-    return cycles / speed + (cycles % speed != 0);
+    return cycles / speed + (cycles % speed != 0) + site->start_ticks;
 }

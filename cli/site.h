@@ -18,7 +18,8 @@ typedef enum {
     ENERGY_WEIGHT,
     PENALTY_WEIGHT,
     CORES,
-    IDLE_POWER, /* 0 where the settings end before it */
+    IDLE_POWER, /* 0 where the settings end before it, as are start ticks */
+    START_TICKS,
     LEVELS_COUNT,
     SPEED,
     POWER,
@@ -67,7 +68,7 @@ typedef struct {
     size_t count;
     site_number numbers[SITE_MOST_NUMBERS];
     /* Only of an accepted site: */
-    uint32_t energy_weight, penalty_weight, cores, idle_power, levels, tasks;
+    uint32_t energy_weight, penalty_weight, cores, idle_power, start_ticks, levels, tasks;
     size_t span;
     site_level level[TOWHEPAMU_MOST_LEVELS];
     site_task task[TOWHEPAMU_MOST_TASKS];

@@ -11,20 +11,24 @@ static void print_sum(const char *word, uint64_t sum) {
     printf("%62s\n  %-46s%14" PRIu64 "\n", "--------------", word, sum);
 }
 
-/* Ticks are right where one tick fewer would not do. */
+/* Ticks are right where one tick fewer after the start ticks would not do. */
 static void print_ticks(const planned_site *answer) {
     const parsed_site *site = &answer->site;
-    puts("ticks of a job: cycles / speed, rounded up");
-    puts("  task     cycles   speed   ticks");
+    uint32_t start = site->start_ticks;
+    printf("ticks of a job: cycles / speed, rounded up%s\n", start == 0 ? "" : ", + start ticks");
+    printf("  task     cycles   speed %s  ticks\n", start == 0 ? "" : " rounded up    start  ");
     for (size_t i = 0; i < site->tasks; i++) {
         if (answer->plan[i] == 0)
             continue;
-        uint64_t ticks = ticks_of(answer, i);
+        uint64_t ticks = ticks_of(answer, i), after = ticks - start;
         uint32_t cycles = site->task[i].cycles, speed = site->level[level_of(answer, i) - 1].speed;
-        printf("  %4zu  %9" PRIu32 " / %5" PRIu32 "  %6" PRIu64 "    %" PRIu64 " x %" PRIu32
-               " = %" PRIu64 " are too few, %" PRIu64 " x %" PRIu32 " = %" PRIu64 " do\n",
-               i + 1, cycles, speed, ticks, ticks - 1, speed, (ticks - 1) * speed, ticks, speed,
-               ticks * speed);
+        printf("  %4zu  %9" PRIu32 " / %5" PRIu32, i + 1, cycles, speed);
+        if (start > 0)
+            printf("  %10" PRIu64 " + %6" PRIu32 " =", after, start);
+        printf(" %s%6" PRIu64 "    %" PRIu64 " x %" PRIu32 " = %" PRIu64 " are too few, %" PRIu64
+               " x %" PRIu32 " = %" PRIu64 " do\n",
+               start == 0 ? " " : "", ticks, after - 1, speed, (after - 1) * speed, after, speed,
+               after * speed);
     }
 }
 
@@ -232,6 +236,8 @@ int run_sums(const arguments *given) {
            amount_of(site->levels, "level").text, amount_of(site->tasks, "task").text, site->span);
     if (site->idle_power > 0)
         printf(", idle power %" PRIu32, site->idle_power);
+    if (site->start_ticks > 0)
+        printf(", start ticks %" PRIu32, site->start_ticks);
     puts("\n");
     print_ticks(&answer);
     if (site_has_early(site))

@@ -37,6 +37,11 @@ void print_idle_line(const planned_site *answer) {
     fputs(off == 0 ? "." : off == 1 ? " is off." : " are off.", stdout);
 }
 
+void print_start_line(const planned_site *answer) {
+    printf("Each job begins by setting the clock: %s.",
+           amount_of(answer->site.start_ticks, "tick").text);
+}
+
 /* A task's number as one character. */
 static char character_of(uint8_t task) {
     return ".123456789abc"[task];
@@ -97,6 +102,10 @@ void print_text_picture(const planned_site *answer) {
            site_has_early(&answer->site) ? ", blank after it" : "");
     if (answer->site.idle_power > 0) {
         print_idle_line(answer);
+        puts("");
+    }
+    if (answer->site.start_ticks > 0) {
+        print_start_line(answer);
         puts("");
     }
     for (size_t i = 0; i < answer->site.tasks; i++) {

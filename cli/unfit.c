@@ -131,12 +131,15 @@ static void tell_room(const parsed_site *site, uint64_t total, excess least) {
 static void tell_one(const parsed_site *site, size_t task, size_t level) {
     uint64_t ticks = site_ticks(site, task, level), deadline = site->task[task].deadline;
     const char *room = site_is_early(site, task) ? "deadline" : "period";
+    char start[48] = "";
+    if (site->start_ticks > 0)
+        snprintf(start, sizeof start, ", %s of them to start", grouped(site->start_ticks).text);
     fprintf(stderr,
             "%s: no plan: task %zu may not be refused and does not fit: at the fastest level, %zu, "
-            "a job takes %s, %s above its %s, %s\n"
+            "a job takes %s%s, %s above its %s, %s\n"
             "  let it be refused for a penalty, or give the node a faster level or the task a "
             "longer %s\n",
-            file_words(site->file), task + 1, level + 1, amount_of(ticks, "tick").text,
+            file_words(site->file), task + 1, level + 1, amount_of(ticks, "tick").text, start,
             grouped(ticks - deadline).text, room, grouped(deadline).text, room);
 }
 

@@ -122,10 +122,9 @@ static void tell_range(const parsed_site *site, size_t index) {
         return;
     const site_field_words *words = site_words_of(name.field);
     digits least = grouped(words->least), most = grouped(words->most);
-    bool two = words->least + 1 == words->most;
     tell_at(site->file, site->text, site->numbers[index].offset,
-            "%s is %" PRIu32 "; it must be %s %s %s%s", name_in_words(name).text,
-            site->numbers[index].value, least.text, two ? "or" : "to", most.text,
+            "%s is %" PRIu32 "; it must be %s to %s%s", name_in_words(name).text,
+            site->numbers[index].value, least.text, most.text,
             name.field == PENALTY ? ", or 4294967295 for a task that may not be refused" : "");
 }
 

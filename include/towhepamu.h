@@ -11,13 +11,16 @@
  * as lines of text.
  *
  * A site file is text, numbers in base ten parted by spaces and line feeds:
- *   3 or 4, energy weight 1 to 1,000, penalty weight 1 to 1,000, cores 1 to 4; after a 4 also idle
- *   power 0 to 65,535, which is 0 after a 3;
+ *   3, 4 or 5, energy weight 1 to 1,000, penalty weight 1 to 1,000, cores 1 to 4; after a 4 or 5
+ *   also idle power 0 to 65,535, and after a 5 start ticks 0 to 1,000; what is not given is 0;
  *   how many levels, 1 to 8; for each its speed and its power, 1 to 65,535, both rising strictly;
  *   how many tasks, 0 to 12; for each its period in ticks, 1 to 4,096, its cycles a job, 1 to
  *   100,000,000, and its penalty a job, 1 to 1,000,000, or 4,294,967,295 if it may not be refused;
  *   how many deadlines, 0 or as many as there are tasks; each in ticks, 1 to its task's period. The
  *   numbers may end before this count; then, and with a count of 0, each deadline is the period.
+ *
+ * A job takes its cycles divided by the speed of its level, rounded up, and the start ticks, in
+ * which it sets the clock.
  *
  * The span is the least common multiple of the periods, 1 with no task. Job j of a task, from 0, is
  * released at tick j x period and due at tick j x period + deadline. A core fits where its jobs can
@@ -43,9 +46,9 @@ extern "C" {
 #endif
 
 /* The version of the header and the archive. */
-#define TOWHEPAMU_VERSION "1.5.0"
+#define TOWHEPAMU_VERSION "1.6.0"
 #define TOWHEPAMU_VERSION_MAJOR 1
-#define TOWHEPAMU_VERSION_MINOR 5
+#define TOWHEPAMU_VERSION_MINOR 6
 #define TOWHEPAMU_VERSION_PATCH 0
 
 /* The longest site file that is read, in bytes. */

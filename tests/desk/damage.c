@@ -24,15 +24,17 @@ static uint32_t draw_edge(generator *g) {
     return end + between(g, 0, 2) - 1;
 }
 
-/* Another count of settings, a fourth one that is wrong, or one too many or too few. */
+/* Another count of settings, a fourth or fifth one that is wrong, or one too many or too few. */
 static void damage_settings(generator *g, uint32_t *words, size_t *count) {
     if (one_in(g, 3))
-        words[0] = between(g, 1, 6);
-    else if (*count < 5)
-        words[0] = 4;
-    else if (words[0] == 4 && one_in(g, 2))
+        words[0] = between(g, 1, 7);
+    else if (*count < 6)
+        words[0] = between(g, 4, 5);
+    else if (words[0] == 5 && one_in(g, 2))
+        words[5] = one_in(g, 2) ? 1000 + between(g, 0, 2) : draw_edge(g);
+    else if (words[0] >= 4 && one_in(g, 2))
         words[4] = one_in(g, 2) ? 65535 + between(g, 0, 2) : draw_edge(g);
-    else if (words[0] == 4)
+    else if (words[0] >= 4)
         memmove(words + 4, words + 5, (--*count - 4) * sizeof *words);
     else
         insert_word(words, count, 4, between(g, 0, 9));

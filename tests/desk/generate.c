@@ -45,6 +45,21 @@ static uint32_t draw_idle_power(generator *g, const reference_instance *in) {
     }
 }
 
+static uint32_t draw_start_ticks(generator *g, const reference_instance *in) {
+    switch (draw(g, 8)) {
+    case 0:
+        return 0;
+    case 1: /* as many as a period has, give or take one */
+        return clamp((uint64_t)in->span + draw(g, 3), 1, 1001) - 1;
+    case 2:
+        return between(g, 999, 1000);
+    case 3:
+        return between(g, 1, 1 + in->span / 4 % 1000);
+    default:
+        return between(g, 1, 3);
+    }
+}
+
 static uint32_t draw_span(generator *g, uint32_t most) {
     static const uint32_t spans[] = {1,   2,   3,   4,    6,    8,    10,   12,   20,   24,
                                      30,  36,  60,  64,   96,   100,  120,  180,  240,  360,
@@ -72,7 +87,7 @@ static uint32_t draw_cycles(generator *g, uint64_t ticks, uint32_t speed) {
 /* What a job adds to the energy: on a core by itself, or on one that is awake anyway. */
 static uint64_t draw_energy(generator *g, const reference_instance *in, const reference_task *task,
                             const reference_level *level) {
-    uint64_t ticks = (uint64_t)(task->cycles + level->speed - 1) / level->speed;
+    uint64_t ticks = (task->cycles + level->speed - 1) / level->speed + in->start_ticks;
     uint64_t busy = ticks * level->power, idle = in->idle_power;
     if (one_in(g, 2))
         return busy + (ticks < task->period ? idle * (task->period - ticks) : 0);
@@ -123,7 +138,8 @@ static void draw_full_cores(generator *g, reference_instance *in) {
         uint32_t jobs = in->span / task->period, most = *core / jobs;
         uint32_t ticks = most == 0 ? 1 : one_in(g, 2) ? most : between(g, 1, most);
         *core -= most == 0 ? 0 : jobs * ticks;
-        task->cycles = clamp((uint64_t)ticks * top, 1, 100000000);
+        uint32_t start = ticks > in->start_ticks ? in->start_ticks : 0;
+        task->cycles = clamp((uint64_t)(ticks - start) * top, 1, 100000000);
         task->penalty = one_in(g, 8) ? draw_penalty(g, in, task) : MUST;
     }
     if (in->tasks > 0 && one_in(g, 3)) {
@@ -142,8 +158,9 @@ size_t draw_site(generator *g, site_limits limits, uint32_t *words) {
     in.tasks = between(g, limits.least_tasks, limits.most_tasks);
     in.span = draw_span(g, limits.most_span);
     draw_levels(g, &in);
-    written_as as = {one_in(g, 3) ? 4 : 3, LIST_ENDS};
-    in.idle_power = as.settings == 4 ? draw_idle_power(g, &in) : 0;
+    written_as as = {one_in(g, 2) ? 3 : between(g, 4, 5), LIST_ENDS};
+    in.idle_power = as.settings >= 4 ? draw_idle_power(g, &in) : 0;
+    in.start_ticks = as.settings >= 5 ? draw_start_ticks(g, &in) : 0;
     if (one_in(g, 4))
         draw_full_cores(g, &in);
     else

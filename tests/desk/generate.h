@@ -14,14 +14,15 @@ typedef struct {
 /*
  * The words of a site within the limits, which reads without refusal. It is drawn to be close to
  * the edges: ties between levels, cores and penalties, equal tasks, cores that are just full or
- * just over, tasks that fit nowhere. A third of them have four settings, with an idle power of 0,
- * of a few units, about that of a level, or above every level's. Half of them have deadlines.
+ * just over, tasks that fit nowhere. Half of them have four settings or five, with an idle power
+ * of 0, of a few units, about that of a level, or above every level's; half of these have start
+ * ticks: none, few, or more than most periods have. Half of them all have deadlines.
  */
 size_t draw_site(generator *g, site_limits limits, uint32_t *words);
 
-/* How a site is written: with three settings, where its idle power is 0, or with four; and with a
-   list that ends after the tasks or counts 0 deadlines, where these are the periods, or has each.
- */
+/* How a site is written: with three settings, where its idle power and start ticks are 0, with
+   four, where its start ticks are 0, or with five; and with a list that ends after the tasks or
+   counts 0 deadlines, where these are the periods, or has each. */
 typedef enum { LIST_ENDS, NO_DEADLINES, EACH_DEADLINE } deadlines_written;
 
 typedef struct {

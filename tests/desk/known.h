@@ -1,5 +1,5 @@
-/* K1 to K13 of document 01 and examples of idle power and of deadlines, with what planning answers
-   and the table that it draws. */
+/* K1 to K13 of document 01 and examples of idle power, of deadlines and of start ticks, with what
+   planning answers and the table that it draws. */
 #ifndef KNOWN_H
 #define KNOWN_H
 
@@ -14,7 +14,8 @@ typedef struct {
 } known_case;
 
 #define XSCALE " 5 150 80 400 170 600 400 800 900 1000 1600 "
-#define K2 "3 1 1 1" XSCALE "2 10 2400 5000 20 6000 4294967295 "
+#define K2_SETTINGS(settings) settings XSCALE "2 10 2400 5000 20 6000 4294967295 "
+#define K2 K2_SETTINGS("3 1 1 1")
 #define TWO_FOURS "3 1 1 1  1 100 10  2 10 400 4294967295 10 400 4294967295 "
 
 /* clang-format off */
@@ -112,6 +113,25 @@ static const known_case known_cases[] = {
     {"a word after count 0", TWO_FOURS "0 1", 0, 0, {2, 15, 0, 0, 0}, "", ""},
     {"K11, deadlines", "3 1 1 1  1 1 1  2 4095 1 1 2 1 1  2 1 1", 0, 0,
      {4, 11, 0, 0, 0}, "", ""},
+
+    /* Start ticks: 17 ticks for task 2 at level 2; 4 and 11 ticks; as many as none; none fits. */
+    {"K2, start ticks 2", K2_SETTINGS("5 1 1 1 0 2"), 2, 20,
+     {0, 0, 2890, 10000, 12890}, "02", "22222222222222222000"},
+    {"K2, idle power 50, start ticks 1", K2_SETTINGS("5 1 1 1 50 1"), 2, 20,
+     {0, 0, 11650, 0, 11650}, "43", "11112222221111222220"},
+    {"K2, start ticks 0", K2_SETTINGS("5 1 1 1 0 0"), 2, 20,
+     {0, 0, 7200, 0, 7200}, "33", "11112222221111222200"},
+    {"K2, start ticks 1,000", K2_SETTINGS("5 1 1 1 0 1000"), 2, 20, {5, 0, 0, 0, 0}, "", ""},
+    {"K7, start ticks 1", "5 1 1 1 0 1" XSCALE "1 10 10000 4294967295", 1, 10,
+     {5, 0, 0, 0, 0}, "", ""},
+    {"9,000 cycles, start ticks 1", "5 1 1 1 0 1" XSCALE "1 10 9000 4294967295", 1, 10,
+     {0, 0, 16000, 0, 16000}, "5", "1111111111"},
+    {"9,001 cycles, start ticks 1", "5 1 1 1 0 1" XSCALE "1 10 9001 4294967295", 1, 10,
+     {5, 0, 0, 0, 0}, "", ""},
+    {"start ticks 1,001", K2_SETTINGS("5 1 1 1 0 1001"), 0, 0, {3, 5, 0, 0, 0}, "", ""},
+    {"a fifth setting is missing", "5 1 1 1 0", 0, 0, {2, 5, 0, 0, 0}, "", ""},
+    {"K11, five settings", "5 1 1 1 0 0  1 1 1  2 4095 1 1 2 1 1", 0, 0,
+     {4, 13, 0, 0, 0}, "", ""},
 };
 /* clang-format on */
 

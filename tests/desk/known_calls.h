@@ -29,6 +29,8 @@ static const known_calls known_sequences[] = {
     {"an early due tick", EARLY_DUE, "121", 1, "0000000000", "1133113011"},
     {"an early due tick and early ends", EARLY_DUE, "121", 1, "00010010000", "11301100113"},
     {"the other core", EARLY_DUE, "121", 2, "000000", "220022"},
+    {"start ticks", K2_SETTINGS("5 1 1 1 50 1"), "43", 1, "0000000000000000000000", "1111222222111122222011"},
+    {"start ticks and an early end", K2_SETTINGS("5 1 1 1 50 1"), "43", 1, "0010000000", "1122222222"},
     {"no task", "3 1 1 2" XSCALE "0", "", 2, "00", "00"},
 };
 /* clang-format on */

@@ -22,7 +22,7 @@ bool reference_has_early(const reference_instance *in) {
 
 uint64_t reference_ticks(const reference_instance *in, size_t task, size_t level) {
     uint32_t cycles = in->task[task].cycles, speed = in->level[level].speed;
-    return cycles / speed + (cycles % speed != 0);
+    return cycles / speed + (cycles % speed != 0) + in->start_ticks;
 }
 
 size_t reference_core_of(const reference_instance *in, uint8_t choice) {

@@ -67,10 +67,11 @@ static uint32_t greatest_common_divisor(uint32_t a, uint32_t b) {
 
 static bool take_settings(cursor *from, reference_instance *in) {
     uint32_t count;
-    in->idle_power = 0;
-    return take(from, 3, 4, &count) && take(from, 1, 1000, &in->energy_weight) &&
+    in->idle_power = in->start_ticks = 0;
+    return take(from, 3, 5, &count) && take(from, 1, 1000, &in->energy_weight) &&
            take(from, 1, 1000, &in->penalty_weight) && take(from, 1, MOST_CORES, &in->cores) &&
-           (count == 3 || take(from, 0, 65535, &in->idle_power));
+           (count < 4 || take(from, 0, 65535, &in->idle_power)) &&
+           (count < 5 || take(from, 0, 1000, &in->start_ticks));
 }
 
 static bool take_levels(cursor *from, reference_instance *in) {

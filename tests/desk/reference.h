@@ -1,5 +1,5 @@
 /*
- * Documents 01 and 02 (a) to (f) in plain C, written from the papers alone: what the archive is
+ * Documents 01 and 02 (a) to (g) in plain C, written from the papers alone: what the archive is
  * compared with and timed against. Choices and slots are bytes, as at the C interface.
  */
 #ifndef REFERENCE_H
@@ -15,7 +15,7 @@ enum {
     MOST_SPAN = TOWHEPAMU_MOST_SPAN,
     MOST_WORDS = TOWHEPAMU_MOST_TEXT_BYTES / 2, /* of a text: a digit in every second byte */
     MOST_GAPS = MOST_SPAN / 2,                  /* of a row: each has a busy slot behind it */
-    MOST_INSTANCE_WORDS = 5 + (1 + 2 * MOST_LEVELS) + (1 + 3 * MOST_TASKS) + (1 + MOST_TASKS)
+    MOST_INSTANCE_WORDS = 6 + (1 + 2 * MOST_LEVELS) + (1 + 3 * MOST_TASKS) + (1 + MOST_TASKS)
 };
 
 /* The penalty of a task that may not be refused. */
@@ -30,7 +30,7 @@ typedef struct {
 } reference_task;
 
 typedef struct {
-    uint32_t energy_weight, penalty_weight, cores, idle_power, levels, tasks, span;
+    uint32_t energy_weight, penalty_weight, cores, idle_power, start_ticks, levels, tasks, span;
     reference_level level[MOST_LEVELS];
     reference_task task[MOST_TASKS];
 } reference_instance;

@@ -16,7 +16,11 @@ static lent text, plan, table, out;
 static bool reads;
 static reference_instance in;
 
-static size_t compared, differ, with_idle_power, with_deadlines;
+/* The sizes of buffers that are lent beside a text that is refused. */
+static const reference_instance unread = {
+    1, 1, 2, 0, 0, 2, 3, 60, {{1, 1}, {2, 2}}, {{60, 1, 1, 60}, {1, 1, 1, 1}, {2, 1, 1, 2}}};
+
+static size_t compared, differ, with_idle_power, with_start_ticks, with_deadlines;
 static size_t was_read[REFUSALS], planned[REFUSALS], listed[REFUSALS];
 static size_t checked[REFUSALS], slots_checked[REFUSALS];
 
@@ -68,6 +72,7 @@ static bool compare_plan(generator *g, size_t plan_len, size_t table_len) {
     compared++;
     planned[expected.refusal]++;
     with_idle_power += accepted && in.idle_power > 0;
+    with_start_ticks += accepted && in.start_ticks > 0 && expected.energy > 0;
     with_deadlines += accepted && reference_has_early(&in);
     if (!same_answers("planning answers otherwise", answer, expected))
         return accepted;
@@ -139,9 +144,8 @@ static void compare_check(generator *g, const drawing *given) {
 
 static void read_text(void) {
     reads = reference_read_text(text.bytes, text.len, &in).refusal == TOWHEPAMU_ACCEPTED;
-    if (!reads) /* so that there are buffers to lend beside a text that is refused */
-        in = (reference_instance){
-            1, 1, 2, 0, 2, 3, 60, {{1, 1}, {2, 2}}, {{60, 1, 1, 60}, {1, 1, 1, 1}, {2, 1, 1, 2}}};
+    if (!reads)
+        in = unread;
 }
 
 static void compare_checks(generator *g, bool accepted) {
@@ -225,9 +229,9 @@ int main(void) {
     bool all_checked = print_seen("checking", checked, (size_t[]){1, 2, 3, 4, 7, 9, 10, 0});
     bool all_slots = print_seen("checking slots", slots_checked, (size_t[]){1, 2, 3, 4, 7, 9, 0});
     bool all_listed = print_seen("listing", listed, (size_t[]){1, 2, 3, 4, 5, 6, 0});
-    printf("desk: %zu compared, %zu plans with idle power and %zu with early deadlines among them, "
-           "%zu differ\n",
-           compared, with_idle_power, with_deadlines, differ);
-    return differ > 0 || with_idle_power == 0 || with_deadlines == 0 || !all_read || !all_planned ||
-           !all_checked || !all_slots || !all_listed;
+    printf("desk: %zu compared, %zu plans with idle power, %zu that run tasks with start ticks and "
+           "%zu with early deadlines among them, %zu differ\n",
+           compared, with_idle_power, with_start_ticks, with_deadlines, differ);
+    return differ > 0 || with_idle_power == 0 || with_start_ticks == 0 || with_deadlines == 0 ||
+           !all_read || !all_planned || !all_checked || !all_slots || !all_listed;
 }

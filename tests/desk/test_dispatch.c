@@ -18,7 +18,11 @@ static lent text, plan, lent_state, lent_node;
 static bool reads;
 static reference_instance in;
 
-static size_t compared, differ, early_ends, spans, odd_states, damaged, seen[REFUSALS];
+/* What plans and states are drawn for beside a text that is refused. */
+static const reference_instance unread = {
+    1, 1, 2, 5, 0, 2, 3, 60, {{1, 1}, {2, 2}}, {{60, 1, 1, 60}, {1, 1, 1, 1}, {2, 1, 1, 2}}};
+
+static size_t compared, differ, early_ends, start_ticks, spans, odd_states, damaged, seen[REFUSALS];
 
 /* ---- One call ---- */
 
@@ -135,6 +139,7 @@ static void compare_calls(generator *g, const drawing *given, uint32_t core, siz
         towhepamu_dispatched answer = compare(g, given, core, &state, ended);
         compare_tick(g, &node, ended, &state, answer);
         early_ends += ended && answer.refusal == TOWHEPAMU_ACCEPTED;
+        start_ticks += in.start_ticks > 0 && answer.task != 0;
         spans += n > 0 && answer.refusal == TOWHEPAMU_ACCEPTED && state.tick == 0;
     }
 }
@@ -165,9 +170,8 @@ static void compare_text(generator *g, const uint8_t *bytes, size_t len, size_t 
     static drawing given, other;
     lend_copy(&text, bytes, len, draw_tail(g));
     reads = reference_read_text(text.bytes, text.len, &in).refusal == TOWHEPAMU_ACCEPTED;
-    if (!reads) /* so that there is a plan to lend beside a text that is refused */
-        in = (reference_instance){
-            1, 1, 2, 5, 2, 3, 60, {{1, 1}, {2, 2}}, {{60, 1, 1, 60}, {1, 1, 1, 1}, {2, 1, 1, 2}}};
+    if (!reads)
+        in = unread;
     draw_drawing(g, &in, &given);
     if (reads && one_in(g, 2))
         reference_best(&in, given.plan);
@@ -219,15 +223,14 @@ int main(void) {
         compare_site(&g, (site_limits){4, 8, 0, 8, 60}, SPANS * 60);
     for (size_t n = 0; n < LARGE_SITES; n++)
         compare_site(&g, (site_limits){4, 8, 8, 12, 4096}, SPANS * 4096);
-    bool whole = early_ends > 0 && spans > 0 && odd_states > 0 && damaged > 0;
+    bool whole = early_ends > 0 && start_ticks > 0 && spans > 0 && odd_states > 0 && damaged > 0;
     printf("desk: dispatch:");
     for (size_t i = 0; i < sizeof possible / sizeof possible[0]; i++) {
         printf("%s %zu: %zu", i == 0 ? " refusal" : ",", possible[i], seen[possible[i]]);
         whole = whole && seen[possible[i]] > 0;
     }
-    printf("\ndesk: dispatch: early ends %zu, whole spans %zu, accepted states %zu, damaged cores "
-           "%zu; "
-           "%zu compared, %zu differ\n",
-           early_ends, spans, odd_states, damaged, compared, differ);
+    printf("\ndesk: dispatch: early ends %zu, ticks of jobs with start ticks %zu, whole spans %zu, "
+           "accepted states %zu, damaged cores %zu; %zu compared, %zu differ\n",
+           early_ends, start_ticks, spans, odd_states, damaged, compared, differ);
     return differ > 0 || !whole;
 }

@@ -74,19 +74,19 @@ static void test_listings(void) {
 /* ---- Reading ---- */
 
 /* Each word at both ends of its range and one beyond; and the list cut off before it, where it may
-   end only after the tasks. With three
-   settings all words after the third stand one place further to the front. */
+   end only after the tasks. With fewer than five settings all words after them stand further to the
+   front. */
 static void test_ranges(uint32_t settings) {
     static const struct {
         uint32_t word, least, most;
-    } site[] = {{4, 3, 4},         {1, 1, 1000},    {1, 1, 1000}, {1, 1, 4},
-                {9, 0, 65535},     {2, 1, 8},       {10, 1, 19},  {10, 1, 19},
-                {20, 11, 65535},   {20, 11, 65535}, {1, 0, 12},   {8, 1, 4096},
-                {5, 1, 100000000}, {7, 1, 1000000}, {1, 0, 1},    {3, 1, 8}};
+    } site[] = {{5, 3, 5},       {1, 1, 1000}, {1, 1, 1000}, {1, 1, 4},         {9, 0, 65535},
+                {6, 0, 1000},    {2, 1, 8},    {10, 1, 19},  {10, 1, 19},       {20, 11, 65535},
+                {20, 11, 65535}, {1, 0, 12},   {8, 1, 4096}, {5, 1, 100000000}, {7, 1, 1000000},
+                {1, 0, 1},       {3, 1, 8}};
     enum { MOST = sizeof site / sizeof site[0], DEADLINES_COUNT = MOST - 2 };
     uint32_t words[MOST];
     reference_instance in;
-    size_t left_out = 4 - settings, count = MOST - left_out;
+    size_t left_out = 5 - settings, count = MOST - left_out;
     for (size_t i = 0; i < count; i++)
         words[i] = site[i <= settings ? i : i + left_out].word;
     words[0] = settings;
@@ -94,7 +94,7 @@ static void test_ranges(uint32_t settings) {
         size_t field = i <= settings ? i : i + left_out;
         uint32_t right = words[i];
         /* A speed or power of level 1 may pass that of level 2, which then does not rise. */
-        size_t too_much_at = field == 6 || field == 7 ? i + 2 : i;
+        size_t too_much_at = field == 7 || field == 8 ? i + 2 : i;
         words[i] = site[field].least - 1; /* below 0: 4,294,967,295 */
         expect(is(reference_read(words, count, &in), 3, i), "below its range", "a word");
         words[i] = site[field].least;
@@ -109,7 +109,8 @@ static void test_ranges(uint32_t settings) {
                "a word");
     }
     expect(is(reference_read(words, count, &in), 0, 0), "reads", "the site");
-    expect(in.idle_power == (settings == 4 ? 9 : 0), "the idle power", "the site");
+    expect(in.idle_power == (settings >= 4 ? 9 : 0), "the idle power", "the site");
+    expect(in.start_ticks == (settings >= 5 ? 6 : 0), "the start ticks", "the site");
     expect(in.task[0].deadline == 3, "the deadline", "the site");
     reference_read(words, count - 2, &in);
     expect(in.task[0].deadline == 8, "the period as deadline", "the site");
@@ -252,6 +253,7 @@ int main(void) {
     test_listings();
     test_ranges(3);
     test_ranges(4);
+    test_ranges(5);
     test_lists();
     test_text();
     test_given_plans();

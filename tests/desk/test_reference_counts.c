@@ -13,7 +13,7 @@ static bool is_count(reference_counted counted, reference_count count, uint32_t 
 /* One task, the second of two, with one job in the row. */
 static reference_instance one_job(uint32_t period, uint32_t deadline) {
     return (reference_instance){
-        1, 1, 1, 0, 1, 2, period, {{1, 1}}, {{period, 1, 1, period}, {period, 1, 1, deadline}}};
+        1, 1, 1, 0, 0, 1, 2, period, {{1, 1}}, {{period, 1, 1, period}, {period, 1, 1, deadline}}};
 }
 
 /* ---- Known rows ---- */

@@ -8,13 +8,14 @@
 
 enum { SMALL_SITES = 24000, MOST_PLANS = 30000, TINY_SITES = 3000, TINY_SPAN = 6 };
 
-/* Of the small sites with a plan: those with idle power, those with more than every level, and
-   those with a deadline before the period's end. */
-static size_t with_idle_power, above_levels, with_deadlines;
+/* Of the small sites with a plan: those with idle power, those with more than every level, those
+   with start ticks that run a task, and those with a deadline before the period's end. */
+static size_t with_idle_power, above_levels, with_start_ticks, with_deadlines;
 
 /* Of the small sites that would have a plan with whole periods: those without one, those with
-   another one. */
+   another one; and of those that would have one without start ticks. */
 static size_t unplanned_by_deadlines, planned_otherwise;
+static size_t unplanned_by_start_ticks, otherwise_by_start_ticks;
 
 /* Of the tiny sites, whose plans are tested with every row. */
 static size_t cores_fit, cores_late;
@@ -106,6 +107,18 @@ static void note_deadlines(const reference_instance *in, bool found, const uint8
     planned_otherwise += found && memcmp(plan, other, in->tasks) != 0;
 }
 
+/* Counts what start ticks have changed. */
+static void note_start_ticks(const reference_instance *in, bool found, const uint8_t *plan) {
+    uint8_t other[MOST_TASKS];
+    reference_instance without = *in;
+    without.start_ticks = 0;
+    if (in->start_ticks == 0 || !reference_best(&without, other))
+        return;
+    with_start_ticks += found && reference_amounts(in, plan).energy > 0;
+    unplanned_by_start_ticks += !found;
+    otherwise_by_start_ticks += found && memcmp(plan, other, in->tasks) != 0;
+}
+
 /* One small site: the same plan by both planners; its table passes, damaged it does not. */
 static bool test_small_site(generator *g) {
     uint32_t words[MOST_INSTANCE_WORDS];
@@ -119,6 +132,7 @@ static bool test_small_site(generator *g) {
     bool found = reference_best(&in, plan);
     expect(found == reference_best_exhaustive(&in, other), "both plan it or neither", "a site");
     note_deadlines(&in, found, plan);
+    note_start_ticks(&in, found, plan);
     if (!found)
         return false;
     expect(memcmp(plan, other, in.tasks) == 0, "both answer the same plan", "a site");
@@ -180,9 +194,14 @@ int main(void) {
     printf("reference: %d small sites, %zu with a plan, of these %zu with idle power, %zu above "
            "every level's, %zu with deadlines\n",
            SMALL_SITES, planned, with_idle_power, above_levels, with_deadlines);
+    printf(
+        "reference: %zu run tasks with start ticks, which leave %zu more without a plan, and %zu "
+        "with another one\n",
+        with_start_ticks, unplanned_by_start_ticks, otherwise_by_start_ticks);
     printf("reference: deadlines leave %zu without a plan, and %zu with another one; every row of "
            "%zu cores that fit and %zu that do not\n",
            unplanned_by_deadlines, planned_otherwise, cores_fit, cores_late);
     printf("reference: plans: %zu tests, %zu fail\n", tests, failures);
-    return failures > 0 || planned_otherwise == 0 || unplanned_by_deadlines == 0;
+    return failures > 0 || planned_otherwise == 0 || unplanned_by_deadlines == 0 ||
+           with_start_ticks == 0 || unplanned_by_start_ticks == 0 || otherwise_by_start_ticks == 0;
 }

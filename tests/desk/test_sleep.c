@@ -17,6 +17,10 @@ static lent text, plan, table, energies, sleeps;
 static bool reads;
 static reference_instance in;
 
+/* The sizes of buffers that are lent beside a text that is refused. */
+static const reference_instance unread = {
+    1, 1, 2, 5, 0, 2, 3, 60, {{1, 1}, {2, 2}}, {{60, 1, 1, 60}, {1, 1, 1, 1}, {2, 1, 1, 2}}};
+
 static size_t compared, differ, slept_through, across_the_end, equal_energies, seen[REFUSALS];
 
 /* ---- One comparison ---- */
@@ -156,9 +160,8 @@ static void compare_text(generator *g, const uint8_t *bytes, size_t len) {
     static drawing sound, other;
     lend_copy(&text, bytes, len, draw_tail(g));
     reads = reference_read_text(text.bytes, text.len, &in).refusal == TOWHEPAMU_ACCEPTED;
-    if (!reads) /* so that there are buffers to lend beside a text that is refused */
-        in = (reference_instance){
-            1, 1, 2, 5, 2, 3, 60, {{1, 1}, {2, 2}}, {{60, 1, 1, 60}, {1, 1, 1, 1}, {2, 1, 1, 2}}};
+    if (!reads)
+        in = unread;
     draw_drawing(g, &in, &sound);
     if (reads && one_in(g, 2))
         reference_plan(text.bytes, text.len, sound.plan, in.tasks, sound.table, sound.table_len);

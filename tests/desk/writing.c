@@ -7,8 +7,10 @@ size_t list_words(const reference_instance *in, written_as as, uint32_t *words) 
     words[n++] = in->energy_weight;
     words[n++] = in->penalty_weight;
     words[n++] = in->cores;
-    if (as.settings == 4)
+    if (as.settings >= 4)
         words[n++] = in->idle_power;
+    if (as.settings >= 5)
+        words[n++] = in->start_ticks;
     words[n++] = in->levels;
     for (size_t l = 0; l < in->levels; l++) {
         words[n++] = in->level[l].speed;
