@@ -1,4 +1,5 @@
 pub mod Splits
+pub mod NoSplitLaws
 pub mod SplitLaws
 pub mod PartedLaws
 pub mod Moves

@@ -7,7 +7,7 @@ use mathlib.Core.List.{List}
 use lib.ListN.{length, getD}
 use Rattle.assignment.specs.Entries.{entryAt, Kept, NoDearer}
 use Rattle.assignment.specs.Values.{Value, lesser}
-use Rattle.assignment.specs.Words.{valueOf}
+use Rattle.assignment.specs.Words.{noCost, valueOf}
 use Rattle.assignment.specs.Sets.{setNumber}
 use Rattle.assignment.specs.Partition.{leastSplit}
 use Rattle.partition.specs.declared.splits.Split.{Split}
@@ -74,3 +74,7 @@ pub record SplitsReady (split : Split) (tops topKeys rests restKeys costs keys :
   pub keys-fit : SumsFit (split .size) (split .t) (split .r) topKeys restKeys
   pub costs-long : split .s + split .size ≤ length costs
   pub keys-long : split .s + split .size ≤ length keys
+
+-- no split of these sets has two parts with a value
+pub record NoSplit (split : Split) (tops rests : List ℕ) : Type 0 where
+  pub none : (x y : ℕ) → x < split .size → y < split .size → noCost ≤ getD tops (split .t + x) 0 + getD rests (split .r + y) 0

@@ -1,9 +1,13 @@
 // The splits of sets in two parts, one for each of two tables. A set is a number below 2^items, the first item its most
 // significant digit; a table is a slice of costs and one of keys.
+use values::NO_COST;
 use values::lower;
+ghost use mathlib.Core.Bool.{true};
 ghost use mathlib.Core.Path.{_≡_};
-ghost use Prim.Native.Nat.{ℕ, _^_};
-ghost use Rattle.partition.specs.Splits.{inNeither, inTop, inRest, sumAt, LoweredFrom, PlacesFit, SplitsReady};
+ghost use Prim.Native.Nat.{ℕ, _+_, _^_, _≤_, _<_};
+ghost use lib.ListN.{length, getD};
+ghost use Rattle.assignment.specs.Words.{noCost};
+ghost use Rattle.partition.specs.Splits.{inNeither, inTop, inRest, sumAt, LoweredFrom, NoSplit, PlacesFit, SplitsReady, SumsFit};
 
 // The sets that add some of the last items to the set s, `size` in number. The parts of each add some of those items to the sets
 // t, of the one table, and r, of the other. The set s has the items of both: adding them up at each split would take longer.
@@ -136,6 +140,32 @@ fn lower_four(
     lower_pair(in_rest(split), tops, topkeys, rests, restkeys, costs, keys);
 }
 
+// Whether all of so many entries from one on stand for none.
+fn are_none(from: usize, size: usize, table: &[u64]) -> bool
+    requires { ⌜ from + size ≤ length (now table) ⌝ }
+    ensures { λ r. ⌜ (r ≡ true → ((x : ℕ) → x < size → noCost ≤ getD (now (table .entry)) (from + x) 0)) ⌝ }
+{
+    let mut x = 0;
+    while x < size {
+        if table[from + x] < NO_COST {
+            return false;
+        }
+        x += 1;
+    }
+    true
+}
+
+// Whether no split of these sets has two parts with a value.
+fn has_no_split(split: Split, tops: &[u64], rests: &[u64]) -> bool
+    requires { ⌜ SumsFit (split .size) (split .t) (split .r) (now tops) (now rests) ⌝ }
+    ensures { λ r. ⌜ (r ≡ true → NoSplit split (now (tops .entry)) (now (rests .entry))) ⌝ }
+{
+    if are_none(split.t, split.size, tops) {
+        return true;
+    }
+    are_none(split.r, split.size, rests)
+}
+
 // Lowers the entries of all these sets, each to its splits. The last two items are written out, which saves most of the calls.
 pub(crate) fn lower_splits(
     split: Split,
@@ -151,6 +181,9 @@ pub(crate) fn lower_splits(
         LoweredFrom k split (sumAt (now (tops .entry)) (now (topkeys .entry)) (now (rests .entry)) (now (restkeys .entry)))
         (now (costs .entry)) (now (keys .entry)) (now (costs .exit)) (now (keys .exit))) ⌝ }
 {
+    if has_no_split(split, tops, rests) {
+        return;
+    }
     if split.size == 4 {
         lower_four(split, tops, topkeys, rests, restkeys, costs, keys);
         return;
