@@ -14,10 +14,12 @@ ghost use Rattle.towhepamu.specs.CallOutcomes.{checkedOf, textSlotCheckO
 ghost use Rattle.checks.specs.Outcomes.{slotCheckOutcome, checkOutcome};
 
 // A plan of more than MOST_TASKS choices is too long for every instance, and so are its first MOST_TASKS + 1.
+const CHOICES: usize = MOST_TASKS as usize + 1;
+
 fn check_words(words: &[u32], plan: &[u8], table: &[u8]) -> Verdict
     ensures { λ r. ⌜ r ≡ checkOutcome (now (words .entry)) (now (plan .entry)) (now (table .entry)) ⌝ }
 {
-    let mut choices = [0; MOST_TASKS as usize + 1];
+    let mut choices = [0; CHOICES];
     let n = words_of_bytes(plan, &mut choices);
     check_table(words, &choices[..n], table)
 }
@@ -25,7 +27,7 @@ fn check_words(words: &[u32], plan: &[u8], table: &[u8]) -> Verdict
 fn check_slots_of_words(words: &[u32], plan: &[u8], table: &[u8]) -> Verdict
     ensures { λ r. ⌜ r ≡ slotCheckOutcome (now (words .entry)) (now (plan .entry)) (now (table .entry)) ⌝ }
 {
-    let mut choices = [0; MOST_TASKS as usize + 1];
+    let mut choices = [0; CHOICES];
     let n = words_of_bytes(plan, &mut choices);
     check_slots(words, &choices[..n], table)
 }
