@@ -234,17 +234,6 @@ towhepamu_planned towhepamu_plan(const uint8_t *text, size_t text_len, uint8_t *
                                  size_t plan_len, uint8_t *table, size_t table_len);
 
 /*
- * Checks the length and the slots of a given table for the site of `text`, also where it is only
- * half drawn. It passes when it has cores x span bytes and every slot is 0 or a task that the plan
- * keeps on that slot's core; whether the jobs have their ticks is not looked at.
- *
- * Tested in this order: TEXT; then, number by number, WORDS, RANGE and SPAN; CHOICES and SLOTS,
- * each with the length first. It stores nothing in the lent buffers.
- */
-towhepamu_checked towhepamu_check_slots(const uint8_t *text, size_t text_len, const uint8_t *plan,
-                                        size_t plan_len, const uint8_t *table, size_t table_len);
-
-/*
  * Checks a given plan and table for the site of `text`, wherever they come from. They pass when
  * every job of a kept task has exactly its ticks as slots of its core between its release and its
  * due tick, and every other slot is 0. Rows need not run the earliest due first, nor need the plan
