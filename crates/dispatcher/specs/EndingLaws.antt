@@ -9,7 +9,7 @@ use Rattle.refusals.specs.EndingLaws.{turns-down, ends-as-tested}
 use Rattle.refusals.specs.Endings.{Ends, readThen}
 use Rattle.instance.specs.Node.{Problem, span}
 use Rattle.refusals.specs.RefusalNumbers.{RefusesOnly, accepts, UnreadOnly, read, unread, andThen-refuses, both-refuse, refuses-if, refuses-unless}
-use Rattle.refusals.specs.Refusals.{Reading, _andThen_}
+use Rattle.refusals.specs.Refusals.{Reading}
 use Rattle.refusals.specs.VerdictLaws.{refused-not-accepted}
 use Rattle.instance.specs.SiteFile.{problemOf}
 use Rattle.instance.specs.SiteFileRefusals.{reading-refuses-2-3-4}

@@ -2,7 +2,6 @@
 use crate::DispatchState;
 use crate::dispatching::dispatch;
 use refusals::Verdict;
-ghost use mathlib.Core.Path.{_≡_};
 ghost use Rattle.dispatcher.specs.InPlace.{Ticked};
 
 // What a call answers where the next state takes the place of the one lent: the task to run, 0 for none.

@@ -12,7 +12,7 @@ use Rattle.formats.specs.Written.{then, nothing}
 use Rattle.formats.specs.Written as Written
 use Rattle.instance.specs.Node.{Problem}
 use Rattle.instance.specs.RangeLaws.{between-in-range, in-range-between}
-use Rattle.instance.specs.SiteFile.{SiteFormat, Settings, settingFrom, idlePower, startTicks, settings}
+use Rattle.instance.specs.SiteFile.{SiteFormat, Settings, settingFrom, settings}
 use Rattle.instance.specs.Valid.{InRange, Valid, WritesSettings, three, four, five}
 
 -- a setting of value v, after a count, in the words up to `rest`

@@ -1,5 +1,5 @@
 -- The lines of tasks and cores, from the fields of the struct that holds the problem.
-use Prim.Native.Nat.{ℕ, pred, _+_, _-_, _*_, _/_, _%_, _<_, _≤_}
+use Prim.Native.Nat.{ℕ, _+_, _-_, _*_, _/_, _%_, _<_, _≤_}
 use mathlib.Core.List.{List, _∷_, _++_}
 use mathlib.Core.Path.{_≡_, refl, sym, ap, ap₂, _∙_}
 use native.Mathlib.Nat.{mul-le-mul-right, suc-mul}

@@ -1,18 +1,18 @@
 -- Where no split of some sets has two parts with a value, nothing is lowered.
-use Prim.Native.Nat.{ℕ, zero, suc, _+_, _^_, _≤_, _<_}
+use Prim.Native.Nat.{ℕ, suc, _+_, _^_, _<_}
 use mathlib.Core.Bool.{Bool, true, false}
 use mathlib.Core.List.{List, [], _∷_}
 use mathlib.Core.Path.{_≡_, refl, sym, ap, _∙_}
 use mathlib.Core.Logic.{inr}
 use native.Mathlib.Nat.{le-refl}
-use lib.ListN.{length, getD}
+use lib.ListN.{length}
 use Rattle.assignment.specs.Entries.{entryAt}
 use Rattle.assignment.specs.LeastLaws.{lesser-none}
 use Rattle.assignment.specs.Partition.{leastSplit}
 use Rattle.assignment.specs.SetLaws.{setNumber-below}
 use Rattle.assignment.specs.Sets.{setNumber}
 use Rattle.assignment.specs.Values.{Value, none, lesser}
-use Rattle.assignment.specs.Words.{noCost, words-none}
+use Rattle.assignment.specs.Words.{words-none}
 use Rattle.partition.specs.Splits.{sumAt, leastFrom, LoweredFrom, NoSplit}
 use Rattle.partition.specs.declared.splits.Split.{Split}
 

@@ -1,29 +1,26 @@
 -- The best plan under deadlines: what is offered to the search in rounds, and that its options are the problem's.
-use Prim.Native.Nat.{ℕ, _+_, _-_, _*_, _/_, _≤_, _<_}
-use mathlib.Core.Bool.{Bool, true}
-use mathlib.Core.List.{List, []}
+use Prim.Native.Nat.{ℕ, _+_, _*_, _≤_}
+use mathlib.Core.Bool.{Bool}
+use mathlib.Core.List.{List}
 use mathlib.Core.Path.{_≡_, refl, sym, ap, subst, _∙_}
 use native.Mathlib.Omega.{arith}
-use lib.ListN.{length, getD}
-use Rattle.ranges.specs.Limits.{mostLevels}
+use lib.ListN.{length}
 use Rattle.instance.specs.Held.{Sound, problemIn, held-levelcount, held-span, held-taskcount}
 use Rattle.instance.specs.declared.Instance.{Instance}
 use Rattle.plan_rules.specs.HeldPlans.{held-cores}
-use Rattle.instance.specs.Node.{Problem, levelCount, taskAt, taskCount, span}
+use Rattle.instance.specs.Node.{Problem, levelCount, taskCount, span}
 use Rattle.instance.specs.Valid.{Valid}
 use Rattle.plan_rules.specs.FitLaws.{load-of-fitting-core}
-use Rattle.plan_rules.specs.Plans.{fits}
 use Rattle.assignment.specs.AlikeLaws.{Alike, allowed-alike, alike-sym, best-alike, cost-alike}
 use Rattle.assignment.specs.Assignment.{Options}
 use Rattle.assignment.specs.Keeping.{Keeps}
 use Rattle.assignment.specs.KeepingLaws.{kept-items}
-use Rattle.knapsack.specs.Offered.{entryOf, offersOf}
+use Rattle.knapsack.specs.Offered.{offersOf}
 use Rattle.knapsack.specs.Offers.{patternCost, patternLoad}
 use Rattle.core_tables.specs.AwakeCores.{idleLoad, size, surplus}
 use Rattle.core_tables.specs.AwakeLaws.{alone-load, core-cost}
 use Rattle.raising.specs.ChargedOptions.{chargedOnce}
 use Rattle.raising.specs.LoadLaws.{TimedLoads}
-use Rattle.raising.specs.Rounds.{RefusalsOffered}
 use Rattle.raising.specs.StartTables.{SiteOffered}
 use Rattle.timed_sets.specs.SetTheorem.{loads-do-not-matter}
 use Rattle.raising.specs.TimedSites.{coreOf, siteOptions}
@@ -31,7 +28,7 @@ use Rattle.raising.specs.declared.Site.{Site}
 use Rattle.search.specs.Found.{BestFound}
 use Rattle.search.specs.declared.Found.{Found}
 use Rattle.search.specs.declared.Found.the-variants as Found
-use Rattle.timed_sets.specs.TimedCores.{timedOptions, timingAt, timingWidth}
+use Rattle.timed_sets.specs.TimedCores.{timedOptions, timingWidth}
 use Rattle.planner.specs.BestChoiceLaws.{Chosen, found-is-chosen}
 use Rattle.planner.specs.OfferedBounds.{offered-affordable, offered-refusal-at-most}
 use Rattle.planner.specs.OfferedLaws.{awake-cost, offered-alone, offered-items, offers-beside-items, tasks-load}

@@ -1,14 +1,14 @@
 -- A core of the problem admits a pattern where its jobs are done in time, as the search is told by the timings.
 use Prim.Native.Nat.{ℕ, zero, suc, pred, _+_, _*_, _/_, _%_, _≤_, _<_}
-use mathlib.Core.Bool.{Bool, true, false, cond, not, _&&_}
+use mathlib.Core.Bool.{Bool, cond, not, _&&_}
 use mathlib.Core.List.{List}
-use mathlib.Core.Path.{_≡_, refl, sym, ap, _∙_}
+use mathlib.Core.Path.{_≡_, refl, _∙_}
 use native.Mathlib.Nat.{div-eq-of-lt, mod-eq-of-lt, add-zero}
 use native.Mathlib.Omega.{arith}
 use lib.Dec.{eqb, eqb·suc-zero}
-use lib.ListN.{length, getD}
+use lib.ListN.{length}
 use Rattle.laws.specs.JoinedLaws.{length-listOf}
-use Rattle.ranges.specs.Limits.{mostLevels, mostTasks}
+use Rattle.ranges.specs.Limits.{mostLevels}
 use Rattle.instance.specs.Node.{Problem, levelAt, levelCount, taskAt, taskCount, span}
 use Rattle.instance.specs.SpanLaws.{span-above-zero, period-divides-span}
 use Rattle.instance.specs.Valid.{Valid}
@@ -19,11 +19,10 @@ use Rattle.plan_rules.specs.Quantities
 use Rattle.plan_rules.specs.Quantities.{choiceAt, jobTicks, ticks, ticksOn}
 use Rattle.plan_rules.specs.Windows.{window}
 use Rattle.assignment.specs.Keeping.{Keeps}
-use Rattle.assignment.specs.KeyLaws.{keeps-length}
 use Rattle.timed_sets.specs.DemandBounds.{SameTasks, same-tasks-meet}
-use Rattle.timed_sets.specs.Nodes.{TimedItem, TimedItems}
+use Rattle.timed_sets.specs.Nodes.{TimedItems}
 use Rattle.timed_sets.specs.PatternLaws.{timing-of}
-use Rattle.timed_sets.specs.TimedCores.{Timing, entryTicks, patternTasks, timingAt, timingIn, timingsOf, timingWidth}
+use Rattle.timed_sets.specs.TimedCores.{entryTicks, patternTasks, timingAt, timingsOf, timingWidth}
 use Rattle.timed_sets.specs.declared.Timed.{Timed}
 use Rattle.planner.specs.OfferedLaws.{keeps-choice}
 use Rattle.planner.specs.TimedOptions.{TimingsOffered, wordOf}

@@ -1,6 +1,6 @@
 -- What a core admits by its due ticks has a load within the span, so that the knapsacks of load alone are lower values.
-use Prim.Native.Nat.{ℕ, zero, suc, _+_, _*_, _/_, _≤_, _<_}
-use mathlib.Core.Path.{_≡_, refl, sym, ap, ap₂, _∙_}
+use Prim.Native.Nat.{ℕ, zero, suc, _*_, _/_, _≤_, _<_}
+use mathlib.Core.Path.{_≡_, refl, sym, _∙_}
 use mathlib.Core.Bool.{Bool, true}
 use mathlib.Core.List.{List, [], _∷_}
 use native.Mathlib.Nat.{le-refl, mul-zero, suc-mul}
@@ -10,17 +10,14 @@ use Rattle.laws.specs.JoinedLaws.{length-listOf, getD-listOf}
 use Rattle.laws.specs.Lists.{listOf}
 use Rattle.laws.specs.SumLaws.{sum-cong}
 use Rattle.laws.specs.SumOrderLaws.{total-is-sum}
-use Rattle.laws.specs.Sums.{sum}
-use Rattle.assignment.specs.CoreTables.{Admitted}
 use Rattle.assignment.specs.Keeping.{Keeps, done, refused, kept}
 use Rattle.assignment.specs.KeyLaws.{keeps-length}
-use Rattle.assignment.specs.Limits.{mostCost}
 use Rattle.dispatch.specs.Rows.{CoreTasks}
 use Rattle.edf.specs.Demand.{WholePeriods, meetsDemand, spanLoad}
 use Rattle.edf.specs.DemandLaws.{meets-demand-within, demand-at-span}
-use Rattle.knapsack.specs.Offered.{Affordable, entryOf, offerAt, offersOf}
+use Rattle.knapsack.specs.Offered.{entryOf, offerAt, offersOf}
 use Rattle.knapsack.specs.Offers.{Offer, entryLoad, entryCost, patternLoad, patternCost}
-use Rattle.core_tables.specs.AwakeCores.{noOffer, offerIn}
+use Rattle.core_tables.specs.AwakeCores.{offerIn}
 use Rattle.timed_sets.specs.AdmittedLaws.{counted, pattern-well-formed}
 use Rattle.timed_sets.specs.Nodes.{TimedItems}
 use Rattle.timed_sets.specs.PatternLaws.{timing-of}

@@ -1,7 +1,7 @@
 -- The table that the search in rounds keeps: nowhere above the least values, and exact where it says so. Which of its entries
 -- are made exact, and when, does not matter.
 use Prim.Native.Nat.{ℕ, zero, suc, _+_, _^_, _≤_, _<_}
-use mathlib.Core.Path.{_≡_, refl, sym, ap, _∙_}
+use mathlib.Core.Path.{_≡_, refl}
 use mathlib.Core.Logic.{_⊎_, inl, inr, _≢_}
 use mathlib.Core.Bool.{Bool, true, false, cond, not}
 use mathlib.Core.List.{List}
@@ -9,22 +9,18 @@ use native.Mathlib.Nat.{eq-or-lt-of-le}
 use native.Mathlib.Omega.{arith}
 use borrow.Author.Tests.{eqb-true, eqb-false}
 use lib.Dec.{eqb}
-use lib.ListN.{length, getD, set, length-set}
+use lib.ListN.{length, getD, set}
 use lib.Seq.{getD-set-same, getD-set-other}
-use Rattle.laws.specs.Below.{lt-or-le}
 use Rattle.laws.specs.Search.{count}
 use Rattle.laws.specs.SearchFacts.{count-same}
-use Rattle.laws.specs.Truth.{false-not-true}
 use Rattle.assignment.specs.Assignment.{Options}
 use Rattle.assignment.specs.CoreTables.{Admitted, patternWorth, Keyed}
-use Rattle.assignment.specs.Keys.{keyBase}
 use Rattle.assignment.specs.Limits.{mostCoreCost}
 use Rattle.assignment.specs.Sets.{setNumber, tableAt}
-use Rattle.assignment.specs.SetLaws.{setNumber-below, Numbered, numbered}
 use Rattle.assignment.specs.Values.{AtMost, Least}
-use Rattle.assignment.specs.Words.{noCost, valueOf, words-pair}
-use Rattle.core_tables.specs.AwakeCores.{size, surplus}
-use Rattle.core_tables.specs.SetSizes.{itemsIn, itemsIn-set}
+use Rattle.assignment.specs.Words.{noCost, valueOf}
+use Rattle.core_tables.specs.AwakeCores.{surplus}
+use Rattle.core_tables.specs.SetSizes.{itemsIn}
 use Rattle.partition.specs.Tables.{SmallTable}
 
 -- of n items; `exact` flags sets by their numbers

@@ -15,7 +15,7 @@ use Rattle.assignment.specs.Sets.{setNumber, tableAt}
 use Rattle.assignment.specs.SetLaws.{numbered}
 use Rattle.assignment.specs.Values.{Value, pair, AtMost, Attained, Least}
 use Rattle.assignment.specs.Words.{noCost, valueOf, words-pair}
-use Rattle.core_tables.specs.AwakeCores.{size, surplus}
+use Rattle.core_tables.specs.AwakeCores.{surplus}
 use Rattle.core_tables.specs.SetSizes.{itemsIn, itemsIn-set}
 use Rattle.partition.specs.Tables.{SmallTable}
 use Rattle.raising.specs.ChargedOptions.{CostsCounted}

@@ -20,8 +20,8 @@ use Rattle.assignment.specs.Sets.{setNumber, tableAt, Tabled}
 use Rattle.assignment.specs.SetLaws.{setNumber-below}
 use Rattle.assignment.specs.SettledTheorem.{chosen-none, chosen-settled}
 use Rattle.assignment.specs.Values.{Value, none, pair}
-use Rattle.assignment.specs.Words.{noCost, valueOf, words-none, words-pair}
-use Rattle.core_tables.specs.AwakeCores.{size, surplus, takeOff}
+use Rattle.assignment.specs.Words.{noCost, words-none, words-pair}
+use Rattle.core_tables.specs.AwakeCores.{size, surplus}
 use Rattle.core_tables.specs.ChargedLaws.{charged-entry, charged-tabled, charged-limited, charged-keyed}
 use Rattle.core_tables.specs.ChargedTables.{ChargeReady, ChargedBelow}
 use Rattle.core_tables.specs.SetSizes.{itemsIn-set}

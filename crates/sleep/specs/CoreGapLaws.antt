@@ -12,8 +12,7 @@ use borrow.Author.Tests.{eq-eqb}
 use Rattle.laws.specs.CountLaws.{some-counted, count-of-others}
 use Rattle.laws.specs.Search.{count}
 use Rattle.laws.specs.SearchFacts.{count-same}
-use Rattle.laws.specs.SumLaws.{sum-zero, sum-scaled, term-le-sum}
-use Rattle.laws.specs.Sums.{sum}
+use Rattle.laws.specs.SumLaws.{term-le-sum}
 use Rattle.laws.specs.Truth.{false-not-true}
 use Rattle.checks.specs.Checks.{check}
 use Rattle.drawings.specs.BusySlotLaws.{busy-slots-are-load}
@@ -22,11 +21,11 @@ use Rattle.drawings.specs.Drawings.{Drawing}
 use Rattle.drawings.specs.RepeatedTables.{shownAt}
 use Rattle.drawings.specs.ServedRowLaws.{drawing-serves-cores}
 use Rattle.drawings.specs.ServedRows.{OwedSlot}
-use Rattle.gaps.specs.Gaps.{SomeBusy, gapEndingAt}
-use Rattle.gaps.specs.GapSumLaws.{idleSlots, gap-sizes-add-up, no-gaps-without-busy-slot}
+use Rattle.gaps.specs.Gaps.{SomeBusy}
+use Rattle.gaps.specs.GapSumLaws.{idleSlots}
 use Rattle.gaps.specs.SleepLaws.{energy-without-sleep, no-energy-of-idle-row}
 use Rattle.gaps.specs.Sleeping.{chosenEnergy}
-use Rattle.instance.specs.Node.{Problem, taskCount, taskAt, levelAt, levelCount, span}
+use Rattle.instance.specs.Node.{Problem, taskCount, taskAt, span}
 use Rattle.instance.specs.Valid.{Valid}
 use Rattle.plan_rules.specs.KeepsLaws.{kept-where-ticks}
 use Rattle.plan_rules.specs.Quantities.{keeps, jobs, jobTicks, ticks, ticksOn, loadOn, coreLoad, levelOf}

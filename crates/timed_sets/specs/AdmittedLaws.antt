@@ -1,20 +1,20 @@
 -- Which patterns a core with due ticks admits: what the columns of a node say of them.
-use Prim.Native.Nat.{ℕ, zero, suc, _+_, _*_, _≤_, _<_}
-use mathlib.Core.Bool.{Bool, true, false}
+use Prim.Native.Nat.{ℕ, suc, _≤_, _<_}
+use mathlib.Core.Bool.{Bool, true}
 use mathlib.Core.List.{List, [], _∷_, _++_}
-use mathlib.Core.Path.{_≡_, refl, sym, ap, _∙_}
-use native.Mathlib.Nat.{le-trans, le-of-dvd, le-of-dvd}
+use mathlib.Core.Path.{_≡_}
+use native.Mathlib.Nat.{le-trans, le-of-dvd}
 use native.Mathlib.Omega.{arith}
-use lib.ListN.{length, getD}
+use lib.ListN.{length}
 use Rattle.laws.specs.JoinedLaws.{length-listOf}
-use Rattle.edf.specs.Demand.{WellFormed, WholePeriods, meetsDemand}
+use Rattle.edf.specs.Demand.{WellFormed}
 use Rattle.assignment.specs.Values.{Value}
 use Rattle.timed_sets.specs.DemandBounds.{ticks-within-window}
 use Rattle.timed_sets.specs.Nodes.{timedCore, TimedItems, Stands}
 use Rattle.timed_sets.specs.PatternLaws.{timing-of, entry-between}
 use Rattle.timed_sets.specs.Reached.{Reached}
 use Rattle.timed_sets.specs.ReachedLaws.{reached-pattern}
-use Rattle.timed_sets.specs.TimedCores.{timingAt, timingIn, timingsOf, patternTasks, entryTicks}
+use Rattle.timed_sets.specs.TimedCores.{timingAt, timingsOf, patternTasks, entryTicks}
 use Rattle.timed_sets.specs.declared.Node.{Node}
 use Rattle.timed_sets.specs.declared.Timed.{Timed}
 

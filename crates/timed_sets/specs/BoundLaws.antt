@@ -3,7 +3,7 @@
 use Prim.Native.Nat.{ℕ, zero, suc, _+_, _*_, _^_, _≤_, _<_}
 use mathlib.Core.Bool.{Bool, true, false}
 use mathlib.Core.List.{List, [], _∷_, _++_}
-use mathlib.Core.Path.{_≡_, refl, sym, ap, ap₂, _∙_}
+use mathlib.Core.Path.{_≡_, refl, ap, ap₂}
 use native.Mathlib.Nat.{le-refl, le-trans, mul-le-mul-right, add-mul, mul-assoc}
 use native.Mathlib.Omega.{arith}
 use lib.ListN.{length, getD, length-append, replicate}
@@ -12,7 +12,7 @@ use Rattle.laws.specs.SumLaws.{sum-mono}
 use Rattle.dispatch.specs.Rows.{CoreTasks}
 use Rattle.edf.specs.Demand.{demandAt, jobsDue, meetsDemand, ticksDue}
 use Rattle.edf.specs.DemandLaws.{meets-demand-within}
-use Rattle.assignment.specs.Keeping.{Keeps, done, refused, kept}
+use Rattle.assignment.specs.Keeping.{Keeps, refused}
 use Rattle.assignment.specs.KeyLaws.{keeps-length}
 use Rattle.assignment.specs.Keys.{keyBase, planKey}
 use Rattle.assignment.specs.Sets.{setNumber, tableAt}

@@ -1,10 +1,8 @@
 -- Columns of the words of timings, and the test of a whole pattern by them.
-use Prim.Native.Nat.{ℕ, zero, suc, _+_, _*_, _≤_, _<_}
-use mathlib.Core.Bool.{Bool, true, false}
-use mathlib.Core.List.{List, []}
-use mathlib.Core.Logic.{_⊎_, inl, inr}
+use Prim.Native.Nat.{ℕ, _+_, _*_, _≤_, _<_}
+use mathlib.Core.Bool.{Bool}
+use mathlib.Core.List.{List}
 use mathlib.Core.Path.{_≡_, refl, sym, ap, _∙_}
-use native.Mathlib.Nat.{eq-or-lt-of-le}
 use native.Mathlib.Omega.{arith}
 use lib.Dec.{eqb}
 use lib.ListN.{length, getD, set, take, replicate, length-set}
@@ -12,8 +10,7 @@ use lib.Seq.{getD-set-same, getD-set-other, getD-take, length-take-le}
 use Rattle.laws.specs.Below.{below-suc}
 use Rattle.dispatch.specs.Columns.{columnTasks}
 use Rattle.dispatch.specs.Rows.{CoreTasks}
-use Rattle.edf.specs.Demand.{WellFormed, WholePeriods, meetsDemand}
-use Rattle.demand.specs.UnmetTicks.{JobColumns, SpanColumns, UnmetTick}
+use Rattle.demand.specs.UnmetTicks.{SpanColumns, UnmetTick}
 use Rattle.demand.specs.UnmetTickLaws.{unmet-tick-decides, unmet-tick-of-same-demand}
 use Rattle.assignment.specs.Limits.{mostItems}
 use Rattle.timed_sets.specs.AdmittedLaws.{counted}
@@ -21,7 +18,7 @@ use Rattle.timed_sets.specs.DemandBounds.{SameTasks, same-demand}
 use Rattle.timed_sets.specs.Nodes.{timedCore, TimedItems, Stands, WordColumn}
 use Rattle.timed_sets.specs.PatternLaws.{timing-of}
 use Rattle.timed_sets.specs.TickColumns.{columnJobs}
-use Rattle.timed_sets.specs.TimedCores.{timingAt, timingWidth, timingIn, timingsOf, patternTasks}
+use Rattle.timed_sets.specs.TimedCores.{timingAt, timingWidth, timingsOf, patternTasks}
 use Rattle.timed_sets.specs.declared.Node.{Node}
 use Rattle.timed_sets.specs.declared.Timed.{Timed}
 

@@ -1,12 +1,11 @@
 -- What the demand of a core's tasks says of each of them, and on what it depends.
-use Prim.Native.Nat.{ℕ, suc, _+_, _*_, _≤_, _<_}
+use Prim.Native.Nat.{ℕ, suc, _≤_, _<_}
 use mathlib.Core.Bool.{true}
-use mathlib.Core.Path.{_≡_, refl, ap, ap₂}
+use mathlib.Core.Path.{_≡_}
 use native.Mathlib.Nat.{le-trans, mul-le-mul-left}
 use native.Mathlib.Omega.{arith}
 use lib.Dec.{leb}
 use Rattle.laws.specs.Search.{every}
-use Rattle.laws.specs.Sums.{sum}
 use Rattle.laws.specs.SumLaws.{sum-cong, term-le-sum}
 use Rattle.dispatch.specs.Rows.{CoreTasks}
 use Rattle.edf.specs.Demand.{WellFormed, demandAt, jobsDue, meetsDemand, ticksDue}

@@ -1,9 +1,8 @@
 -- What a part of a pattern costs at least by a relaxation: the sums as the code takes them, and what they leave out.
-use Prim.Native.Nat.{ℕ, zero, suc, _+_, _-_, _*_, _^_, _≤_, _<_}
+use Prim.Native.Nat.{ℕ, suc, _+_, _-_, _*_, _^_, _≤_, _<_}
 use mathlib.Core.Bool.{Bool, true, false}
 use mathlib.Core.List.{List, [], _∷_, _++_}
-use mathlib.Core.Logic.{_⊎_, inl, inr}
-use mathlib.Core.Path.{_≡_, refl, sym, ap, ap₂, _∙_}
+use mathlib.Core.Path.{_≡_, refl, ap, _∙_}
 use native.Mathlib.Nat.{mul-le-mul, suc-mul}
 use native.Mathlib.Numerals.{add-one}
 use native.Mathlib.Omega.{arith}
@@ -11,17 +10,15 @@ use lib.ListN.{length, getD}
 use Rattle.laws.specs.Sums.{sum}
 use Rattle.laws.specs.SumLaws.{sum-cong}
 use Rattle.ranges.specs.Limits.{mostPeriod}
-use Rattle.assignment.specs.Limits.{mostCost, mostItems}
 use Rattle.assignment.specs.SetLaws.{setNumber-below}
 use Rattle.assignment.specs.Sets.{setNumber}
-use Rattle.assignment.specs.Values.{Value, pair, cheaper}
+use Rattle.assignment.specs.Values.{cheaper}
 use Rattle.assignment.specs.Words.{noCost, words-pair}
-use Rattle.values.specs.Worths.{worthOf}
 use Rattle.values.specs.declared.value.Worth.{Worth}
 use Rattle.timed_sets.specs.LagrangianLaws.{bound-from}
-use Rattle.timed_sets.specs.Lagrangians.{priceOf, leastPriced, mostPrice, mostPriced, mostBudget, Relaxes}
+use Rattle.timed_sets.specs.Lagrangians.{priceOf, leastPriced, mostPrice, mostPriced, Relaxes}
 use Rattle.timed_sets.specs.Nodes.{timedCore, NothingBefore, Stands, TimedReady}
-use Rattle.timed_sets.specs.Reached.{Reached, worthOn}
+use Rattle.timed_sets.specs.Reached.{worthOn}
 use Rattle.timed_sets.specs.ReachedLaws.{reached-pattern}
 use Rattle.timed_sets.specs.declared.Lagrangian.{Lagrangian}
 use Rattle.timed_sets.specs.declared.Node.{Node}

@@ -1,9 +1,9 @@
 -- Weak duality: no admitted pattern that goes on from a front costs less than the front, its ticks at their prices and the least priced
 -- of the items to come, less the budget.
-use Prim.Native.Nat.{ℕ, zero, suc, _+_, _*_, _≤_, _<_}
-use mathlib.Core.Bool.{Bool, true, false}
+use Prim.Native.Nat.{ℕ, suc, _+_, _*_, _≤_, _<_}
+use mathlib.Core.Bool.{Bool, true}
 use mathlib.Core.List.{List, [], _∷_, _++_}
-use mathlib.Core.Path.{_≡_, refl, sym, ap, ap₂, _∙_}
+use mathlib.Core.Path.{_≡_, refl, ap, ap₂, _∙_}
 use native.Mathlib.Nat.{le-trans}
 use native.Mathlib.Omega.{arith}
 use lib.ListN.{length, getD, length-append}
@@ -11,15 +11,15 @@ use Rattle.laws.specs.Sums.{sum}
 use Rattle.laws.specs.SumLaws.{sum-cong}
 use Rattle.assignment.specs.Keeping.{Keeps}
 use Rattle.assignment.specs.Values.{Value, pair}
-use Rattle.knapsack.specs.Offered.{entryOf, offersOf}
+use Rattle.knapsack.specs.Offered.{offersOf}
 use Rattle.knapsack.specs.Offers.{patternCost}
 use Rattle.timed_sets.specs.AdmittedLaws.{reached-within-window}
 use Rattle.timed_sets.specs.Lagrangians.{priceOf, leastPriced, Relaxes}
 use Rattle.timed_sets.specs.Nodes.{timedCore, TimedReady}
-use Rattle.timed_sets.specs.PatternLaws.{cost-of-none, cost-of-run, entry-there, entry-elsewhere, no-front-no-cost, timing-of}
+use Rattle.timed_sets.specs.PatternLaws.{cost-of-none, cost-of-run, entry-there, entry-elsewhere, timing-of}
 use Rattle.timed_sets.specs.Reached.{worthOn, Reached, whole, passed, runs}
 use Rattle.timed_sets.specs.ReachedLaws.{pattern-reached}
-use Rattle.timed_sets.specs.TimedCores.{entryTicks, timingAt, timingIn, timingsOf}
+use Rattle.timed_sets.specs.TimedCores.{entryTicks, timingIn, timingsOf}
 use Rattle.timed_sets.specs.declared.Lagrangian.{Lagrangian}
 use Rattle.timed_sets.specs.declared.Timed.{Timed}
 

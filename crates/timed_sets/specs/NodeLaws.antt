@@ -1,8 +1,8 @@
 -- The steps of the search: which node stands for which front of a pattern.
-use Prim.Native.Nat.{ℕ, zero, suc, _+_, _-_, _*_, _^_, _≤_, _<_}
+use Prim.Native.Nat.{ℕ, suc, _+_, _*_, _^_, _≤_, _<_}
 use mathlib.Core.Bool.{Bool, true, false}
 use mathlib.Core.List.{List, [], _∷_, _++_}
-use mathlib.Core.Logic.{_⊎_, inl, inr, _≢_, ⊎-elim}
+use mathlib.Core.Logic.{_⊎_, inl, inr, _≢_}
 use mathlib.Core.Path.{_≡_, refl, sym, ap, _∙_}
 use native.Mathlib.Nat.{mul-comm, suc-mul, pow-le-pow-right, pow-zero, pow-succ'}
 use native.Mathlib.Omega.{arith}
@@ -14,9 +14,9 @@ use borrow.Author.Tests.{eqb-true, eqb-false}
 use Rattle.ranges.specs.Limits.{mostPeriod}
 use Rattle.assignment.specs.KeyLaws.{keys-fit}
 use Rattle.assignment.specs.Keys.{keyBase, planKey}
-use Rattle.assignment.specs.Limits.{mostCost, mostItems, mostLevels}
+use Rattle.assignment.specs.Limits.{mostCost, mostItems}
 use Rattle.assignment.specs.Sets.{setNumber}
-use Rattle.knapsack.specs.Offered.{entryOf, offersOf}
+use Rattle.knapsack.specs.Offered.{entryOf}
 use Rattle.timed_sets.specs.Nodes.{TimedReady, Stands, SmallNode, passedOver, runAt, nextLevel, atLevel}
 use Rattle.timed_sets.specs.PatternLaws.{cost-of-none, cost-of-run, key-of-next, entry-of-none, entry-elsewhere, timing-of, entry-there, no-entry, no-front-no-cost}
 use Rattle.timed_sets.specs.TimedCores.{timingAt, timingIn, timingsOf, entryTicks}

@@ -3,7 +3,7 @@ use Prim.Native.Nat.{ℕ, zero, suc, _+_, _-_, _*_, _^_, _≤_, _<_}
 use mathlib.Core.Bool.{Bool, true, false}
 use mathlib.Core.List.{List, [], _∷_, _++_}
 use mathlib.Core.Logic.{_⊎_}
-use mathlib.Core.Path.{_≡_, refl, sym, ap, ap₂, _∙_}
+use mathlib.Core.Path.{_≡_, refl, sym, ap, _∙_}
 use native.Mathlib.Nat.{le-refl, lt-of-lt-of-le, pow-le-pow-right, pow-zero}
 use native.Mathlib.Omega.{arith}
 use lib.Arith.{digits-lt}
@@ -12,16 +12,14 @@ use lib.Pow.{pow-add, pow-mono}
 use Rattle.laws.specs.Truth.{false-not-true}
 use Rattle.edf.specs.Demand.{meetsDemand}
 use Rattle.assignment.specs.KeyLaws.{keys-fit}
-use Rattle.assignment.specs.Keys.{keyBase, planKey}
-use Rattle.assignment.specs.Limits.{mostCost, mostCoreCost, mostItems}
+use Rattle.assignment.specs.Keys.{keyBase}
 use Rattle.assignment.specs.SetLaws.{setNumber-below}
 use Rattle.assignment.specs.Sets.{setNumber, tableAt}
-use Rattle.assignment.specs.Values.{Value, none, pair, add, AtMost, to-none}
+use Rattle.assignment.specs.Values.{Value, pair, add, AtMost, to-none}
 use Rattle.assignment.specs.ValueLaws.{atMost-trans}
 use Rattle.assignment.specs.LeastLaws.{add-none}
 use Rattle.assignment.specs.Words.{noCost, valueOf, words-add, words-atMost, words-none, words-pair}
 use Rattle.knapsack.specs.Offered.{offersOf}
-use Rattle.values.specs.Worths.{worthOf}
 use Rattle.values.specs.declared.value.Worth.{Worth}
 use Rattle.timed_sets.specs.BoundLaws.{unflagged, left-out-number, left-out-admitted, bound-below, fewer-ticks-meet}
 use Rattle.timed_sets.specs.Nodes.{timedCore, LowerTimed, NothingBefore, Stands}

@@ -1,6 +1,6 @@
 -- What is reached from the front of a pattern: the values of the admitted patterns that go on from there, one for each item that is
 -- still open. A core is any `admits` and any cost of a pattern.
-use Prim.Native.Nat.{ℕ, zero, suc, _≤_, _<_}
+use Prim.Native.Nat.{ℕ, suc, _≤_, _<_}
 use mathlib.Core.Bool.{Bool, true, false}
 use mathlib.Core.List.{List, [], _∷_, _++_}
 use mathlib.Core.Logic.{_⊎_}

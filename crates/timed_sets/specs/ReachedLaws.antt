@@ -1,5 +1,5 @@
 -- The steps of a search through what is reached: each leaves the least of a known value and of all that is reached.
-use Prim.Native.Nat.{ℕ, zero, suc, _≤_, _<_}
+use Prim.Native.Nat.{ℕ, suc, _≤_, _<_}
 use mathlib.Core.Bool.{Bool, true, false}
 use mathlib.Core.List.{List, [], _∷_, _++_, append-assoc, append-nil}
 use mathlib.Core.Logic.{_⊎_, inl, inr}
@@ -8,7 +8,7 @@ use native.Mathlib.Nat.{eq-or-lt-of-le}
 use native.Mathlib.Omega.{arith}
 use Rattle.laws.specs.Truth.{false-not-true}
 use Rattle.assignment.specs.Keeping.{Keeps, done, refused, kept}
-use Rattle.assignment.specs.Values.{Value, none, pair, AtMost, to-none, lesser, Least}
+use Rattle.assignment.specs.Values.{Value, none, AtMost, lesser, Least}
 use Rattle.assignment.specs.ValueLaws.{atMost-refl, atMost-trans, lesser-first, lesser-second, lesser-either}
 use Rattle.timed_sets.specs.Reached.{OneCore, worthOn, Reached, whole, passed, runs, LeastFrom}
 

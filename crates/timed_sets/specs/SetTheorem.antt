@@ -1,11 +1,11 @@
 -- What the search of one set finds is its least value, whatever the cores, the loads and the refusals are.
-use Prim.Native.Nat.{ℕ, zero, suc, _+_, _*_, _^_, _≤_, _<_}
+use Prim.Native.Nat.{ℕ, zero, suc, _^_, _<_}
 use mathlib.Core.Bool.{Bool, true}
 use mathlib.Core.List.{List, [], _∷_, _++_}
 use mathlib.Core.Logic.{_⊎_, inl, inr}
-use mathlib.Core.Path.{_≡_, refl, sym, ap, ap₂, _∙_}
+use mathlib.Core.Path.{_≡_, refl}
 use native.Mathlib.Omega.{arith}
-use lib.ListN.{length, replicate}
+use lib.ListN.{replicate}
 use Rattle.laws.specs.Lists.{listOf}
 use Rattle.assignment.specs.Assignment.{Item}
 use Rattle.assignment.specs.CoreTables.{Admitted, patternWorth}
@@ -13,17 +13,16 @@ use Rattle.assignment.specs.Keeping.{Keeps}
 use Rattle.assignment.specs.Keys.{planKey}
 use Rattle.assignment.specs.Limits.{mostItems}
 use Rattle.assignment.specs.SetLaws.{numbered}
-use Rattle.assignment.specs.Sets.{setNumber}
-use Rattle.assignment.specs.Values.{Value, none, pair, AtMost, Least}
+use Rattle.assignment.specs.Values.{none, pair}
 use Rattle.assignment.specs.Words.{noCost, words-none}
 use Rattle.knapsack.specs.Offered.{offerAt, offersOf}
 use Rattle.knapsack.specs.Offers.{Offer, entryCost, patternCost}
-use Rattle.values.specs.Worths.{Small, worthOf}
+use Rattle.values.specs.Worths.{worthOf}
 use Rattle.values.specs.declared.value.Worth.{Worth}
 use Rattle.timed_sets.specs.Nodes.{timedCore, Stands, FoundFrom, SmallWorth, LeastInTime, noneYet}
 use Rattle.timed_sets.specs.NodeLaws.{stands-at-start}
 use Rattle.timed_sets.specs.PromisingLaws.{power-above-0}
-use Rattle.timed_sets.specs.Reached.{OneCore, worthOn, LeastFrom, Reached}
+use Rattle.timed_sets.specs.Reached.{worthOn, LeastFrom, Reached}
 use Rattle.timed_sets.specs.ReachedLaws.{least-of-set}
 use Rattle.timed_sets.specs.TimedCores.{timedOptions, timingsOf}
 use Rattle.timed_sets.specs.declared.Node.{Node}

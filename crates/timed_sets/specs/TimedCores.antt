@@ -1,7 +1,6 @@
 -- A core whose jobs are due at given ticks, as the search has it: which patterns it admits, and what each costs where an item is
 -- offered at what it costs alone.
-use Prim.Native.Nat.{ℕ, zero, suc, _+_, _*_, _≤_, _<_}
-use mathlib.Core.Bool.{Bool}
+use Prim.Native.Nat.{ℕ, zero, suc, _+_, _*_}
 use mathlib.Core.List.{List}
 use lib.ListN.{length, getD}
 use Rattle.laws.specs.Lists.{listOf}

@@ -1,14 +1,13 @@
 -- A whole pattern: what is found there.
-use Prim.Native.Nat.{ℕ, _+_, _*_, _≤_, _<_}
+use Prim.Native.Nat.{ℕ, _≤_}
 use mathlib.Core.Bool.{Bool, true, false}
 use mathlib.Core.List.{List, [], _∷_}
 use mathlib.Core.Logic.{_⊎_, inl, inr}
-use mathlib.Core.Path.{_≡_, refl, sym, ap, ap₂, _∙_}
+use mathlib.Core.Path.{_≡_, sym, ap, ap₂, _∙_}
 use native.Mathlib.Omega.{arith}
-use lib.ListN.{length}
-use Rattle.assignment.specs.Limits.{mostCost, mostItems}
-use Rattle.assignment.specs.Values.{Value, pair, lesser}
-use Rattle.assignment.specs.Words.{noCost, words-pair}
+use Rattle.assignment.specs.Limits.{mostItems}
+use Rattle.assignment.specs.Values.{pair, lesser}
+use Rattle.assignment.specs.Words.{words-pair}
 use Rattle.values.specs.WorthLaws.{lesserWorth-either, lesserWorth-value}
 use Rattle.values.specs.Worths.{Small, lesserWorth, worthOf}
 use Rattle.values.specs.declared.value.Worth.{Worth}

@@ -4,7 +4,7 @@ use crate::TIMING_WIDTH;
 use values::KEY_BASE;
 use values::MOST_ITEMS;
 ghost use mathlib.Core.Path.{_≡_};
-ghost use Prim.Native.Nat.{suc, _+_, _*_, _≤_, _<_};
+ghost use Prim.Native.Nat.{_+_, _*_, _≤_, _<_};
 ghost use lib.Dec.{leb};
 ghost use lib.ListN.{length, getD};
 ghost use Rattle.assignment.specs.Limits.{mostItems, mostCost};

@@ -12,7 +12,7 @@ use text::TextRead;
 use text::words_of_text;
 ghost use mathlib.Core.Path.{_≡_};
 ghost use Rattle.dispatcher.specs.Outcomes.{dispatchOutcome};
-ghost use Rattle.towhepamu.specs.CallOutcomes.{TextDispatches, taskToRunOf, textDispatchOutcome};
+ghost use Rattle.towhepamu.specs.CallOutcomes.{TextDispatches, textDispatchOutcome};
 
 // The front of the plan decides, as in the check.
 fn dispatch_words(

@@ -1,5 +1,5 @@
 -- `unmet_up_to` has the demand met by every tick above the one that it stands at.
-use Prim.Native.Nat.{_-_, _≤_}
+use Prim.Native.Nat.{_≤_}
 use mathlib.Core.Path.{_≡_}
 use native.Mathlib.Omega.{arith}
 use borrow.Author.Needs.{needs}

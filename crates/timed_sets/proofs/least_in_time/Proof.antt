@@ -1,53 +1,37 @@
-use Prim.Native.Nat.{ℕ, zero, suc, _+_, _-_, _*_, _≤_, _<_}
-use mathlib.Core.Path.{_≡_, refl, sym, _∙_}
+use mathlib.Core.Path.{refl}
 use native.Mathlib.Omega.{arith}
 use borrow.Author.Needs.{needs}
 use borrow.Author.Tests.{not-true}
 use Rattle.timed_sets.specs.FoundLaws.{found-from-one}
 use Rattle.timed_sets.specs.ReachedLaws.{nothing-before}
 use Rattle.timed_sets.specs.SetTheorem.{start-stands, found-is-least}
-use borrow.Author.Needs.{needs}
 use Rattle.timed_sets.proofs.least_in_time.Statement.{statement}
 use Rattle.timed_sets.proofs.least_in_time.Tie as tie
-use Rattle.timed_sets.proofs.least_in_time.Reads as reads
-use Rattle.timed_sets.proofs.least_in_time.Lts as lts
-use Rattle.timed_sets.proofs.bounds.bound_comes_first.Reads as bound-comes-first-reads
-use Rattle.timed_sets.proofs.given.worth_along.Reads as worth-along-reads
-use Rattle.timed_sets.proofs.least.least_by_search.Reads as least-by-search-reads
-use Rattle.timed_sets.proofs.prices.free.Reads as free-reads
-use Rattle.timed_sets.proofs.relaxation.lagrangian_of.Reads as lagrangian-of-reads
 
--- src/lib.rt:92:41
 mul-worth-along : tie.Need-mul-worth-along
 mul-worth-along c =
     let pre = c .before .before .before .before .pre in omega (arith, pre .1 .0 .small .keys-for-all, pre .1 .1)
 
--- src/lib.rt:92:41
 shared-slice-read-worth-along : tie.Need-shared-slice-read-worth-along
 shared-slice-read-worth-along c =
     let pre = c .before .before .before .before .before .pre in omega (arith, pre .1 .0 .small .keys-for-all, pre .1 .1)
 
--- src/lib.rt:92:9
 worth-along-requires : tie.Need-worth-along-requires
 worth-along-requires c κs =
     let pre = c .before .before .before .before .before .pre in (pre .0, start-stands _ _ _ _ (pre .1 .1))
 
--- src/lib.rt:93:9
 bound-comes-first-requires : tie.Need-bound-comes-first-requires
 bound-comes-first-requires c κs =
     let pre = c .before .before .before .before .before .before .pre in
     let its = start-stands (c .before .before .before .before .before .before .args .timed) _ _ _ (pre .1 .1) in (_, _, its .0, its .1, pre .1 .0, its .2)
 
--- src/lib.rt:96:43
 free-requires : tie.Need-free-requires
 free-requires c κs = search needs
 
--- src/lib.rt:96:22
 lagrangian-of-requires : tie.Need-lagrangian-of-requires
 lagrangian-of-requires c κs =
     (c .before .before .before .before .before .before .before .before .before .pre .0, c .free .ensures (c .before .before .before .before .before .before .before .before .before .args .timed) _)
 
--- src/lib.rt:94:9
 returns : tie.Need-returns
 returns c =
     let pre = c .before .before .before .before .before .before .before .before .before .before .pre in
@@ -60,12 +44,10 @@ returns c =
       c .lagrangian-of .ensures,
     )
 
--- src/lib.rt:99:5
 least-by-search-requires : tie.Need-least-by-search-requires
 least-by-search-requires c κs =
     let pre = c .before .before .before .before .before .before .before .before .pre in (pre .0, (pre .1 .0, (start-stands _ _ _ _ (pre .1 .1), c .before .before .worth-along .ensures .1)))
 
--- src/lib.rt:70:1
 returns-2 : tie.Need-returns-2
 returns-2 c =
     let found = c .least-by-search .ensures in

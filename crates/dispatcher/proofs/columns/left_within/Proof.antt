@@ -1,13 +1,12 @@
 -- `left_within` has found no task with too many ticks left among those that it has passed.
-use Prim.Native.Nat.{ℕ, _-_, _≤_}
-use mathlib.Core.Bool.{Bool, true}
-use mathlib.Core.Path.{_≡_, refl, sym, _∙_}
+use Prim.Native.Nat.{_-_, _≤_}
+use mathlib.Core.Bool.{true}
+use mathlib.Core.Path.{_≡_, refl, sym}
 use native.Mathlib.Omega.{arith}
 use borrow.Author.Needs.{needs}
 use borrow.Author.Tests.{le-leb, lt-leb}
 use lib.Dec.{leb}
 use lib.ListN.{getD}
-use mathlib.Core.List.{List}
 use Rattle.laws.specs.Search.{every}
 use Rattle.ranges.specs.Limits.{mostTasks}
 use Rattle.dispatcher.specs.TestLaws.{every-next, one-fails}

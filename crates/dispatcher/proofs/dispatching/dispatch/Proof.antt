@@ -1,4 +1,4 @@
-use mathlib.Core.Path.{_≡_, refl, sym, _∙_}
+use mathlib.Core.Path.{refl, sym, _∙_}
 use borrow.Author.Needs.{needs}
 use Rattle.dispatcher.specs.EndingLaws.{dispatch-is-promised}
 use Rattle.dispatcher.specs.PreparedLaws.{call-is-preparing-and-tick}

@@ -1,5 +1,4 @@
 use mathlib.Core.Logic.{inl, inr}
-use native.Mathlib.Omega.{arith}
 use borrow.Author.Needs.{needs}
 use Rattle.dispatcher.specs.Ticks.{Earlier}
 use Rattle.dispatcher.proofs.ticks.earlier.Statement.{statement}

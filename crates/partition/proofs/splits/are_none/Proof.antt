@@ -1,15 +1,13 @@
-use Prim.Native.Nat.{ℕ, zero, suc, _+_, _-_, _*_, _≤_, _<_}
-use mathlib.Core.Path.{_≡_, refl, sym, _∙_}
+use Prim.Native.Nat.{ℕ, _+_, _-_, _≤_, _<_}
+use mathlib.Core.Path.{refl}
 use native.Mathlib.Omega.{arith}
 use borrow.Author.Needs.{needs}
-use lib.ListN.{length, getD}
+use lib.ListN.{getD}
 use Rattle.laws.specs.Below.{below-suc}
 use Rattle.laws.specs.Truth.{false-not-true}
 use Rattle.assignment.specs.Words.{noCost}
 use Rattle.partition.proofs.splits.are_none.Statement.{statement}
 use Rattle.partition.proofs.splits.are_none.Tie as tie
-use Rattle.partition.proofs.splits.are_none.Reads as reads
-use Rattle.partition.proofs.splits.are_none.Lts as lts
 
 abbrev Inv-loop : tie.InvT-loop
 Inv-loop from size table x₀ x = (x ≤ size) × ((y : ℕ) → y < x → noCost ≤ getD table (from + y) 0)
@@ -17,42 +15,33 @@ Inv-loop from size table x₀ x = (x ≤ size) × ((y : ℕ) → y < x → noCos
 abbrev μ-loop : tie.MeasureT-loop
 μ-loop from size table x₀ x = size - x
 
--- src/splits.rt:149:5
 loop-holds : tie.Need-loop-holds Inv-loop μ-loop
 loop-holds c =
     (omega arith, λ y h. absurd (omega arith))
 
--- src/splits.rt:150:18
 add-if1 : tie.Need-add-if1 Inv-loop μ-loop
 add-if1 c = search needs
 
--- src/splits.rt:150:12
 mul-if1 : tie.Need-mul-if1 Inv-loop μ-loop
 mul-if1 c = search needs
 
--- src/splits.rt:150:12
 shared-slice-read-if1 : tie.Need-shared-slice-read-if1 Inv-loop μ-loop
 shared-slice-read-if1 c = search needs
 
--- src/splits.rt:151:13
 returns : tie.Need-returns Inv-loop μ-loop
 returns c =
     λ e. absurd (false-not-true refl e)
 
--- src/splits.rt:153:9
 add-x : tie.Need-add-x Inv-loop μ-loop
 add-x c = search needs
 
--- src/splits.rt:149:5
 loop-less : tie.Need-loop-less Inv-loop μ-loop
 loop-less c = search needs
 
--- src/splits.rt:149:5
 loop-again : tie.Need-loop-again Inv-loop μ-loop
 loop-again c =
     (omega (arith, c .before .before .loop-test .taken), λ y h. below-suc (λ y. noCost ≤ getD (c .before .before .before .before .args .table .now) (c .before .before .before .before .args .from + y) 0) _ (c .before .before .before .loop .inv .1) (omega (arith, c .if1 .left)) y (omega arith))
 
--- src/splits.rt:144:1
 returns-2 : tie.Need-returns-2 Inv-loop μ-loop
 returns-2 c =
     λ e y h. c .before .loop .inv .1 y (omega (arith, c .before .loop .inv .0, c .loop-test .left))

@@ -1,5 +1,4 @@
 -- The columns are fit for the test of the demand, and their demand is the core's.
-use Prim.Native.Nat.{_-_}
 use mathlib.Core.Path.{sym}
 use borrow.Author.Needs.{needs}
 use Rattle.instance.specs.Held.{held-span}

@@ -1,5 +1,5 @@
 use Prim.Native.Nat.{_*_, _≤_}
-use mathlib.Core.Path.{_≡_, refl, sym, _∙_}
+use mathlib.Core.Path.{refl}
 use native.Mathlib.Omega.{arith}
 use borrow.Author.Needs.{needs}
 use native.Mathlib.Nat.{mul-le-mul}
@@ -7,21 +7,15 @@ use Rattle.instance.specs.Held.{problemIn, held-span}
 use Rattle.ranges.specs.Limits.{mostIdlePower, mostWeight}
 use Rattle.planner.specs.HeldOptions.{held-span-at-most, energy-weight-at-most, idle-power-at-most}
 use Rattle.planner.specs.OptionsOf.{idleCost}
-use borrow.Author.Needs.{needs}
 use Rattle.planner.proofs.best.idle_span_cost.Statement.{statement}
 use Rattle.planner.proofs.best.idle_span_cost.Tie as tie
-use Rattle.planner.proofs.best.idle_span_cost.Reads as reads
-use Rattle.planner.proofs.best.idle_span_cost.Lts as lts
 
--- src/best.rt:160:5
 cast-result : tie.Need-cast-result
 cast-result c = search needs
 
--- src/best.rt:160:34
 cast-result-2 : tie.Need-cast-result-2
 cast-result-2 c = search needs
 
--- src/best.rt:160:5
 -- what an idle tick costs
 tick-at-most : (c : tie.Start) → c .args .inst .weights .energy * c .args .inst .idle ≤ mostWeight * mostIdlePower
 tick-at-most c = mul-le-mul (energy-weight-at-most _ (c .pre)) (idle-power-at-most _ (c .pre))
@@ -30,16 +24,13 @@ mul-result : tie.Need-mul-result
 mul-result c =
     omega (arith, tick-at-most (c .before .before))
 
--- src/best.rt:160:53
 cast-result-3 : tie.Need-cast-result-3
 cast-result-3 c = search needs
 
--- src/best.rt:160:5
 mul-result-2 : tie.Need-mul-result-2
 mul-result-2 c =
     omega (arith, mul-le-mul (tick-at-most (c .before .before .before)) (held-span-at-most _ (c .before .before .before .pre)))
 
--- src/best.rt:156:1
 returns : tie.Need-returns
 unfolding idleCost problemIn
 returns c = rw (held-span _ (c .before .before .before .pre)) refl

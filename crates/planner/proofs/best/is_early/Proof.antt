@@ -1,15 +1,12 @@
-use Prim.Native.Nat.{ℕ, zero, suc, _+_, _-_, _*_, _≤_, _<_}
-use mathlib.Core.Path.{_≡_, refl, sym, _∙_}
+use Prim.Native.Nat.{_-_, _≤_}
+use mathlib.Core.Path.{refl}
 use native.Mathlib.Omega.{arith}
 use borrow.Author.Needs.{needs}
-use lib.ListN.{length, getD}
 use Rattle.instance.specs.Held.{problemIn, held-task, held-taskcount}
 use Rattle.planner.specs.EarlyLaws.{NoneEarly, none-so-far, one-more, all-at-period-end}
 use Rattle.laws.specs.Truth.{false-not-true}
 use Rattle.planner.proofs.best.is_early.Statement.{statement}
 use Rattle.planner.proofs.best.is_early.Tie as tie
-use Rattle.planner.proofs.best.is_early.Reads as reads
-use Rattle.planner.proofs.best.is_early.Lts as lts
 
 abbrev Inv-loop : tie.InvT-loop
 Inv-loop inst i₀ i = (i ≤ inst .taskcount) × NoneEarly (problemIn inst) i
@@ -17,34 +14,27 @@ Inv-loop inst i₀ i = (i ≤ inst .taskcount) × NoneEarly (problemIn inst) i
 abbrev μ-loop : tie.MeasureT-loop
 μ-loop inst i₀ i = inst .taskcount - i
 
--- src/best.rt:141:5
 loop-holds : tie.Need-loop-holds Inv-loop μ-loop
 loop-holds c = (omega arith, none-so-far _)
 
--- src/best.rt:142:20
 mul-task : tie.Need-mul-task Inv-loop μ-loop
 mul-task c =
     let sound = c .before .before .pre in omega (arith, held-taskcount _ sound, c .loop-test .taken, sound .valid .task-count)
 
--- src/best.rt:142:20
 element-copy-out-task : tie.Need-element-copy-out-task Inv-loop μ-loop
 element-copy-out-task c =
     let sound = c .before .before .pre in omega (arith, held-taskcount _ sound, c .loop-test .taken, sound .valid .task-count)
 
--- src/best.rt:144:13
 returns : tie.Need-returns Inv-loop μ-loop
 returns c =
     λ e. absurd (false-not-true e refl)
 
--- src/best.rt:146:9
 add-i : tie.Need-add-i Inv-loop μ-loop
 add-i c = search needs
 
--- src/best.rt:141:5
 loop-less : tie.Need-loop-less Inv-loop μ-loop
 loop-less c = search needs
 
--- src/best.rt:141:5
 loop-again : tie.Need-loop-again Inv-loop μ-loop
 loop-again c =
     let start = c .before .before .before .before .before in
@@ -55,7 +45,6 @@ loop-again c =
       one-more (sound .valid) (omega (arith, held-taskcount _ sound, c .before .before .before .loop-test .taken)) (rw (← task) (omega (arith, c .if1 .left))) (at .inv .1),
     )
 
--- src/best.rt:136:1
 returns-2 : tie.Need-returns-2 Inv-loop μ-loop
 returns-2 c =
     let sound = c .before .before .pre in

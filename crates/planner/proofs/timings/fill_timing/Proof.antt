@@ -1,8 +1,6 @@
-use Prim.Native.Nat.{ℕ, zero, suc, _+_, _-_, _*_, _≤_, _<_}
-use mathlib.Core.Path.{_≡_, refl, sym, _∙_}
+use Prim.Native.Nat.{_+_, _-_, _*_, _≤_, _<_}
+use mathlib.Core.Path.{_≡_}
 use native.Mathlib.Omega.{arith}
-use borrow.Author.Needs.{needs}
-use lib.ListN.{length, getD}
 use native.Mathlib.Nat.{add-zero}
 use Rattle.instance.specs.Held.{problemIn, held-levelcount}
 use Rattle.instance.specs.Node.{levelCount}
@@ -10,9 +8,6 @@ use Rattle.timed_sets.specs.TimedCores.{timingWidth}
 use Rattle.planner.specs.TimedOptions.{TimingsOffered, word-offered, timing-offered}
 use Rattle.planner.proofs.timings.fill_timing.Statement.{statement}
 use Rattle.planner.proofs.timings.fill_timing.Tie as tie
-use Rattle.planner.proofs.timings.fill_timing.Reads as reads
-use Rattle.planner.proofs.timings.fill_timing.Lts as lts
-use Rattle.planner.proofs.timings.timing_word.Reads as timing-word-reads
 
 abbrev Inv-loop : tie.InvT-loop
 Inv-loop inst task i timings₀ words w₀ timings w = (w ≤ words) × TimingsOffered (problemIn inst) (i * timingWidth + w) timings
@@ -20,17 +15,14 @@ Inv-loop inst task i timings₀ words w₀ timings w = (w ≤ words) × TimingsO
 abbrev μ-loop : tie.MeasureT-loop
 μ-loop inst task i timings₀ words w₀ timings w = words - w
 
--- src/timings.rt:41:17
 add-words : tie.Need-add-words Inv-loop μ-loop
 add-words c =
     let sound = c .before .pre .0 in omega (arith, held-levelcount _ sound, sound .valid .level-count .at-most)
 
--- src/timings.rt:43:5
 loop-holds : tie.Need-loop-holds Inv-loop μ-loop
 loop-holds c =
     (omega arith, rw add-zero (c .before .pre .1 .1 .1))
 
--- src/timings.rt:44:41
 timing-word-requires : tie.Need-timing-word-requires Inv-loop μ-loop
 timing-word-requires c κs =
     let start = c .before .before .before in (
@@ -41,37 +33,30 @@ timing-word-requires c κs =
       ),
     )
 
--- src/timings.rt:44:17
 mul-timings : tie.Need-mul-timings Inv-loop μ-loop
 mul-timings c =
     let start = c .before .before .before .before in let sound = start .pre .0 in omega (arith, c .before .loop-test .taken, held-levelcount _ sound, sound .valid .level-count .at-most, start .pre .1 .0, sound .valid .task-count)
 
--- src/timings.rt:44:17
 add-timings : tie.Need-add-timings Inv-loop μ-loop
 add-timings c =
     let start = c .before .before .before .before in let sound = start .pre .0 in omega (arith, c .before .loop-test .taken, held-levelcount _ sound, sound .valid .level-count .at-most, start .pre .1 .0, sound .valid .task-count)
 
--- src/timings.rt:44:9
 mul-timings-2 : tie.Need-mul-timings-2 Inv-loop μ-loop
 mul-timings-2 c =
     let start = c .before .before .before .before in let sound = start .pre .0 in omega (arith, c .before .loop-test .taken, held-levelcount _ sound, sound .valid .level-count .at-most, start .pre .1 .0, sound .valid .task-count)
 
--- src/timings.rt:44:9
 element-write-timings : tie.Need-element-write-timings Inv-loop μ-loop
 element-write-timings c =
     let start = c .before .before .before .before in let sound = start .pre .0 in omega (arith, c .before .loop-test .taken, held-levelcount _ sound, sound .valid .level-count .at-most, start .pre .1 .0, sound .valid .task-count)
 
--- src/timings.rt:45:9
 add-w : tie.Need-add-w Inv-loop μ-loop
 add-w c =
     let start = c .before .before .before .before in let sound = start .pre .0 in omega (arith, c .before .loop-test .taken, held-levelcount _ sound, sound .valid .level-count .at-most, start .pre .1 .0, sound .valid .task-count)
 
--- src/timings.rt:43:5
 loop-less : tie.Need-loop-less Inv-loop μ-loop
 loop-less c =
     omega (arith, c .before .loop-test .taken)
 
--- src/timings.rt:43:5
 loop-again : tie.Need-loop-again Inv-loop μ-loop
 loop-again c =
     let start = c .before .before .before .before in
@@ -82,7 +67,6 @@ loop-again c =
           (rw (← start .pre .1 .1 .0) (c .timing-word .ensures)),
     )
 
--- src/timings.rt:34:1
 returns : tie.Need-returns Inv-loop μ-loop
 returns c =
     let start = c .before .before .before in

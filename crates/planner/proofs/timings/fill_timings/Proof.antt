@@ -1,17 +1,12 @@
-use Prim.Native.Nat.{ℕ, zero, suc, _+_, _-_, _*_, _≤_, _<_}
-use mathlib.Core.Path.{_≡_, refl, sym, _∙_}
+use Prim.Native.Nat.{_-_, _*_, _≤_, _<_}
+use mathlib.Core.Path.{_≡_}
 use native.Mathlib.Omega.{arith}
-use borrow.Author.Needs.{needs}
-use lib.ListN.{length, getD}
 use Rattle.instance.specs.Held.{problemIn, held-task, held-taskcount}
 use Rattle.instance.specs.Node.{taskCount}
 use Rattle.timed_sets.specs.TimedCores.{timingWidth}
 use Rattle.planner.specs.TimedOptions.{TimingsOffered, next-place}
 use Rattle.planner.proofs.timings.fill_timings.Statement.{statement}
 use Rattle.planner.proofs.timings.fill_timings.Tie as tie
-use Rattle.planner.proofs.timings.fill_timings.Reads as reads
-use Rattle.planner.proofs.timings.fill_timings.Lts as lts
-use Rattle.planner.proofs.timings.fill_timing.Reads as fill-timing-reads
 
 abbrev Inv-loop : tie.InvT-loop
 Inv-loop timings₀ inst i₀ timings i = (i ≤ inst .taskcount) × TimingsOffered (problemIn inst) (i * timingWidth) timings
@@ -19,44 +14,36 @@ Inv-loop timings₀ inst i₀ timings i = (i ≤ inst .taskcount) × TimingsOffe
 abbrev μ-loop : tie.MeasureT-loop
 μ-loop timings₀ inst i₀ timings i = inst .taskcount - i
 
--- src/timings.rt:56:5
 loop-holds : tie.Need-loop-holds Inv-loop μ-loop
 loop-holds c =
     (omega arith, c .pre .1)
 
--- src/timings.rt:57:20
 mul-task : tie.Need-mul-task Inv-loop μ-loop
 mul-task c =
     let sound = c .before .before .pre .0 in omega (arith, held-taskcount _ sound, c .loop-test .taken, sound .valid .task-count)
 
--- src/timings.rt:57:20
 element-copy-out-task : tie.Need-element-copy-out-task Inv-loop μ-loop
 element-copy-out-task c =
     let sound = c .before .before .pre .0 in omega (arith, held-taskcount _ sound, c .loop-test .taken, sound .valid .task-count)
 
--- src/timings.rt:58:9
 fill-timing-requires : tie.Need-fill-timing-requires Inv-loop μ-loop
 fill-timing-requires c κs =
     let sound = c .before .before .before .before .pre .0 in
     let below : c .before .before .before .loop .i < taskCount (problemIn (c .before .before .before .before .args .t1)) = omega (arith, held-taskcount _ sound, c .before .before .loop-test .taken) in
     (sound, (below, (held-task _ sound _ below, c .before .before .before .loop .inv .1)))
 
--- src/timings.rt:59:9
 add-i : tie.Need-add-i Inv-loop μ-loop
 add-i c =
     let sound = c .before .before .before .before .before .pre .0 in omega (arith, held-taskcount _ sound, c .before .before .before .loop-test .taken, sound .valid .task-count)
 
--- src/timings.rt:56:5
 loop-less : tie.Need-loop-less Inv-loop μ-loop
 loop-less c =
     omega (arith, c .before .before .before .loop-test .taken)
 
--- src/timings.rt:56:5
 loop-again : tie.Need-loop-again Inv-loop μ-loop
 loop-again c =
     (omega (arith, c .before .before .before .loop-test .taken), rw (next-place (c .before .before .before .before .loop .i)) (c .fill-timing .ensures))
 
--- src/timings.rt:50:1
 returns : tie.Need-returns Inv-loop μ-loop
 returns c =
     let sound = c .before .before .pre .0 in

@@ -1,55 +1,39 @@
-use Prim.Native.Nat.{ℕ, zero, suc, _+_, _-_, _*_, _≤_, _<_}
-use mathlib.Core.Path.{_≡_, refl, sym, _∙_}
+use mathlib.Core.Path.{refl, _∙_}
 use native.Mathlib.Omega.{arith}
 use borrow.Author.Needs.{needs}
-use lib.ListN.{length, getD}
-use Rattle.instance.specs.Held.{held-level}
 use Rattle.plan_rules.specs.HeldQuantities.{start-ticks-at-most}
-use Rattle.planner.specs.TimedOptions.{wordOf, word-0, word-1, word-of-level}
-use borrow.Author.Needs.{needs}
+use Rattle.planner.specs.TimedOptions.{word-0, word-1, word-of-level}
 use Rattle.planner.proofs.timings.timing_word.Statement.{statement}
 use Rattle.planner.proofs.timings.timing_word.Tie as tie
-use Rattle.planner.proofs.timings.timing_word.Reads as reads
-use Rattle.planner.proofs.timings.timing_word.Lts as lts
-use Rattle.plan_rules.proofs.ticks_of.Reads as ticks-of-reads
-use Rattle.plan_rules.proofs.window_of.Reads as window-of-reads
 
--- src/timings.rt:24:9
 returns : tie.Need-returns
 returns c =
     word-0 _ _ (c .if1 .taken)
 
--- src/timings.rt:27:9
 window-of-requires : tie.Need-window-of-requires
 window-of-requires c κs = search needs
 
--- src/timings.rt:27:9
 returns-2 : tie.Need-returns-2
 returns-2 c =
     c .window-of .ensures ∙ word-1 _ _ (c .before .if2 .taken)
 
--- src/timings.rt:29:29
 sub-level : tie.Need-sub-level
 sub-level c =
     omega (arith, c .before .if1 .left, c .if2 .left)
 
--- src/timings.rt:29:17
 mul-level : tie.Need-mul-level
 mul-level c =
     let sound = c .before .before .pre .0 in omega (arith, c .before .before .pre .1 .1, sound .valid .level-count .at-most)
 
--- src/timings.rt:29:17
 element-copy-out-level : tie.Need-element-copy-out-level
 element-copy-out-level c =
     let sound = c .before .before .pre .0 in omega (arith, c .before .before .pre .1 .1, sound .valid .level-count .at-most)
 
--- src/timings.rt:30:5
 ticks-of-requires : tie.Need-ticks-of-requires
 ticks-of-requires c κs =
     let start = c .before .before .before in
     (start-ticks-at-most _ (start .pre .0), start .pre .1 .0)
 
--- src/timings.rt:18:1
 returns-3 : tie.Need-returns-3
 returns-3 c =
     let start = c .before .before .before .before in

@@ -1,6 +1,5 @@
 -- `drop_entry` stores no cost only where `is_servable` says no.
 use borrow.Author.Needs.{needs}
-use borrow.Author.Needs.{needs}
 use Rattle.raising.specs.DroppedLaws.{none-dropped, one-dropped}
 use Rattle.raising.proofs.lifting.drop_entry.Statement.{statement}
 use Rattle.raising.proofs.lifting.drop_entry.Tie as tie

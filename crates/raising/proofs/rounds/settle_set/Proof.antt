@@ -1,64 +1,47 @@
-use Prim.Native.Nat.{ℕ, zero, suc, _+_, _-_, _*_, _≤_, _<_}
-use mathlib.Core.Path.{_≡_, refl, sym, _∙_}
+use mathlib.Core.Path.{refl}
 use native.Mathlib.Omega.{arith}
 use borrow.Author.Needs.{needs}
 use Rattle.raising.specs.LiftedLaws.{ready-to-lift, site-lifted}
 use Rattle.raising.specs.SiteLaws.{entry-settled, lower-for-sets}
-use borrow.Author.Needs.{needs}
 use Rattle.raising.proofs.rounds.settle_set.Statement.{statement}
 use Rattle.raising.proofs.rounds.settle_set.Tie as tie
-use Rattle.raising.proofs.rounds.settle_set.Reads as reads
-use Rattle.raising.proofs.rounds.settle_set.Lts as lts
-use Rattle.raising.proofs.lifting.lift_all.Reads as lift-all-reads
-use Rattle.raising.proofs.rounds.raise_entry.Reads as raise-entry-reads
 
--- src/rounds.rt:96:9
 raise-entry-requires : tie.Need-raise-entry-requires
 raise-entry-requires c κs =
     let pre = c .before .before .before .before .before .before .before .pre in (pre .0, (lower-for-sets (pre .0) (pre .1 .0), pre .1 .1))
 
--- src/rounds.rt:97:5
 slice-write-exact : tie.Need-slice-write-exact
 slice-write-exact c =
     let pre = c .before .before .before .before .before .before .before .before .before .before .before .before .pre in omega (arith, pre .1 .0 .flags-for-all, pre .1 .1)
 
--- src/rounds.rt:99:9
 same-length : tie.Need-same-length
 same-length c = search needs
 
--- src/rounds.rt:99:9
 same-length-2 : tie.Need-same-length-2
 same-length-2 c = search needs
 
--- src/rounds.rt:99:9
 same-length-3 : tie.Need-same-length-3
 same-length-3 c = search needs
 
--- src/rounds.rt:99:9
 returns : tie.Need-returns
 returns c =
     let pre = c .before .before .before .before .before .before .before .before .before .before .before .before .before .before .pre in entry-settled (pre .0) (pre .1 .0) (pre .1 .1) (c .before .before .before .before .before .before .raise-entry .ensures .0)
 
--- src/rounds.rt:101:5
 lift-all-requires : tie.Need-lift-all-requires
 lift-all-requires c κs =
     let pre = c .before .before .before .before .before .before .before .before .before .before .before .before .before .before .before .before .pre in
     let raised = c .before .before .before .before .before .before .before .before .raise-entry .ensures in
     ready-to-lift (pre .0) (raised .1) (entry-settled (pre .0) (pre .1 .0) (pre .1 .1) (raised .0) .table)
 
--- src/rounds.rt:81:1
 same-length-4 : tie.Need-same-length-4
 same-length-4 c = search needs
 
--- src/rounds.rt:81:1
 same-length-5 : tie.Need-same-length-5
 same-length-5 c = search needs
 
--- src/rounds.rt:81:1
 same-length-6 : tie.Need-same-length-6
 same-length-6 c = search needs
 
--- src/rounds.rt:81:1
 returns-2 : tie.Need-returns-2
 returns-2 c =
     let pre = c .before .before .before .before .before .before .before .before .before .before .before .before .before .before .before .before .before .before .before .before .before .pre in

@@ -1,6 +1,5 @@
 -- `runs_on` asks whose levels the choice is among.
 use mathlib.Core.Path.{sym}
-use native.Mathlib.Omega.{arith}
 use borrow.Author.Needs.{needs}
 use Rattle.raising.specs.CoreSets.{runs-refused, runs-here, runs-elsewhere}
 use Rattle.raising.proofs.sets.runs_on.Statement.{statement}

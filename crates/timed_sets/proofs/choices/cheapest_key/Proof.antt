@@ -1,17 +1,13 @@
-use Prim.Native.Nat.{ℕ, zero, suc, _+_, _-_, _*_, _≤_, _<_}
-use mathlib.Core.Path.{_≡_, refl, sym, _∙_}
+use Prim.Native.Nat.{_-_, _≤_, _<_}
+use mathlib.Core.Path.{_≡_}
 use native.Mathlib.Omega.{arith}
 use borrow.Author.Needs.{needs}
-use lib.ListN.{length, getD}
 use Prim.Native.Nat.{_^_}
 use Rattle.assignment.specs.Keys.{keyBase}
 use Rattle.timed_sets.specs.NodeLaws.{key-fits, key-grows}
 use Rattle.timed_sets.specs.PromisingLaws.{power-above-0}
 use Rattle.timed_sets.proofs.choices.cheapest_key.Statement.{statement}
 use Rattle.timed_sets.proofs.choices.cheapest_key.Tie as tie
-use Rattle.timed_sets.proofs.choices.cheapest_key.Reads as reads
-use Rattle.timed_sets.proofs.choices.cheapest_key.Lts as lts
-use Rattle.timed_sets.proofs.choices.choice_in_set.Reads as choice-in-set-reads
 
 abbrev Inv-loop : tie.InvT-loop
 Inv-loop timed set timings cost prices key₀ i₀ key i = (i ≤ timed .items) × (key < keyBase ^ i)

@@ -1,15 +1,12 @@
-use Prim.Native.Nat.{ℕ, zero, suc, _+_, _-_, _*_, _≤_, _<_}
-use mathlib.Core.Path.{_≡_, refl, sym, _∙_}
+use Prim.Native.Nat.{_-_, _≤_}
+use mathlib.Core.Path.{_≡_, refl, _∙_}
 use native.Mathlib.Omega.{arith}
 use borrow.Author.Needs.{needs}
-use lib.ListN.{length, getD}
+use lib.ListN.{length}
 use lib.ListN.{length-set}
 use Rattle.assignment.specs.Limits.{mostItems}
 use Rattle.timed_sets.proofs.choices.cheapest_ticks.Statement.{statement}
 use Rattle.timed_sets.proofs.choices.cheapest_ticks.Tie as tie
-use Rattle.timed_sets.proofs.choices.cheapest_ticks.Reads as reads
-use Rattle.timed_sets.proofs.choices.cheapest_ticks.Lts as lts
-use Rattle.timed_sets.proofs.choices.ticks_in_set.Reads as ticks-in-set-reads
 
 abbrev Inv-loop : tie.InvT-loop
 Inv-loop timed set timings cost prices ticks₀ i₀ ticks i = (i ≤ timed .items) × (length ticks ≡ mostItems)

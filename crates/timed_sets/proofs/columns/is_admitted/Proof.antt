@@ -1,6 +1,5 @@
 -- `is_admitted` tests the ticks of the node.
 use borrow.Author.Needs.{needs}
-use borrow.Author.Needs.{needs}
 use Rattle.timed_sets.specs.ColumnLaws.{unmet-tick-admits}
 use Rattle.timed_sets.proofs.columns.is_admitted.Statement.{statement}
 use Rattle.timed_sets.proofs.columns.is_admitted.Tie as tie

@@ -1,14 +1,11 @@
-use Prim.Native.Nat.{ℕ, zero, suc, _+_, _-_, _*_, _≤_, _<_}
-use mathlib.Core.Path.{_≡_, refl, sym, _∙_}
+use Prim.Native.Nat.{_-_, _≤_}
+use mathlib.Core.Path.{refl}
 use native.Mathlib.Omega.{arith}
 use borrow.Author.Needs.{needs}
-use lib.ListN.{length, getD}
 use Rattle.timed_sets.specs.Nodes.{WordColumn}
 use Rattle.timed_sets.specs.ColumnLaws.{no-word-yet, one-word-more}
 use Rattle.timed_sets.proofs.columns.word_column.Statement.{statement}
 use Rattle.timed_sets.proofs.columns.word_column.Tie as tie
-use Rattle.timed_sets.proofs.columns.word_column.Reads as reads
-use Rattle.timed_sets.proofs.columns.word_column.Lts as lts
 
 abbrev Inv-loop : tie.InvT-loop
 Inv-loop items word timings column₀ i₀ column i = (i ≤ items) × WordColumn items word timings i column
@@ -16,43 +13,33 @@ Inv-loop items word timings column₀ i₀ column i = (i ≤ items) × WordColum
 abbrev μ-loop : tie.MeasureT-loop
 μ-loop items word timings column₀ i₀ column i = items - i
 
--- src/columns.rt:25:5
 loop-holds : tie.Need-loop-holds Inv-loop μ-loop
 loop-holds c = (omega arith, no-word-yet)
 
--- src/columns.rt:26:29
 mul-column : tie.Need-mul-column Inv-loop μ-loop
 mul-column c = search needs
 
--- src/columns.rt:26:29
 add-column : tie.Need-add-column Inv-loop μ-loop
 add-column c = search needs
 
--- src/columns.rt:26:21
 mul-column-2 : tie.Need-mul-column-2 Inv-loop μ-loop
 mul-column-2 c = search needs
 
--- src/columns.rt:26:21
 shared-slice-read-column : tie.Need-shared-slice-read-column Inv-loop μ-loop
 shared-slice-read-column c = search needs
 
--- src/columns.rt:26:9
 mul-column-3 : tie.Need-mul-column-3 Inv-loop μ-loop
 mul-column-3 c = search needs
 
--- src/columns.rt:26:9
 array-write-column : tie.Need-array-write-column Inv-loop μ-loop
 array-write-column c = search needs
 
--- src/columns.rt:27:9
 add-i : tie.Need-add-i Inv-loop μ-loop
 add-i c = search needs
 
--- src/columns.rt:25:5
 loop-less : tie.Need-loop-less Inv-loop μ-loop
 loop-less c = search needs
 
--- src/columns.rt:25:5
 loop-again : tie.Need-loop-again Inv-loop μ-loop
 loop-again c =
     (omega (arith, c .before .loop-test .taken), one-word-more _ (c .before .before .loop .inv .1) (omega arith) refl)

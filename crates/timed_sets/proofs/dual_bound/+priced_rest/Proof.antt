@@ -1,12 +1,8 @@
-use Prim.Native.Nat.{ℕ, zero, suc, _+_, _-_, _*_, _≤_, _<_}
-use mathlib.Core.Path.{_≡_, refl, sym, _∙_}
+use Prim.Native.Nat.{ℕ, _-_, _<_}
 use native.Mathlib.Omega.{arith}
 use borrow.Author.Needs.{needs}
-use lib.ListN.{length, getD}
 use native.Mathlib.Nat.{le-trans, mul-le-mul-right}
-use Rattle.timed_sets.specs.Lagrangians.{mostPriced}
 use Rattle.timed_sets.specs.DualBoundLaws.{none-left, rest-of-passed, rest-of-taken, one-more-left}
-use Prim.Native.Nat.{ℕ, _<_}
 use borrow.Fn.Kinds.{In}
 use borrow.Fn.PlainCycle.{Measures, is, falls, and}
 use Rattle.timed_sets.proofs.dual_bound.priced_rest.Reads as priced-rest
@@ -27,7 +23,6 @@ abbrev priced-rest-below : ℕ → In 1 priced-rest-kinds.ps
 priced-rest-below t =
     and 1 priced-rest-kinds.ps (falls 1 priced-rest-kinds.ps _<_ μ-priced-rest t) priced-rest.Pre
 
--- src/dual_bound.rt:44:9
 priced-rest-returns : (t : ℕ) → priced-rest-lts.Need-returns (
   sets-of-reads.Asked,
   sets-of-reads.Learnt,
@@ -37,7 +32,6 @@ priced-rest-returns : (t : ℕ) → priced-rest-lts.Need-returns (
 priced-rest-returns t c =
     (none-left _ (c .if1 .taken), omega arith)
 
--- src/dual_bound.rt:46:24
 priced-rest-sub-sets-of : (t : ℕ) → priced-rest-lts.Need-sub-sets-of (
   sets-of-reads.Asked,
   sets-of-reads.Learnt,
@@ -46,7 +40,6 @@ priced-rest-sub-sets-of : (t : ℕ) → priced-rest-lts.Need-sub-sets-of (
 ) (priced-rest-at t) priced-rest.Post
 priced-rest-sub-sets-of t c = search needs
 
--- src/dual_bound.rt:46:24
 priced-rest-sub-sets-of-2 : (t : ℕ) → priced-rest-lts.Need-sub-sets-of-2 (
   sets-of-reads.Asked,
   sets-of-reads.Learnt,
@@ -55,7 +48,6 @@ priced-rest-sub-sets-of-2 : (t : ℕ) → priced-rest-lts.Need-sub-sets-of-2 (
 ) (priced-rest-at t) priced-rest.Post
 priced-rest-sub-sets-of-2 t c = search needs
 
--- src/dual_bound.rt:46:9
 priced-rest-sets-of-requires : (t : ℕ) → priced-rest-lts.Need-sets-of-requires (
   sets-of-reads.Asked,
   sets-of-reads.Learnt,
@@ -64,7 +56,6 @@ priced-rest-sets-of-requires : (t : ℕ) → priced-rest-lts.Need-sets-of-requir
 ) (priced-rest-at t) priced-rest.Post
 priced-rest-sets-of-requires t c κs = search needs
 
--- src/dual_bound.rt:48:35
 priced-rest-add-priced-rest : (t : ℕ) → priced-rest-lts.Need-add-priced-rest (
   sets-of-reads.Asked,
   sets-of-reads.Learnt,
@@ -73,7 +64,6 @@ priced-rest-add-priced-rest : (t : ℕ) → priced-rest-lts.Need-add-priced-rest
 ) (priced-rest-at t) priced-rest.Post
 priced-rest-add-priced-rest t c = search needs
 
--- src/dual_bound.rt:48:9
 priced-rest-priced-rest-requires : (t : ℕ) → priced-rest-lts.Need-priced-rest-requires (
   sets-of-reads.Asked,
   sets-of-reads.Learnt,
@@ -82,7 +72,6 @@ priced-rest-priced-rest-requires : (t : ℕ) → priced-rest-lts.Need-priced-res
 ) (priced-rest-at t) priced-rest.Post
 priced-rest-priced-rest-requires t c κs = search needs
 
--- src/dual_bound.rt:48:9
 priced-rest-returns-2 : (t : ℕ) → priced-rest-lts.Need-returns-2 (
   sets-of-reads.Asked,
   sets-of-reads.Learnt,
@@ -97,7 +86,6 @@ priced-rest-returns-2 t c =
       le-trans (later .1) (mul-le-mul-right _ (omega arith)),
     )
 
--- src/dual_bound.rt:50:36
 priced-rest-add-priced-rest-2 : (t : ℕ) → priced-rest-lts.Need-add-priced-rest-2 (
   sets-of-reads.Asked,
   sets-of-reads.Learnt,
@@ -106,7 +94,6 @@ priced-rest-add-priced-rest-2 : (t : ℕ) → priced-rest-lts.Need-add-priced-re
 ) (priced-rest-at t) priced-rest.Post
 priced-rest-add-priced-rest-2 t c = search needs
 
--- src/dual_bound.rt:50:9
 priced-rest-priced-rest-requires-2 : (t : ℕ) → priced-rest-lts.Need-priced-rest-requires-2 (
   sets-of-reads.Asked,
   sets-of-reads.Learnt,
@@ -115,7 +102,6 @@ priced-rest-priced-rest-requires-2 : (t : ℕ) → priced-rest-lts.Need-priced-r
 ) (priced-rest-at t) priced-rest.Post
 priced-rest-priced-rest-requires-2 t c κs = search needs
 
--- src/dual_bound.rt:51:5
 priced-rest-mul-result : (t : ℕ) → priced-rest-lts.Need-mul-result (
   sets-of-reads.Asked,
   sets-of-reads.Learnt,
@@ -124,7 +110,6 @@ priced-rest-mul-result : (t : ℕ) → priced-rest-lts.Need-mul-result (
 ) (priced-rest-at t) priced-rest.Post
 priced-rest-mul-result t c = search needs
 
--- src/dual_bound.rt:51:5
 priced-rest-shared-slice-read-result : (t : ℕ) → priced-rest-lts.Need-shared-slice-read-result (
   sets-of-reads.Asked,
   sets-of-reads.Learnt,
@@ -133,7 +118,6 @@ priced-rest-shared-slice-read-result : (t : ℕ) → priced-rest-lts.Need-shared
 ) (priced-rest-at t) priced-rest.Post
 priced-rest-shared-slice-read-result t c = search needs
 
--- src/dual_bound.rt:51:5
 priced-rest-add-result : (t : ℕ) → priced-rest-lts.Need-add-result (
   sets-of-reads.Asked,
   sets-of-reads.Learnt,
@@ -144,7 +128,6 @@ priced-rest-add-result t c =
     let low = c .before .before .before .before .before .before .pre .1 .1 (c .before .before .before .before .before .before .args .item) in
     omega (arith, low, c .before .priced-rest2 .ensures .1, c .before .before .before .before .before .before .pre .1 .0 .1)
 
--- src/dual_bound.rt:36:1
 priced-rest-returns-3 : (t : ℕ) → priced-rest-lts.Need-returns-3 (
   sets-of-reads.Asked,
   sets-of-reads.Learnt,

@@ -1,8 +1,8 @@
-use Prim.Native.Nat.{ℕ, zero, suc, _+_, _-_, _*_, _≤_, _<_}
-use mathlib.Core.Path.{_≡_, refl, sym, ap, ap₂, _∙_}
+use Prim.Native.Nat.{ℕ, _+_, _-_, _*_, _≤_}
+use mathlib.Core.Path.{_≡_, refl, ap, ap₂, _∙_}
 use native.Mathlib.Omega.{arith}
 use borrow.Author.Needs.{needs}
-use lib.ListN.{length, getD}
+use lib.ListN.{getD}
 use native.Mathlib.Numerals.{add-one}
 use Rattle.laws.specs.Sums.{sum as sumOf}
 use Rattle.ranges.specs.Limits.{mostPeriod}
@@ -10,8 +10,6 @@ use Rattle.timed_sets.specs.Lagrangians.{mostPrice}
 use Rattle.timed_sets.specs.DualBoundLaws.{product-low, one-more-bounded}
 use Rattle.timed_sets.proofs.dual_bound.priced_front.Statement.{statement}
 use Rattle.timed_sets.proofs.dual_bound.priced_front.Tie as tie
-use Rattle.timed_sets.proofs.dual_bound.priced_front.Reads as reads
-use Rattle.timed_sets.proofs.dual_bound.priced_front.Lts as lts
 
 abbrev Inv-loop : tie.InvT-loop
 Inv-loop items prices ticks sum₀ i₀ sum i =
@@ -29,58 +27,46 @@ its-low c =
     let i = c .before .before .before .loop .i in
     product-low (start .pre .1 .0 i) (start .pre .1 .1 i)
 
--- src/dual_bound.rt:28:5
 loop-holds : tie.Need-loop-holds Inv-loop μ-loop
 unfolding sumOf
 loop-holds c =
     (omega arith, refl, omega arith)
 
--- src/dual_bound.rt:29:16
 mul-sum : tie.Need-mul-sum Inv-loop μ-loop
 mul-sum c = search needs
 
--- src/dual_bound.rt:29:16
 shared-slice-read-sum : tie.Need-shared-slice-read-sum Inv-loop μ-loop
 shared-slice-read-sum c = search needs
 
--- src/dual_bound.rt:29:28
 mul-sum-2 : tie.Need-mul-sum-2 Inv-loop μ-loop
 mul-sum-2 c = search needs
 
--- src/dual_bound.rt:29:28
 shared-slice-read-sum-2 : tie.Need-shared-slice-read-sum-2 Inv-loop μ-loop
 shared-slice-read-sum-2 c = search needs
 
--- src/dual_bound.rt:29:28
 cast-sum : tie.Need-cast-sum Inv-loop μ-loop
 cast-sum c = omega (arith, c .shared-slice-known2 .given (c .before .before .before .loop .i))
 
--- src/dual_bound.rt:29:16
 mul-sum-3 : tie.Need-mul-sum-3 Inv-loop μ-loop
 mul-sum-3 c = omega (arith, its-low c)
 
--- src/dual_bound.rt:29:9
 add-sum : tie.Need-add-sum Inv-loop μ-loop
 add-sum c =
     let inv = c .before .before .before .loop .inv in
     omega (arith, its-low c, inv .2, inv .0, c .before .before .before .before .pre .0 .0)
 
--- src/dual_bound.rt:30:9
 add-i : tie.Need-add-i Inv-loop μ-loop
 add-i c = search needs
 
--- src/dual_bound.rt:28:5
 loop-less : tie.Need-loop-less Inv-loop μ-loop
 loop-less c = search needs
 
--- src/dual_bound.rt:28:5
 loop-again : tie.Need-loop-again Inv-loop μ-loop
 unfolding sumOf
 loop-again c =
     let inv = c .before .before .before .loop .inv in
     (search needs, rw add-one (ap₂ _+_ (inv .1) refl), one-more-bounded _ _ _ _ (inv .2) (its-low c))
 
--- src/dual_bound.rt:19:1
 returns : tie.Need-returns Inv-loop μ-loop
 returns c =
     let args = c .before .before .args in

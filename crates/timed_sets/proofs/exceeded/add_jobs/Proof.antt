@@ -1,14 +1,11 @@
-use Prim.Native.Nat.{ℕ, zero, suc, _+_, _-_, _*_, _≤_, _<_}
-use mathlib.Core.Path.{_≡_, refl, sym, _∙_}
+use Prim.Native.Nat.{_+_, _-_, _≤_}
+use mathlib.Core.Path.{_≡_, refl, _∙_}
 use native.Mathlib.Omega.{arith}
 use borrow.Author.Needs.{needs}
-use lib.ListN.{length, getD, length-set}
+use lib.ListN.{length, length-set}
 use Rattle.ranges.specs.Limits.{mostPeriod, mostSpan}
 use Rattle.timed_sets.proofs.exceeded.add_jobs.Statement.{statement}
 use Rattle.timed_sets.proofs.exceeded.add_jobs.Tie as tie
-use Rattle.timed_sets.proofs.exceeded.add_jobs.Reads as reads
-use Rattle.timed_sets.proofs.exceeded.add_jobs.Lts as lts
-use Rattle.timed_sets.proofs.exceeded.sum_cut_off.Reads as sum-cut-off-reads
 
 abbrev Inv-loop : tie.InvT-loop
 Inv-loop span period window ticks due₀ tick₀ due tick = (length due ≡ length due₀) × (tick ≤ mostSpan + mostPeriod)
@@ -16,62 +13,49 @@ Inv-loop span period window ticks due₀ tick₀ due tick = (length due ≡ leng
 abbrev μ-loop : tie.MeasureT-loop
 μ-loop span period window ticks due₀ tick₀ due tick = mostSpan + mostPeriod + 1 - tick
 
--- src/exceeded.rt:42:5
 loop-holds : tie.Need-loop-holds Inv-loop μ-loop
 loop-holds c =
     let pre = c .before .pre in (refl, omega (arith, pre .0 .2))
 
--- src/exceeded.rt:43:46
 cast-sum-cut-off : tie.Need-cast-sum-cut-off Inv-loop μ-loop
 cast-sum-cut-off c = search needs
 
--- src/exceeded.rt:43:42
 mul-sum-cut-off : tie.Need-mul-sum-cut-off Inv-loop μ-loop
 mul-sum-cut-off c = search needs
 
--- src/exceeded.rt:43:42
 slice-read-sum-cut-off : tie.Need-slice-read-sum-cut-off Inv-loop μ-loop
 slice-read-sum-cut-off c =
     let pre = c .before .before .before .before .pre in omega (arith, c .before .before .loop .inv .0, c .before .loop-test .taken, pre .1)
 
--- src/exceeded.rt:43:30
 sum-cut-off-requires : tie.Need-sum-cut-off-requires Inv-loop μ-loop
 sum-cut-off-requires c κs = search needs
 
--- src/exceeded.rt:43:13
 cast-due : tie.Need-cast-due Inv-loop μ-loop
 cast-due c = search needs
 
--- src/exceeded.rt:43:9
 mul-due : tie.Need-mul-due Inv-loop μ-loop
 mul-due c = search needs
 
--- src/exceeded.rt:43:9
 slice-write-due : tie.Need-slice-write-due Inv-loop μ-loop
 slice-write-due c =
     let pre = c .before .before .before .before .before .pre in omega (arith, c .before .before .before .loop .inv .0, c .before .before .loop-test .taken, pre .1)
 
--- src/exceeded.rt:44:9
 add-tick : tie.Need-add-tick Inv-loop μ-loop
 add-tick c =
     let pre = c .before .before .before .before .before .pre in omega (arith, c .before .before .before .loop .inv .1, pre .0 .1)
 
--- src/exceeded.rt:42:5
 loop-less : tie.Need-loop-less Inv-loop μ-loop
 loop-less c =
     let pre = c .before .before .before .before .before .pre in omega (arith, c .before .before .before .loop .inv .1, pre .0 .0, pre .0 .1, c .before .before .loop-test .taken, pre .0 .3)
 
--- src/exceeded.rt:42:5
 loop-again : tie.Need-loop-again Inv-loop μ-loop
 loop-again c =
     let pre = c .before .before .before .before .before .pre in (length-set (c .before .before .before .loop .due) (c .before .before .before .loop .tick) (c .sum-cut-off .result) ∙ c .before .before .before .loop .inv .0, omega (arith, pre .0 .1, pre .0 .3, c .before .before .loop-test .taken))
 
--- src/exceeded.rt:37:1
 same-length : tie.Need-same-length Inv-loop μ-loop
 same-length c =
     c .before .loop .inv .0
 
--- src/exceeded.rt:37:1
 returns : tie.Need-returns Inv-loop μ-loop
 returns c = search needs
 

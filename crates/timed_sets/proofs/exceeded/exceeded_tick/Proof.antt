@@ -1,17 +1,13 @@
-use Prim.Native.Nat.{ℕ, zero, suc, _+_, _-_, _*_, _≤_, _<_}
-use mathlib.Core.Path.{_≡_, refl, sym, _∙_}
+use Prim.Native.Nat.{_+_, _-_, _≤_}
+use mathlib.Core.Path.{_≡_, refl, _∙_}
 use native.Mathlib.Nat.{le-trans}
 use native.Mathlib.Omega.{arith}
 use borrow.Author.Needs.{needs}
-use lib.ListN.{length, getD}
+use lib.ListN.{length}
 use Rattle.ranges.specs.Limits.{mostSpan}
 use Rattle.timed_sets.specs.TimedCores.{timingAt}
 use Rattle.timed_sets.proofs.exceeded.exceeded_tick.Statement.{statement}
 use Rattle.timed_sets.proofs.exceeded.exceeded_tick.Tie as tie
-use Rattle.timed_sets.proofs.exceeded.exceeded_tick.Reads as reads
-use Rattle.timed_sets.proofs.exceeded.exceeded_tick.Lts as lts
-use Rattle.timed_sets.proofs.exceeded.add_jobs.Reads as add-jobs-reads
-use Rattle.timed_sets.proofs.exceeded.most_exceeded.Reads as most-exceeded-reads
 
 abbrev Inv-loop : tie.InvT-loop
 Inv-loop timed timings column due₀ i₀ due i = (i ≤ timed .items) × (length due ≡ mostSpan + 1)
@@ -19,61 +15,49 @@ Inv-loop timed timings column due₀ i₀ due i = (i ≤ timed .items) × (lengt
 abbrev μ-loop : tie.MeasureT-loop
 μ-loop timed timings column due₀ i₀ due i = timed .items - i
 
--- src/exceeded.rt:88:5
 loop-holds : tie.Need-loop-holds Inv-loop μ-loop
 loop-holds c =
     (omega arith, refl)
 
--- src/exceeded.rt:91:21
 mul-add-jobs : tie.Need-mul-add-jobs Inv-loop μ-loop
 mul-add-jobs c =
     let pre = c .before .before .before .before .pre in omega (arith, c .if1 .taken, pre .0 .few-items, pre .0 .timings-for-all, pre .1)
 
--- src/exceeded.rt:91:13
 mul-add-jobs-2 : tie.Need-mul-add-jobs-2 Inv-loop μ-loop
 mul-add-jobs-2 c =
     let pre = c .before .before .before .before .pre in omega (arith, c .if1 .taken, pre .0 .few-items, pre .0 .timings-for-all, pre .1)
 
--- src/exceeded.rt:91:13
 shared-slice-read-add-jobs : tie.Need-shared-slice-read-add-jobs Inv-loop μ-loop
 shared-slice-read-add-jobs c =
     let pre = c .before .before .before .before .before .pre in omega (arith, c .before .if1 .taken, pre .0 .few-items, pre .0 .timings-for-all, pre .1)
 
--- src/exceeded.rt:92:21
 mul-add-jobs-3 : tie.Need-mul-add-jobs-3 Inv-loop μ-loop
 mul-add-jobs-3 c =
     let pre = c .before .before .before .before .before .pre in omega (arith, c .before .if1 .taken, pre .0 .few-items, pre .0 .timings-for-all, pre .1)
 
--- src/exceeded.rt:92:21
 add-add-jobs : tie.Need-add-add-jobs Inv-loop μ-loop
 add-add-jobs c =
     let pre = c .before .before .before .before .before .pre in omega (arith, c .before .if1 .taken, pre .0 .few-items, pre .0 .timings-for-all, pre .1)
 
--- src/exceeded.rt:92:13
 mul-add-jobs-4 : tie.Need-mul-add-jobs-4 Inv-loop μ-loop
 mul-add-jobs-4 c =
     let pre = c .before .before .before .before .before .pre in omega (arith, c .before .if1 .taken, pre .0 .few-items, pre .0 .timings-for-all, pre .1)
 
--- src/exceeded.rt:92:13
 shared-slice-read-add-jobs-2 : tie.Need-shared-slice-read-add-jobs-2 Inv-loop μ-loop
 shared-slice-read-add-jobs-2 c =
     let pre = c .before .before .before .before .before .before .pre in omega (arith, c .before .before .if1 .taken, pre .0 .few-items, pre .0 .timings-for-all, pre .1)
 
--- src/exceeded.rt:93:13
 mul-add-jobs-5 : tie.Need-mul-add-jobs-5 Inv-loop μ-loop
 mul-add-jobs-5 c =
     let pre = c .before .before .before .before .before .before .pre in omega (arith, c .before .before .if1 .taken, pre .0 .few-items, pre .0 .timings-for-all, pre .1)
 
--- src/exceeded.rt:93:13
 array-read-add-jobs : tie.Need-array-read-add-jobs Inv-loop μ-loop
 array-read-add-jobs c =
     let pre = c .before .before .before .before .before .before .pre in omega (arith, c .before .before .if1 .taken, pre .0 .few-items, pre .0 .timings-for-all, pre .1)
 
--- src/exceeded.rt:94:13
 slice-aggregate-add-jobs : tie.Need-slice-aggregate-add-jobs Inv-loop μ-loop
 slice-aggregate-add-jobs c = search needs
 
--- src/exceeded.rt:89:9
 add-jobs-requires : tie.Need-add-jobs-requires Inv-loop μ-loop
 unfolding timingAt
 add-jobs-requires c κs =
@@ -84,31 +68,25 @@ add-jobs-requires c κs =
       omega (arith, pre .0 .span-at-most, c .before .before .before .before .before .loop .inv .1),
     )
 
--- src/exceeded.rt:96:9
 add-i : tie.Need-add-i Inv-loop μ-loop
 add-i c =
     let pre = c .before .before .before .before .before .before .before .before .before .pre in omega (arith, c .before .before .before .before .before .if1 .taken, pre .0 .few-items)
 
--- src/exceeded.rt:88:5
 loop-less : tie.Need-loop-less Inv-loop μ-loop
 loop-less c =
     omega (arith, c .before .before .before .before .before .if1 .taken)
 
--- src/exceeded.rt:88:5
 loop-again : tie.Need-loop-again Inv-loop μ-loop
 loop-again c =
     (omega (arith, c .before .before .before .before .before .if1 .taken), c .before .add-jobs .kept .1 .1 .1 .1 .0 ∙ c .before .before .before .before .before .before .before .loop .inv .1)
 
--- src/exceeded.rt:98:31
 slice-aggregate-most-exceeded : tie.Need-slice-aggregate-most-exceeded Inv-loop μ-loop
 slice-aggregate-most-exceeded c = search needs
 
--- src/exceeded.rt:98:5
 most-exceeded-requires : tie.Need-most-exceeded-requires Inv-loop μ-loop
 most-exceeded-requires c κs =
     let pre = c .before .before .before .before .before .pre in (pre .0 .span-at-most, omega (arith, pre .0 .span-at-most, c .before .before .before .loop .inv .1))
 
--- src/exceeded.rt:81:1
 returns : tie.Need-returns Inv-loop μ-loop
 returns c = search needs
 

@@ -1,41 +1,29 @@
-use Prim.Native.Nat.{ℕ, zero, suc, _+_, _-_, _*_, _≤_, _<_}
-use mathlib.Core.Path.{_≡_, refl, sym, _∙_}
 use native.Mathlib.Omega.{arith}
 use borrow.Author.Needs.{needs}
 use native.Mathlib.Nat.{mul-le-mul}
-use borrow.Author.Needs.{needs}
 use Rattle.timed_sets.proofs.exceeded.is_exceeded_more.Statement.{statement}
 use Rattle.timed_sets.proofs.exceeded.is_exceeded_more.Tie as tie
-use Rattle.timed_sets.proofs.exceeded.is_exceeded_more.Reads as reads
-use Rattle.timed_sets.proofs.exceeded.is_exceeded_more.Lts as lts
 
--- src/exceeded.rt:53:20
 cast-if1 : tie.Need-cast-if1
 cast-if1 c = search needs
 
--- src/exceeded.rt:54:9
 returns : tie.Need-returns
 returns c = search needs
 
--- src/exceeded.rt:56:17
 cast-result : tie.Need-cast-result
 cast-result c = search needs
 
--- src/exceeded.rt:56:5
 mul-result : tie.Need-mul-result
 mul-result c =
     let pre = c .before .before .before .before .before .pre in omega (arith, mul-le-mul (pre .1 .1) (pre .0 .0))
 
--- src/exceeded.rt:56:49
 cast-result-2 : tie.Need-cast-result-2
 cast-result-2 c = search needs
 
--- src/exceeded.rt:56:37
 mul-result-2 : tie.Need-mul-result-2
 mul-result-2 c =
     let pre = c .before .before .before .before .before .before .before .pre in omega (arith, mul-le-mul (pre .1 .0) (pre .0 .1))
 
--- src/exceeded.rt:49:1
 returns-2 : tie.Need-returns-2
 returns-2 c = search needs
 

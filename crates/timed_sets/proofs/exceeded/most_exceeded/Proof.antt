@@ -1,15 +1,10 @@
-use Prim.Native.Nat.{ℕ, zero, suc, _+_, _-_, _*_, _≤_, _<_}
-use mathlib.Core.Path.{_≡_, refl, sym, _∙_}
+use Prim.Native.Nat.{_+_, _-_, _≤_}
 use native.Mathlib.Omega.{arith}
 use borrow.Author.Needs.{needs}
 use Rattle.ranges.specs.Limits.{mostSpan}
 use Rattle.timed_sets.specs.Exceeded.{mostDue}
 use Rattle.timed_sets.proofs.exceeded.most_exceeded.Statement.{statement}
 use Rattle.timed_sets.proofs.exceeded.most_exceeded.Tie as tie
-use Rattle.timed_sets.proofs.exceeded.most_exceeded.Reads as reads
-use Rattle.timed_sets.proofs.exceeded.most_exceeded.Lts as lts
-use Rattle.timed_sets.proofs.exceeded.is_exceeded_more.Reads as is-exceeded-more-reads
-use Rattle.timed_sets.proofs.exceeded.sum_cut_off.Reads as sum-cut-off-reads
 
 abbrev Inv-loop : tie.InvT-loop
 Inv-loop span due most₀ found₀ sum₀ tick₀ most found sum tick =
@@ -18,58 +13,46 @@ Inv-loop span due most₀ found₀ sum₀ tick₀ most found sum tick =
 abbrev μ-loop : tie.MeasureT-loop
 μ-loop span due most₀ found₀ sum₀ tick₀ most found sum tick = span - tick
 
--- src/exceeded.rt:68:5
 loop-holds : tie.Need-loop-holds Inv-loop μ-loop
 loop-holds c =
     (omega arith, omega arith, omega arith, omega arith)
 
--- src/exceeded.rt:69:9
 add-tick : tie.Need-add-tick Inv-loop μ-loop
 add-tick c = search needs
 
--- src/exceeded.rt:70:36
 cast-sum-cut-off : tie.Need-cast-sum-cut-off Inv-loop μ-loop
 cast-sum-cut-off c = search needs
 
--- src/exceeded.rt:70:32
 mul-sum-cut-off : tie.Need-mul-sum-cut-off Inv-loop μ-loop
 mul-sum-cut-off c = search needs
 
--- src/exceeded.rt:70:32
 shared-slice-read-sum-cut-off : tie.Need-shared-slice-read-sum-cut-off Inv-loop μ-loop
 shared-slice-read-sum-cut-off c =
     let pre = c .before .before .before .before .pre in omega (arith, c .before .loop-test .taken, pre .1)
 
--- src/exceeded.rt:70:9
 sum-cut-off-requires : tie.Need-sum-cut-off-requires Inv-loop μ-loop
 sum-cut-off-requires c κs = search needs
 
--- src/exceeded.rt:72:12
 is-exceeded-more-requires : tie.Need-is-exceeded-more-requires Inv-loop μ-loop
 is-exceeded-more-requires c κs =
     let pre = c .before .before .before .before .before .pre in let inv = c .before .before .before .loop .inv in ((omega (arith, c .before .before .loop-test .taken, pre .0), inv .2), (c .sum-cut-off .ensures, inv .3))
 
--- src/exceeded.rt:68:5
 loop-less : tie.Need-loop-less Inv-loop μ-loop
 loop-less c =
     omega (arith, c .before .before .before .before .loop-test .taken)
 
--- src/exceeded.rt:68:5
 loop-again : tie.Need-loop-again Inv-loop μ-loop
 loop-again c =
     let pre = c .before .before .before .before .before .before .before .pre in (omega (arith, c .before .before .before .before .loop-test .taken), omega (arith, c .before .before .before .before .loop-test .taken), omega (arith, c .before .before .before .before .loop-test .taken, pre .0), c .before .before .sum-cut-off .ensures)
 
--- src/exceeded.rt:68:5
 loop-less-2 : tie.Need-loop-less-2 Inv-loop μ-loop
 loop-less-2 c =
     omega (arith, c .before .before .before .before .loop-test .taken)
 
--- src/exceeded.rt:68:5
 loop-again-2 : tie.Need-loop-again-2 Inv-loop μ-loop
 loop-again-2 c =
     let inv = c .before .before .before .before .before .loop .inv in (omega (arith, c .before .before .before .before .loop-test .taken), inv .1, inv .2, inv .3)
 
--- src/exceeded.rt:60:1
 returns : tie.Need-returns Inv-loop μ-loop
 returns c =
     c .before .loop .inv .1

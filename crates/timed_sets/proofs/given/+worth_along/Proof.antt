@@ -1,16 +1,15 @@
-use Prim.Native.Nat.{ℕ, zero, suc, _+_, _-_, _*_, _≤_, _<_}
-use mathlib.Core.Path.{_≡_, refl, sym, _∙_}
+use Prim.Native.Nat.{ℕ, _-_, _<_}
+use mathlib.Core.Path.{refl}
 use native.Mathlib.Omega.{arith}
 use borrow.Author.Needs.{needs}
 use mathlib.Core.Logic.{inl}
-use borrow.Author.Tests.{leb-true, leb-false, not-true, not-false}
+use borrow.Author.Tests.{leb-true, not-false}
 use Rattle.assignment.specs.Words.{words-none}
 use Rattle.timed_sets.specs.FoundLaws.{passed-stands, one-passed, one-whole, run-stands, one-run}
 use Rattle.timed_sets.specs.NodeLaws.{item-below, small-node, stands-at-level}
 use Rattle.timed_sets.specs.SetTheorem.{none-is-small}
 use Rattle.timed_sets.specs.TimedCores.{timingAt}
 use Rattle.timed_sets.specs.WholeLaws.{small-at}
-use Prim.Native.Nat.{ℕ, _<_}
 use borrow.Fn.Kinds.{In}
 use borrow.Fn.PlainCycle.{Measures, is, falls, and}
 use Rattle.timed_sets.proofs.given.worth_along.Reads as worth-along
@@ -40,13 +39,11 @@ worth-along-below t =
 abbrev known : ℕ → worth-along-lts.Claims
 known t = (with-whole-reads.Asked, with-whole-reads.Learnt, sets-of-reads.Asked, sets-of-reads.Learnt, passed-over-reads.Asked, passed-over-reads.Learnt, worth-along-below t, worth-along.Post, choice-at-reads.Asked, choice-at-reads.Learnt, is-within-window-reads.Asked, is-within-window-reads.Learnt, at-level-reads.Asked, at-level-reads.Learnt, run-at-reads.Asked, run-at-reads.Learnt)
 
--- src/given.rt:50:9
 worth-along-with-whole-requires : (t : ℕ) → worth-along-lts.Need-with-whole-requires (known t) (worth-along-at t) worth-along.Post
 worth-along-with-whole-requires t c κs =
     let pre = c .before .before .before .before .pre .1 in let its = pre .1 .2 in
     (pre .0 .timed-items, its .places)
 
--- src/given.rt:50:9
 worth-along-returns : (t : ℕ) → worth-along-lts.Need-returns (known t) (worth-along-at t) worth-along.Post
 worth-along-returns t c =
     let pre = c .before .before .before .before .before .pre .1 in let its = pre .1 .2 in
@@ -55,31 +52,26 @@ worth-along-returns t c =
       c .with-whole .ensures .1 (small-at (pre .0 .timed-items .few-items) end its) (none-is-small (c .before .before .before .before .before .args .timed)),
     )
 
--- src/given.rt:52:17
 worth-along-sub-place : (t : ℕ) → worth-along-lts.Need-sub-place (known t) (worth-along-at t) worth-along.Post
 worth-along-sub-place t c =
     let pre = c .before .before .before .before .before .pre .1 in let its = pre .1 .2 in
     omega (arith, item-below (pre .0) its (c .before .if1 .left))
 
--- src/given.rt:52:17
 worth-along-sub-place-2 : (t : ℕ) → worth-along-lts.Need-sub-place-2 (known t) (worth-along-at t) worth-along.Post
 worth-along-sub-place-2 t c =
     let pre = c .before .before .before .before .before .pre .1 in let its = pre .1 .2 in
     omega (arith, item-below (pre .0) its (c .before .if1 .left))
 
--- src/given.rt:53:9
 worth-along-sets-of-requires : (t : ℕ) → worth-along-lts.Need-sets-of-requires (known t) (worth-along-at t) worth-along.Post
 worth-along-sets-of-requires t c κs =
     let pre = c .before .before .before .before .before .pre .1 in let its = pre .1 .2 in
     omega (arith, pre .0 .timed-items .few-items)
 
--- src/given.rt:55:35
 worth-along-passed-over-requires : (t : ℕ) → worth-along-lts.Need-passed-over-requires (known t) (worth-along-at t) worth-along.Post
 worth-along-passed-over-requires t c κs =
     let pre = c .before .before .before .before .before .before .before .before .pre .1 in let its = pre .1 .2 in
     small-node (pre .0) its (c .before .before .before .before .if1 .left)
 
--- src/given.rt:55:9
 worth-along-worth-along-requires : (t : ℕ) → worth-along-lts.Need-worth-along-requires (known t) (worth-along-at t) worth-along.Post
 worth-along-worth-along-requires t c κs =
     let pre = c .before .before .before .before .before .before .before .before .before .pre .1 in let its = pre .1 .2 in
@@ -88,7 +80,6 @@ worth-along-worth-along-requires t c κs =
       (pre .0, passed-stands (c .before .before .before .before .before .if1 .left) (c .before .before .before .sets-of .ensures) (c .before .if2 .taken) (pre .1 .0) (pre .1 .1) its),
     )
 
--- src/given.rt:55:9
 worth-along-returns-2 : (t : ℕ) → worth-along-lts.Need-returns-2 (known t) (worth-along-at t) worth-along.Post
 worth-along-returns-2 t c =
     let pre = c .before .before .before .before .before .before .before .before .before .before .pre .1 in let its = pre .1 .2 in
@@ -97,98 +88,81 @@ worth-along-returns-2 t c =
       found .1,
     )
 
--- src/given.rt:57:9
 worth-along-choice-at-requires : (t : ℕ) → worth-along-lts.Need-choice-at-requires (known t) (worth-along-at t) worth-along.Post
 worth-along-choice-at-requires t c κs =
     let pre = c .before .before .before .before .before .before .before .before .pre .1 in let its = pre .1 .2 in
     omega (arith, pre .0 .timed-items .few-items)
 
--- src/given.rt:59:9
 worth-along-returns-3 : (t : ℕ) → worth-along-lts.Need-returns-3 (known t) (worth-along-at t) worth-along.Post
 worth-along-returns-3 t c =
     (λ q T stands. record { one = inl (words-none _ 0 (omega arith)) }, none-is-small (c .before .before .before .before .before .before .before .before .before .before .args .timed))
 
--- src/given.rt:61:13
 worth-along-sub-l : (t : ℕ) → worth-along-lts.Need-sub-l (known t) (worth-along-at t) worth-along.Post
 worth-along-sub-l t c =
     omega (arith, c .if3 .left)
 
--- src/given.rt:63:9
 worth-along-returns-4 : (t : ℕ) → worth-along-lts.Need-returns-4 (known t) (worth-along-at t) worth-along.Post
 worth-along-returns-4 t c =
     (λ q T stands. record { one = inl (words-none _ 0 (omega arith)) }, none-is-small (c .before .before .before .before .before .before .before .before .before .before .before .before .args .timed))
 
--- src/given.rt:65:9
 worth-along-is-within-window-requires : (t : ℕ) → worth-along-lts.Need-is-within-window-requires (known t) (worth-along-at t) worth-along.Post
 worth-along-is-within-window-requires t c κs =
     let pre = c .before .before .before .before .before .before .before .before .before .before .before .before .pre .1 in let its = pre .1 .2 in
     let below = item-below (pre .0) its (c .before .before .before .before .before .before .before .before .if1 .left) in
     (omega (arith, below, pre .0 .timed-items .few-items), omega (arith, below, c .if4 .left, pre .0 .timed-items .few-levels, pre .0 .timed-items .timings-for-all))
 
--- src/given.rt:66:9
 worth-along-returns-5 : (t : ℕ) → worth-along-lts.Need-returns-5 (known t) (worth-along-at t) worth-along.Post
 worth-along-returns-5 t c =
     (λ q T stands. record { one = inl (words-none _ 0 (omega arith)) }, none-is-small (c .before .before .before .before .before .before .before .before .before .before .before .before .before .before .args .timed))
 
--- src/given.rt:69:9
 worth-along-at-level-requires : (t : ℕ) → worth-along-lts.Need-at-level-requires (known t) (worth-along-at t) worth-along.Post
 worth-along-at-level-requires t c κs = search needs
 
--- src/given.rt:71:17
 worth-along-mul-run-at : (t : ℕ) → worth-along-lts.Need-mul-run-at (known t) (worth-along-at t) worth-along.Post
 worth-along-mul-run-at t c =
     let pre = c .before .before .before .before .before .before .before .before .before .before .before .before .before .before .before .pre .1 in let its = pre .1 .2 in
     omega (arith, item-below (pre .0) its (c .before .before .before .before .before .before .before .before .before .before .before .if1 .left), pre .0 .timed-items .few-items, c .before .before .before .if4 .left, pre .0 .timed-items .few-levels, pre .0 .timed-items .timings-for-all, pre .0 .costs-for-all)
 
--- src/given.rt:71:17
 worth-along-add-run-at : (t : ℕ) → worth-along-lts.Need-add-run-at (known t) (worth-along-at t) worth-along.Post
 worth-along-add-run-at t c =
     let pre = c .before .before .before .before .before .before .before .before .before .before .before .before .before .before .before .pre .1 in let its = pre .1 .2 in
     omega (arith, item-below (pre .0) its (c .before .before .before .before .before .before .before .before .before .before .before .if1 .left), pre .0 .timed-items .few-items, c .before .before .before .if4 .left, pre .0 .timed-items .few-levels, pre .0 .timed-items .timings-for-all, pre .0 .costs-for-all)
 
--- src/given.rt:71:17
 worth-along-add-run-at-2 : (t : ℕ) → worth-along-lts.Need-add-run-at-2 (known t) (worth-along-at t) worth-along.Post
 worth-along-add-run-at-2 t c =
     let pre = c .before .before .before .before .before .before .before .before .before .before .before .before .before .before .before .pre .1 in let its = pre .1 .2 in
     omega (arith, item-below (pre .0) its (c .before .before .before .before .before .before .before .before .before .before .before .if1 .left), pre .0 .timed-items .few-items, c .before .before .before .if4 .left, pre .0 .timed-items .few-levels, pre .0 .timed-items .timings-for-all, pre .0 .costs-for-all)
 
--- src/given.rt:71:9
 worth-along-mul-run-at-2 : (t : ℕ) → worth-along-lts.Need-mul-run-at-2 (known t) (worth-along-at t) worth-along.Post
 worth-along-mul-run-at-2 t c =
     let pre = c .before .before .before .before .before .before .before .before .before .before .before .before .before .before .before .pre .1 in let its = pre .1 .2 in
     omega (arith, item-below (pre .0) its (c .before .before .before .before .before .before .before .before .before .before .before .if1 .left), pre .0 .timed-items .few-items, c .before .before .before .if4 .left, pre .0 .timed-items .few-levels, pre .0 .timed-items .timings-for-all, pre .0 .costs-for-all)
 
--- src/given.rt:71:9
 worth-along-shared-slice-read-run-at : (t : ℕ) → worth-along-lts.Need-shared-slice-read-run-at (known t) (worth-along-at t) worth-along.Post
 worth-along-shared-slice-read-run-at t c =
     let pre = c .before .before .before .before .before .before .before .before .before .before .before .before .before .before .before .before .pre .1 in let its = pre .1 .2 in
     omega (arith, item-below (pre .0) its (c .before .before .before .before .before .before .before .before .before .before .before .before .if1 .left), pre .0 .timed-items .few-items, c .before .before .before .before .if4 .left, pre .0 .timed-items .few-levels, pre .0 .timed-items .timings-for-all, pre .0 .costs-for-all)
 
--- src/given.rt:72:14
 worth-along-mul-run-at-3 : (t : ℕ) → worth-along-lts.Need-mul-run-at-3 (known t) (worth-along-at t) worth-along.Post
 worth-along-mul-run-at-3 t c =
     let pre = c .before .before .before .before .before .before .before .before .before .before .before .before .before .before .before .before .pre .1 in let its = pre .1 .2 in
     omega (arith, item-below (pre .0) its (c .before .before .before .before .before .before .before .before .before .before .before .before .if1 .left), pre .0 .timed-items .few-items, c .before .before .before .before .if4 .left, pre .0 .timed-items .few-levels, pre .0 .timed-items .timings-for-all, pre .0 .costs-for-all)
 
--- src/given.rt:72:14
 worth-along-add-run-at-3 : (t : ℕ) → worth-along-lts.Need-add-run-at-3 (known t) (worth-along-at t) worth-along.Post
 worth-along-add-run-at-3 t c =
     let pre = c .before .before .before .before .before .before .before .before .before .before .before .before .before .before .before .before .pre .1 in let its = pre .1 .2 in
     omega (arith, item-below (pre .0) its (c .before .before .before .before .before .before .before .before .before .before .before .before .if1 .left), pre .0 .timed-items .few-items, c .before .before .before .before .if4 .left, pre .0 .timed-items .few-levels, pre .0 .timed-items .timings-for-all, pre .0 .costs-for-all)
 
--- src/given.rt:72:9
 worth-along-mul-run-at-4 : (t : ℕ) → worth-along-lts.Need-mul-run-at-4 (known t) (worth-along-at t) worth-along.Post
 worth-along-mul-run-at-4 t c =
     let pre = c .before .before .before .before .before .before .before .before .before .before .before .before .before .before .before .before .pre .1 in let its = pre .1 .2 in
     omega (arith, item-below (pre .0) its (c .before .before .before .before .before .before .before .before .before .before .before .before .if1 .left), pre .0 .timed-items .few-items, c .before .before .before .before .if4 .left, pre .0 .timed-items .few-levels, pre .0 .timed-items .timings-for-all, pre .0 .costs-for-all)
 
--- src/given.rt:72:9
 worth-along-shared-slice-read-run-at-2 : (t : ℕ) → worth-along-lts.Need-shared-slice-read-run-at-2 (known t) (worth-along-at t) worth-along.Post
 worth-along-shared-slice-read-run-at-2 t c =
     let pre = c .before .before .before .before .before .before .before .before .before .before .before .before .before .before .before .before .before .pre .1 in let its = pre .1 .2 in
     omega (arith, item-below (pre .0) its (c .before .before .before .before .before .before .before .before .before .before .before .before .before .if1 .left), pre .0 .timed-items .few-items, c .before .before .before .before .before .if4 .left, pre .0 .timed-items .few-levels, pre .0 .timed-items .timings-for-all, pre .0 .costs-for-all)
 
--- src/given.rt:68:9
 worth-along-run-at-requires : (t : ℕ) → worth-along-lts.Need-run-at-requires (known t) (worth-along-at t) worth-along.Post
 unfolding timingAt
 worth-along-run-at-requires t c κs =
@@ -199,7 +173,6 @@ worth-along-run-at-requires t c κs =
       (omega (arith, c .before .before .before .before .before .before .before .before .before .if2 .left), pre .0 .cheap _ _ (item-below (pre .0) its (c .before .before .before .before .before .before .before .before .before .before .before .before .before .if1 .left)) (omega (arith, c .before .before .before .before .before .if4 .left)) (leb-true _ _ (not-false _ (rw (c .before .before .before .before .is-within-window .ensures) at (c .before .before .before .if5 .left))))),
     )
 
--- src/given.rt:74:5
 worth-along-worth-along-requires-2 : (t : ℕ) → worth-along-lts.Need-worth-along-requires-2 (known t) (worth-along-at t) worth-along.Post
 unfolding timingAt
 worth-along-worth-along-requires-2 t c κs =
@@ -210,7 +183,6 @@ worth-along-worth-along-requires-2 t c κs =
       (pre .0, run-stands (c .before .before .before .before .before .before .before .before .before .before .before .before .before .before .if1 .left) (c .before .before .before .before .before .before .before .before .before .before .before .before .sets-of .ensures) (pre .0) (omega (arith, c .before .before .before .before .before .before .before .before .before .before .if2 .left)) (omega (arith, c .before .before .before .before .before .before .if4 .left)) refl refl (leb-true _ _ (not-false _ (rw (c .before .before .before .before .before .is-within-window .ensures) at (c .before .before .before .before .if5 .left)))) (pre .1 .0) (pre .1 .1) at),
     )
 
--- src/given.rt:35:1
 worth-along-returns-6 : (t : ℕ) → worth-along-lts.Need-returns-6 (known t) (worth-along-at t) worth-along.Post
 unfolding timingAt
 worth-along-returns-6 t c =

@@ -1,22 +1,9 @@
-use Prim.Native.Nat.{ℕ, zero, suc, _+_, _-_, _*_, _≤_, _<_}
-use mathlib.Core.Path.{_≡_, refl, sym, _∙_}
-use native.Mathlib.Omega.{arith}
 use borrow.Author.Needs.{needs}
 use Rattle.timed_sets.specs.FoundLaws.{found-from-one, one-lesser}
 use Rattle.timed_sets.specs.WholeLaws.{lesser-small}
-use borrow.Author.Needs.{needs}
 use Rattle.timed_sets.proofs.least.least_by_search.Statement.{statement}
 use Rattle.timed_sets.proofs.least.least_by_search.Tie as tie
-use Rattle.timed_sets.proofs.least.least_by_search.Reads as reads
-use Rattle.timed_sets.proofs.least.least_by_search.Lts as lts
-use Rattle.timed_sets.proofs.given.worth_along.Reads as worth-along-reads
-use Rattle.timed_sets.proofs.choices.cheapest_key.Reads as cheapest-key-reads
-use Rattle.timed_sets.proofs.multipliers.find_prices.Reads as find-prices-reads
-use Rattle.timed_sets.proofs.relaxation.lagrangian_of.Reads as lagrangian-of-reads
-use Rattle.timed_sets.proofs.search.least_from.Reads as least-from-reads
-use Rattle.values.proofs.lesser.Reads as lesser-reads
 
--- src/least.rt
 find-prices-requires : tie.Need-find-prices-requires
 find-prices-requires c κs = c .before .before .before .before .pre .0
 

@@ -1,15 +1,12 @@
-use Prim.Native.Nat.{ℕ, zero, suc, _+_, _-_, _*_, _≤_, _<_}
-use mathlib.Core.Path.{_≡_, refl, sym, _∙_}
+use Prim.Native.Nat.{_-_, _≤_}
+use mathlib.Core.Path.{_≡_, _∙_}
 use native.Mathlib.Omega.{arith}
 use borrow.Author.Needs.{needs}
-use lib.ListN.{length, getD}
+use lib.ListN.{length}
 use lib.ListN.{length-set}
 use Rattle.timed_sets.specs.PriceColumns.{mostTicks}
 use Rattle.timed_sets.proofs.multipliers.fitted_weights.Statement.{statement}
 use Rattle.timed_sets.proofs.multipliers.fitted_weights.Tie as tie
-use Rattle.timed_sets.proofs.multipliers.fitted_weights.Reads as reads
-use Rattle.timed_sets.proofs.multipliers.fitted_weights.Lts as lts
-use Rattle.timed_sets.proofs.multipliers.fitted_weight.Reads as fitted-weight-reads
 
 abbrev Inv-loop : tie.InvT-loop
 Inv-loop timed set ticks timings cost fitted₀ n₀ fitted n = (n ≤ mostTicks) × (length fitted ≡ mostTicks)
@@ -17,38 +14,30 @@ Inv-loop timed set ticks timings cost fitted₀ n₀ fitted n = (n ≤ mostTicks
 abbrev μ-loop : tie.MeasureT-loop
 μ-loop timed set ticks timings cost fitted₀ n₀ fitted n = n
 
--- src/multipliers.rt:97:5
 loop-holds : tie.Need-loop-holds Inv-loop μ-loop
 loop-holds c = (omega arith, search needs)
 
--- src/multipliers.rt:98:9
 sub-n : tie.Need-sub-n Inv-loop μ-loop
 sub-n c = search needs
 
--- src/multipliers.rt:99:21
 fitted-weight-requires : tie.Need-fitted-weight-requires Inv-loop μ-loop
 fitted-weight-requires c κs =
     (c .before .before .before .before .pre, omega (arith, c .before .loop .inv .0, c .loop-test .taken))
 
--- src/multipliers.rt:99:9
 mul-fitted : tie.Need-mul-fitted Inv-loop μ-loop
 mul-fitted c = search needs
 
--- src/multipliers.rt:99:9
 array-write-fitted : tie.Need-array-write-fitted Inv-loop μ-loop
 array-write-fitted c = omega (arith, c .before .before .loop .inv, c .before .loop-test .taken)
 
--- src/multipliers.rt:97:5
 loop-less : tie.Need-loop-less Inv-loop μ-loop
 loop-less c = search needs
 
--- src/multipliers.rt:97:5
 loop-again : tie.Need-loop-again Inv-loop μ-loop
 loop-again c =
     let loop = c .before .before .loop in
     (omega (arith, loop .inv .0), length-set (loop .fitted) (loop .n - 1) (c .fitted-weight .result) ∙ loop .inv .1)
 
--- src/multipliers.rt:85:1
 returns : tie.Need-returns Inv-loop μ-loop
 returns c = c .before .loop .inv .1
 

@@ -1,13 +1,8 @@
-use Prim.Native.Nat.{ℕ, zero, suc, _+_, _-_, _*_, _≤_, _<_}
-use mathlib.Core.Path.{_≡_, refl, sym, _∙_}
-use native.Mathlib.Omega.{arith}
+use Prim.Native.Nat.{_-_, _≤_}
 use borrow.Author.Needs.{needs}
-use lib.ListN.{length, getD}
 use Rattle.timed_sets.specs.PriceColumns.{mostTicks}
 use Rattle.timed_sets.proofs.multipliers.place_for.Statement.{statement}
 use Rattle.timed_sets.proofs.multipliers.place_for.Tie as tie
-use Rattle.timed_sets.proofs.multipliers.place_for.Reads as reads
-use Rattle.timed_sets.proofs.multipliers.place_for.Lts as lts
 
 abbrev Inv-loop : tie.InvT-loop
 Inv-loop tick ticks n₀ n = n ≤ mostTicks
@@ -15,51 +10,39 @@ Inv-loop tick ticks n₀ n = n ≤ mostTicks
 abbrev μ-loop : tie.MeasureT-loop
 μ-loop tick ticks n₀ n = mostTicks - n
 
--- src/multipliers.rt:194:9
 returns : tie.Need-returns Inv-loop μ-loop
 returns c = search needs
 
--- src/multipliers.rt:197:5
 loop-holds : tie.Need-loop-holds Inv-loop μ-loop
 loop-holds c = search needs
 
--- src/multipliers.rt:198:12
 mul-if2 : tie.Need-mul-if2 Inv-loop μ-loop
 mul-if2 c = search needs
 
--- src/multipliers.rt:198:12
 array-read-if2 : tie.Need-array-read-if2 Inv-loop μ-loop
 array-read-if2 c = search needs
 
--- src/multipliers.rt:199:13
 returns-2 : tie.Need-returns-2 Inv-loop μ-loop
 returns-2 c = search needs
 
--- src/multipliers.rt:201:12
 mul-if3 : tie.Need-mul-if3 Inv-loop μ-loop
 mul-if3 c = search needs
 
--- src/multipliers.rt:201:12
 array-read-if3 : tie.Need-array-read-if3 Inv-loop μ-loop
 array-read-if3 c = search needs
 
--- src/multipliers.rt:202:13
 returns-3 : tie.Need-returns-3 Inv-loop μ-loop
 returns-3 c = search needs
 
--- src/multipliers.rt:204:9
 add-n : tie.Need-add-n Inv-loop μ-loop
 add-n c = search needs
 
--- src/multipliers.rt:197:5
 loop-less : tie.Need-loop-less Inv-loop μ-loop
 loop-less c = search needs
 
--- src/multipliers.rt:197:5
 loop-again : tie.Need-loop-again Inv-loop μ-loop
 loop-again c = search needs
 
--- src/multipliers.rt:190:1
 returns-4 : tie.Need-returns-4 Inv-loop μ-loop
 returns-4 c = search needs
 

@@ -1,26 +1,17 @@
-use Prim.Native.Nat.{ℕ, zero, suc, _+_, _-_, _*_, _≤_, _<_}
-use mathlib.Core.Path.{_≡_, refl, sym, _∙_}
 use native.Mathlib.Omega.{arith}
 use borrow.Author.Needs.{needs}
-use lib.ListN.{length, getD}
 use Rattle.assignment.specs.Keys.{keyBase}
 use Rattle.timed_sets.specs.NodeLaws.{next-key-fits}
-use borrow.Author.Needs.{needs}
 use Rattle.timed_sets.proofs.nodes.passed_over.Statement.{statement}
 use Rattle.timed_sets.proofs.nodes.passed_over.Tie as tie
-use Rattle.timed_sets.proofs.nodes.passed_over.Reads as reads
-use Rattle.timed_sets.proofs.nodes.passed_over.Lts as lts
 
--- src/nodes.rt:29:15
 add-t3 : tie.Need-add-t3
 add-t3 c = search needs
 
--- src/nodes.rt:33:14
 mul-t4 : tie.Need-mul-t4
 unfolding keyBase
 mul-t4 c = omega (arith, next-key-fits (c .before .before .before .pre) 0 (omega arith))
 
--- src/nodes.rt:23:1
 returns : tie.Need-returns
 unfolding keyBase
 returns c = search needs

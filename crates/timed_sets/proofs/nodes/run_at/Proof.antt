@@ -1,53 +1,39 @@
-use Prim.Native.Nat.{ℕ, zero, suc, _+_, _-_, _*_, _≤_, _<_}
-use mathlib.Core.Path.{_≡_, refl, sym, _∙_}
+use Prim.Native.Nat.{_+_}
 use native.Mathlib.Omega.{arith}
 use borrow.Author.Needs.{needs}
-use lib.ListN.{length, getD}
 use Rattle.assignment.specs.Keys.{keyBase}
 use Rattle.timed_sets.specs.NodeLaws.{next-key-fits}
-use borrow.Author.Needs.{needs}
 use Rattle.timed_sets.proofs.nodes.run_at.Statement.{statement}
 use Rattle.timed_sets.proofs.nodes.run_at.Tie as tie
-use Rattle.timed_sets.proofs.nodes.run_at.Reads as reads
-use Rattle.timed_sets.proofs.nodes.run_at.Lts as lts
 
--- src/nodes.rt:45:5
 mul-column : tie.Need-mul-column
 mul-column c = search needs
 
--- src/nodes.rt:45:5
 array-write-column : tie.Need-array-write-column
 array-write-column c = search needs
 
--- src/nodes.rt:47:15
 add-t7 : tie.Need-add-t7
 add-t7 c = search needs
 
--- src/nodes.rt:49:15
 sub-t10 : tie.Need-sub-t10
 sub-t10 c = search needs
 
--- src/nodes.rt:50:15
 add-t11 : tie.Need-add-t11
 add-t11 c = search needs
 
--- src/nodes.rt:51:14
 mul-t12 : tie.Need-mul-t12
 unfolding keyBase
 mul-t12 c = omega (arith, next-key-fits (c .before .before .before .before .before .pre .0) 0 (omega arith))
 
--- src/nodes.rt:51:37
 add-t14 : tie.Need-add-t14
 add-t14 c = search needs
 
--- src/nodes.rt:51:14
 add-t15 : tie.Need-add-t15
 unfolding keyBase
 add-t15 c =
     let small = c .before .before .before .before .before .pre .0 in
     omega (arith, next-key-fits small (c .before .before .before .before .before .args .node .level + 1) (omega (arith, small .level)))
 
--- src/nodes.rt:38:1
 returns : tie.Need-returns
 unfolding keyBase
 returns c = search needs

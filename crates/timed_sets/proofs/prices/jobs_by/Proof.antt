@@ -1,16 +1,11 @@
-use Prim.Native.Nat.{ℕ, zero, suc, _+_, _-_, _*_, _≤_, _<_}
-use mathlib.Core.Path.{_≡_, refl, sym, _∙_}
+use Prim.Native.Nat.{_-_, _≤_}
 use native.Mathlib.Omega.{arith}
 use borrow.Author.Needs.{needs}
-use lib.ListN.{length, getD}
 use Rattle.timed_sets.specs.PriceColumns.{JobsBy}
 use Rattle.timed_sets.specs.PriceLaws.{no-jobs-yet, jobs-of-one-more, jobs-at-most}
 use Rattle.timed_sets.specs.TimedCores.{timingAt}
 use Rattle.timed_sets.proofs.prices.jobs_by.Statement.{statement}
 use Rattle.timed_sets.proofs.prices.jobs_by.Tie as tie
-use Rattle.timed_sets.proofs.prices.jobs_by.Reads as reads
-use Rattle.timed_sets.proofs.prices.jobs_by.Lts as lts
-use Rattle.demand.proofs.jobs_due.Reads as jobs-due-reads
 
 abbrev Inv-loop : tie.InvT-loop
 Inv-loop timed tick timings jobs₀ i₀ jobs i = (i ≤ timed .items) × JobsBy tick timings i jobs
@@ -18,39 +13,30 @@ Inv-loop timed tick timings jobs₀ i₀ jobs i = (i ≤ timed .items) × JobsBy
 abbrev μ-loop : tie.MeasureT-loop
 μ-loop timed tick timings jobs₀ i₀ jobs i = timed .items - i
 
--- src/prices.rt:48:5
 loop-holds : tie.Need-loop-holds Inv-loop μ-loop
 loop-holds c = (omega arith, no-jobs-yet)
 
--- src/prices.rt:49:36
 mul-jobs-due : tie.Need-mul-jobs-due Inv-loop μ-loop
 mul-jobs-due c = search needs
 
--- src/prices.rt:49:28
 mul-jobs-due-2 : tie.Need-mul-jobs-due-2 Inv-loop μ-loop
 mul-jobs-due-2 c = search needs
 
--- src/prices.rt:49:28
 shared-slice-read-jobs-due : tie.Need-shared-slice-read-jobs-due Inv-loop μ-loop
 shared-slice-read-jobs-due c = search needs
 
--- src/prices.rt:49:63
 mul-jobs-due-3 : tie.Need-mul-jobs-due-3 Inv-loop μ-loop
 mul-jobs-due-3 c = search needs
 
--- src/prices.rt:49:63
 add-jobs-due : tie.Need-add-jobs-due Inv-loop μ-loop
 add-jobs-due c = search needs
 
--- src/prices.rt:49:55
 mul-jobs-due-4 : tie.Need-mul-jobs-due-4 Inv-loop μ-loop
 mul-jobs-due-4 c = search needs
 
--- src/prices.rt:49:55
 shared-slice-read-jobs-due-2 : tie.Need-shared-slice-read-jobs-due-2 Inv-loop μ-loop
 shared-slice-read-jobs-due-2 c = search needs
 
--- src/prices.rt:49:19
 jobs-due-requires : tie.Need-jobs-due-requires Inv-loop μ-loop
 unfolding timingAt
 jobs-due-requires c κs =
@@ -62,23 +48,18 @@ jobs-due-requires c κs =
     let inside = its .window-within-period in
     ((omega (arith, whole, inside), inside), omega (arith, period, ready .span-at-most, c .before .before .before .before .before .before .pre .1))
 
--- src/prices.rt:49:9
 mul-jobs : tie.Need-mul-jobs Inv-loop μ-loop
 mul-jobs c = search needs
 
--- src/prices.rt:49:9
 array-write-jobs : tie.Need-array-write-jobs Inv-loop μ-loop
 array-write-jobs c = search needs
 
--- src/prices.rt:50:9
 add-i : tie.Need-add-i Inv-loop μ-loop
 add-i c = search needs
 
--- src/prices.rt:48:5
 loop-less : tie.Need-loop-less Inv-loop μ-loop
 loop-less c = search needs
 
--- src/prices.rt:48:5
 loop-again : tie.Need-loop-again Inv-loop μ-loop
 unfolding timingAt
 loop-again c =
@@ -87,7 +68,6 @@ loop-again c =
     let jobs = c .jobs-due .ensures in
     (omega (arith, below), jobs-of-one-more _ (c .before .before .before .before .before .loop .inv .1) (omega (arith, below, ready .few-items)) jobs (omega (arith, jobs, jobs-at-most ready _ (c .before .before .before .before .before .before .before .args .tick) below, ready .span-at-most, c .before .before .before .before .before .before .before .pre .1)))
 
--- src/prices.rt:41:1
 returns : tie.Need-returns Inv-loop μ-loop
 returns c =
     let inv = c .before .before .loop .inv in

@@ -1,28 +1,18 @@
-use Prim.Native.Nat.{ℕ, zero, suc, _+_, _-_, _*_, _≤_, _<_}
-use mathlib.Core.Path.{_≡_, refl, sym, _∙_}
 use native.Mathlib.Omega.{arith}
-use borrow.Author.Needs.{needs}
-use lib.ListN.{length, getD}
 use borrow.Author.Needs.{needs}
 use Rattle.timed_sets.specs.PriceLaws.{raise-fits}
 use Rattle.timed_sets.proofs.prices.raised_price.Statement.{statement}
 use Rattle.timed_sets.proofs.prices.raised_price.Tie as tie
-use Rattle.timed_sets.proofs.prices.raised_price.Reads as reads
-use Rattle.timed_sets.proofs.prices.raised_price.Lts as lts
 
--- src/prices.rt:60:26
 mul-raised : tie.Need-mul-raised
 mul-raised c = record { fits = omega (arith, raise-fits (c .pre .1) (c .pre .2)) }
 
--- src/prices.rt:60:18
 add-raised : tie.Need-add-raised
 add-raised c = record { fits = omega (arith, raise-fits (c .pre .1) (c .pre .2), c .pre .0) }
 
--- src/prices.rt:62:9
 returns : tie.Need-returns
 returns c = search needs
 
--- src/prices.rt:56:1
 returns-2 : tie.Need-returns-2
 returns-2 c = search needs
 

@@ -1,32 +1,21 @@
-use Prim.Native.Nat.{ℕ, zero, suc, _+_, _-_, _*_, _≤_, _<_}
-use mathlib.Core.Path.{_≡_, refl, sym, _∙_}
+use Prim.Native.Nat.{_≤_}
 use native.Mathlib.Omega.{arith}
-use borrow.Author.Needs.{needs}
-use lib.ListN.{length, getD}
 use borrow.Author.Needs.{needs}
 use Rattle.ranges.specs.Limits.{mostSpan}
 use Rattle.timed_sets.specs.PriceColumns.{mostWeight}
 use Rattle.timed_sets.specs.PriceLaws.{raise-fits, raised-within-budget}
 use Rattle.timed_sets.proofs.prices.with_tick.Statement.{statement}
 use Rattle.timed_sets.proofs.prices.with_tick.Tie as tie
-use Rattle.timed_sets.proofs.prices.with_tick.Reads as reads
-use Rattle.timed_sets.proofs.prices.with_tick.Lts as lts
-use Rattle.timed_sets.proofs.prices.jobs_by.Reads as jobs-by-reads
-use Rattle.timed_sets.proofs.prices.raised_prices.Reads as raised-prices-reads
 
--- src/prices.rt:102:9
 returns : tie.Need-returns
 returns c = search needs
 
--- src/prices.rt:105:9
 returns-2 : tie.Need-returns-2
 returns-2 c = search needs
 
--- src/prices.rt:108:9
 returns-3 : tie.Need-returns-3
 returns-3 c = search needs
 
--- src/prices.rt:110:33
 mul-budget : tie.Need-mul-budget
 mul-budget c =
     let pre = c .before .before .before .before .before .pre in
@@ -34,7 +23,6 @@ mul-budget c =
     let few : c .before .before .before .before .before .args .tick ≤ mostSpan = omega (arith, c .before .if2 .left, pre .0 .span-at-most) in
     record { fits = omega (arith, raise-fits low few) }
 
--- src/prices.rt:110:18
 add-budget : tie.Need-add-budget
 add-budget c =
     let pre = c .before .before .before .before .before .before .pre in
@@ -42,22 +30,18 @@ add-budget c =
     let few : c .before .before .before .before .before .before .args .tick ≤ mostSpan = omega (arith, c .before .before .if2 .left, pre .0 .span-at-most) in
     record { fits = omega (arith, raise-fits low few, pre .1 .low-budget) }
 
--- src/prices.rt:112:9
 returns-4 : tie.Need-returns-4
 returns-4 c = search needs
 
--- src/prices.rt:116:60
 jobs-by-requires : tie.Need-jobs-by-requires
 jobs-by-requires c κs =
     (c .before .before .before .before .before .before .before .before .pre .0, omega (arith, c .before .before .before .before .if2 .left))
 
--- src/prices.rt:116:17
 raised-prices-requires : tie.Need-raised-prices-requires
 raised-prices-requires c κs =
     let pre = c .before .before .before .before .before .before .before .before .before .pre in
     ((pre .0 .few-items, omega (arith, c .before .before .before .before .if3 .left)), (record { places = pre .1 .places; low = pre .1 .low-prices }, c .jobs-by .ensures .few))
 
--- src/prices.rt:90:1
 returns-5 : tie.Need-returns-5
 returns-5 c =
     let pre = c .before .before .before .before .before .before .before .before .before .before .pre in

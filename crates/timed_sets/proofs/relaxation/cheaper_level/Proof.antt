@@ -1,71 +1,53 @@
-use Prim.Native.Nat.{ℕ, zero, suc, _+_, _-_, _*_, _≤_, _<_}
-use mathlib.Core.Path.{_≡_, refl, sym, _∙_}
+use Prim.Native.Nat.{_+_, _*_}
+use mathlib.Core.Path.{refl}
 use native.Mathlib.Omega.{arith}
-use borrow.Author.Needs.{needs}
-use lib.ListN.{length, getD}
 use borrow.Author.Needs.{needs}
 use borrow.Author.Tests.{leb-true, leb-false, not-true, not-false}
 use Rattle.timed_sets.specs.PricedLevelLaws.{priced-fits, skipped, still-cheapest, now-cheapest}
 use Rattle.timed_sets.specs.TimedCores.{timingAt}
 use Rattle.timed_sets.proofs.relaxation.cheaper_level.Statement.{statement}
 use Rattle.timed_sets.proofs.relaxation.cheaper_level.Tie as tie
-use Rattle.timed_sets.proofs.relaxation.cheaper_level.Reads as reads
-use Rattle.timed_sets.proofs.relaxation.cheaper_level.Lts as lts
-use Rattle.timed_sets.proofs.nodes.is_within_window.Reads as is-within-window-reads
 
--- src/relaxation.rt:39:9
 is-within-window-requires : tie.Need-is-within-window-requires
 is-within-window-requires c κs = search needs
 
--- src/relaxation.rt:40:9
 returns : tie.Need-returns
 unfolding timingAt
 returns c =
     let long = leb-false _ _ (not-true _ (rw (c .before .is-within-window .ensures) at (c .if1 .taken))) in
     skipped (c .before .before .before .before .pre .1 .1) long
 
--- src/relaxation.rt:42:25
 mul-ticks : tie.Need-mul-ticks
 mul-ticks c = search needs
 
--- src/relaxation.rt:42:25
 add-ticks : tie.Need-add-ticks
 add-ticks c = search needs
 
--- src/relaxation.rt:42:25
 add-ticks-2 : tie.Need-add-ticks-2
 add-ticks-2 c = search needs
 
--- src/relaxation.rt:42:17
 mul-ticks-2 : tie.Need-mul-ticks-2
 mul-ticks-2 c = search needs
 
--- src/relaxation.rt:42:17
 shared-slice-read-ticks : tie.Need-shared-slice-read-ticks
 shared-slice-read-ticks c = search needs
 
--- src/relaxation.rt:43:20
 mul-its : tie.Need-mul-its
 mul-its c = search needs
 
--- src/relaxation.rt:43:20
 add-its : tie.Need-add-its
 add-its c = search needs
 
--- src/relaxation.rt:43:15
 mul-its-2 : tie.Need-mul-its-2
 mul-its-2 c = search needs
 
--- src/relaxation.rt:43:15
 shared-slice-read-its : tie.Need-shared-slice-read-its
 shared-slice-read-its c = search needs
 
--- src/relaxation.rt:43:53
 cast-its : tie.Need-cast-its
 cast-its c =
     let args = c .before .before .before .before .before .before .args in omega (arith, c .before .before .before .before .before .shared-slice-known .given (args .item * 10 + 2 + args .level))
 
--- src/relaxation.rt:43:45
 mul-its-3 : tie.Need-mul-its-3
 unfolding timingAt
 mul-its-3 c =
@@ -74,7 +56,6 @@ mul-its-3 c =
     let within = leb-true _ _ (not-false _ (rw (c .before .before .before .is-within-window .ensures) at (c .before .before .if1 .left))) in
     record { fits = omega (arith, priced-fits (its .1) _ _ _ (its .2) (its .3) (pre .1 .0) within .0) }
 
--- src/relaxation.rt:43:15
 add-its-2 : tie.Need-add-its-2
 unfolding timingAt
 add-its-2 c =
@@ -83,7 +64,6 @@ add-its-2 c =
     let within = leb-true _ _ (not-false _ (rw (c .before .before .before .is-within-window .ensures) at (c .before .before .if1 .left))) in
     record { fits = omega (arith, priced-fits (its .1) _ _ _ (its .2) (its .3) (pre .1 .0) within .1) }
 
--- src/relaxation.rt:45:9
 returns-2 : tie.Need-returns-2
 unfolding timingAt
 returns-2 c =
@@ -91,7 +71,6 @@ returns-2 c =
     let its = pre .0 in
     now-cheapest (pre .1 .1) _ _ (omega (arith, its .3, its .1 .timed-items .few-levels)) refl (omega (arith, c .if2 .taken))
 
--- src/relaxation.rt:26:1
 returns-3 : tie.Need-returns-3
 unfolding timingAt
 returns-3 c =

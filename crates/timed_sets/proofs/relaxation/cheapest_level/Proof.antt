@@ -1,15 +1,10 @@
-use Prim.Native.Nat.{ℕ, zero, suc, _+_, _-_, _*_, _≤_, _<_}
-use mathlib.Core.Path.{_≡_, refl, sym, _∙_}
+use Prim.Native.Nat.{_-_, _≤_}
 use native.Mathlib.Omega.{arith}
 use borrow.Author.Needs.{needs}
-use lib.ListN.{length, getD}
 use Rattle.timed_sets.specs.PricedLevels.{Cheapest}
 use Rattle.timed_sets.specs.PricedLevelLaws.{no-level-yet}
 use Rattle.timed_sets.proofs.relaxation.cheapest_level.Statement.{statement}
 use Rattle.timed_sets.proofs.relaxation.cheapest_level.Tie as tie
-use Rattle.timed_sets.proofs.relaxation.cheapest_level.Reads as reads
-use Rattle.timed_sets.proofs.relaxation.cheapest_level.Lts as lts
-use Rattle.timed_sets.proofs.relaxation.cheaper_level.Reads as cheaper-level-reads
 
 abbrev Inv-loop : tie.InvT-loop
 Inv-loop timed item price timings cost best₀ level₀ best level =
@@ -18,29 +13,23 @@ Inv-loop timed item price timings cost best₀ level₀ best level =
 abbrev μ-loop : tie.MeasureT-loop
 μ-loop timed item price timings cost best₀ level₀ best level = timed .levels - level
 
--- src/relaxation.rt:72:5
 loop-holds : tie.Need-loop-holds Inv-loop μ-loop
 loop-holds c = (omega arith, no-level-yet)
 
--- src/relaxation.rt:73:9
 cheaper-level-requires : tie.Need-cheaper-level-requires Inv-loop μ-loop
 cheaper-level-requires c κs =
     let pre = c .before .before .before .before .before .pre in
     ((_, pre .0, pre .1 .0, c .if1 .taken), (pre .1 .1, c .before .before .loop .inv .1))
 
--- src/relaxation.rt:74:9
 add-level : tie.Need-add-level Inv-loop μ-loop
 add-level c = search needs
 
--- src/relaxation.rt:72:5
 loop-less : tie.Need-loop-less Inv-loop μ-loop
 loop-less c = search needs
 
--- src/relaxation.rt:72:5
 loop-again : tie.Need-loop-again Inv-loop μ-loop
 loop-again c = (omega (arith, c .before .if1 .taken), c .cheaper-level .ensures)
 
--- src/relaxation.rt:55:1
 returns : tie.Need-returns Inv-loop μ-loop
 returns c =
     let inv = c .before .before .loop .inv .1 in

@@ -1,15 +1,10 @@
-use Prim.Native.Nat.{ℕ, zero, suc, _+_, _-_, _*_, _≤_, _<_}
-use mathlib.Core.Path.{_≡_, refl, sym, _∙_}
+use Prim.Native.Nat.{_-_, _≤_}
 use native.Mathlib.Omega.{arith}
 use borrow.Author.Needs.{needs}
-use lib.ListN.{length, getD}
 use Rattle.timed_sets.specs.PricedLevels.{LeastOfEach}
 use Rattle.timed_sets.specs.PricedLevelLaws.{no-item-yet, least-of-one-more, relaxes}
 use Rattle.timed_sets.proofs.relaxation.lagrangian_of.Statement.{statement}
 use Rattle.timed_sets.proofs.relaxation.lagrangian_of.Tie as tie
-use Rattle.timed_sets.proofs.relaxation.lagrangian_of.Reads as reads
-use Rattle.timed_sets.proofs.relaxation.lagrangian_of.Lts as lts
-use Rattle.timed_sets.proofs.relaxation.cheapest_level.Reads as cheapest-level-reads
 
 abbrev Inv-loop : tie.InvT-loop
 Inv-loop timed known timings cost prices least₀ i₀ least i =
@@ -18,48 +13,38 @@ Inv-loop timed known timings cost prices least₀ i₀ least i =
 abbrev μ-loop : tie.MeasureT-loop
 μ-loop timed known timings cost prices least₀ i₀ least i = timed .items - i
 
--- src/relaxation.rt:93:5
 loop-holds : tie.Need-loop-holds Inv-loop μ-loop
 loop-holds c = (omega arith, no-item-yet)
 
--- src/relaxation.rt:94:45
 mul-cheapest-level : tie.Need-mul-cheapest-level Inv-loop μ-loop
 mul-cheapest-level c = search needs
 
--- src/relaxation.rt:94:45
 array-read-cheapest-level : tie.Need-array-read-cheapest-level Inv-loop μ-loop
 array-read-cheapest-level c =
     let pre = c .before .before .before .before .before .before .pre in omega (arith, c .if1 .taken, pre .0 .timed-items .few-items, pre .1 .places)
 
--- src/relaxation.rt:94:20
 cheapest-level-requires : tie.Need-cheapest-level-requires Inv-loop μ-loop
 cheapest-level-requires c κs =
     let pre = c .before .before .before .before .before .before .pre in (pre .0, (c .if1 .taken, pre .1 .low-prices _))
 
--- src/relaxation.rt:94:9
 mul-least : tie.Need-mul-least Inv-loop μ-loop
 mul-least c = search needs
 
--- src/relaxation.rt:94:9
 array-write-least : tie.Need-array-write-least Inv-loop μ-loop
 array-write-least c = search needs
 
--- src/relaxation.rt:95:9
 add-i : tie.Need-add-i Inv-loop μ-loop
 add-i c = search needs
 
--- src/relaxation.rt:93:5
 loop-less : tie.Need-loop-less Inv-loop μ-loop
 loop-less c = search needs
 
--- src/relaxation.rt:93:5
 loop-again : tie.Need-loop-again Inv-loop μ-loop
 loop-again c =
     let few = c .before .before .before .before .before .before .before .pre .0 .timed-items .few-items in
     let below = c .before .if1 .taken in
     (omega (arith, below), least-of-one-more (c .before .before .before .loop .inv .1) (omega (arith, below, few)) (c .cheapest-level .ensures))
 
--- src/relaxation.rt:80:1
 returns : tie.Need-returns Inv-loop μ-loop
 returns c =
     relaxes (c .before .before .before .before .before .before .pre .1) (omega (arith, c .if1 .left)) (c .before .before .loop .inv .1)

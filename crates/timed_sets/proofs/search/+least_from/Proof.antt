@@ -1,15 +1,12 @@
-use Prim.Native.Nat.{ℕ, zero, suc, _+_, _-_, _*_, _≤_, _<_}
-use mathlib.Core.Path.{_≡_, refl, sym, _∙_}
+use Prim.Native.Nat.{ℕ, _+_, _-_, _*_, _<_}
+use mathlib.Core.Path.{refl}
 use native.Mathlib.Omega.{arith}
-use borrow.Author.Needs.{needs}
-use lib.ListN.{length, getD}
 use borrow.Author.Tests.{leb-true, leb-false, not-true, not-false}
 use Rattle.timed_sets.specs.FoundLaws.{passed-stands, found-passed, found-none, found-later, run-stands, found-both}
 use Rattle.timed_sets.specs.NodeLaws.{item-below, small-node, stands-next}
 use Rattle.timed_sets.specs.ReachedLaws.{nothing-before}
 use Rattle.timed_sets.specs.TimedCores.{timingAt}
 use Rattle.timed_sets.specs.WholeLaws.{small-at}
-use Prim.Native.Nat.{ℕ, _<_}
 use borrow.Fn.Kinds.{In}
 use borrow.Fn.PlainCycle.{Measures, is, falls, and}
 use Rattle.timed_sets.proofs.search.least_from.Reads as least-from
@@ -39,14 +36,12 @@ least-from-below t =
 abbrev known : ℕ → least-from-lts.Claims
 known t = (is-promising-reads.Asked, is-promising-reads.Learnt, with-whole-reads.Asked, with-whole-reads.Learnt, sets-of-reads.Asked, sets-of-reads.Learnt, passed-over-reads.Asked, passed-over-reads.Learnt, least-from-below t, least-from.Post, is-within-window-reads.Asked, is-within-window-reads.Learnt, next-level-reads.Asked, next-level-reads.Learnt, run-at-reads.Asked, run-at-reads.Learnt)
 
--- src/search.rt:62:9
 least-from-is-promising-requires : (t : ℕ) → least-from-lts.Need-is-promising-requires (known t) (least-from-at t) least-from.Post
 least-from-is-promising-requires t c κs =
     let pre = c .before .before .before .before .pre .1 in
     let its = pre .1 .1 .0 in
     ((_, its .0, its .1, pre .0, pre .1 .0, its .2), pre .1 .1 .1 .at-most-none)
 
--- src/search.rt:63:9
 least-from-returns : (t : ℕ) → least-from-lts.Need-returns (known t) (least-from-at t) least-from.Post
 least-from-returns t c =
     let pre = c .before .before .before .before .before .before .pre .1 in let its = pre .1 .1 .0 in (
@@ -54,12 +49,10 @@ least-from-returns t c =
       pre .1 .1 .1,
     )
 
--- src/search.rt:67:9
 least-from-with-whole-requires : (t : ℕ) → least-from-lts.Need-with-whole-requires (known t) (least-from-at t) least-from.Post
 least-from-with-whole-requires t c κs =
     let pre = c .before .before .before .before .before .before .before .before .pre .1 in let its = pre .1 .1 .0 in (pre .0 .timed-items, its .2 .places)
 
--- src/search.rt:67:9
 least-from-returns-2 : (t : ℕ) → least-from-lts.Need-returns-2 (known t) (least-from-at t) least-from.Post
 least-from-returns-2 t c =
     let pre = c .before .before .before .before .before .before .before .before .before .pre .1 in let its = pre .1 .1 .0 in
@@ -68,27 +61,22 @@ least-from-returns-2 t c =
       c .with-whole .ensures .1 (small-at (pre .0 .timed-items .few-items) whole (its .2)) (pre .1 .1 .1),
     )
 
--- src/search.rt:69:24
 least-from-sub-sets-of : (t : ℕ) → least-from-lts.Need-sub-sets-of (known t) (least-from-at t) least-from.Post
 least-from-sub-sets-of t c =
     let pre = c .before .before .before .before .before .before .before .before .before .pre .1 in let its = pre .1 .1 .0 in omega (arith, item-below (pre .0) (its .2) (c .before .if2 .left))
 
--- src/search.rt:69:24
 least-from-sub-sets-of-2 : (t : ℕ) → least-from-lts.Need-sub-sets-of-2 (known t) (least-from-at t) least-from.Post
 least-from-sub-sets-of-2 t c =
     let pre = c .before .before .before .before .before .before .before .before .before .pre .1 in let its = pre .1 .1 .0 in omega (arith, item-below (pre .0) (its .2) (c .before .if2 .left))
 
--- src/search.rt:69:9
 least-from-sets-of-requires : (t : ℕ) → least-from-lts.Need-sets-of-requires (known t) (least-from-at t) least-from.Post
 least-from-sets-of-requires t c κs =
     let pre = c .before .before .before .before .before .before .before .before .before .pre .1 in let its = pre .1 .1 .0 in omega (arith, pre .0 .timed-items .few-items)
 
--- src/search.rt:71:34
 least-from-passed-over-requires : (t : ℕ) → least-from-lts.Need-passed-over-requires (known t) (least-from-at t) least-from.Post
 least-from-passed-over-requires t c κs =
     let pre = c .before .before .before .before .before .before .before .before .before .before .before .before .pre .1 in let its = pre .1 .1 .0 in small-node (pre .0) (its .2) (c .before .before .before .before .if2 .left)
 
--- src/search.rt:71:9
 least-from-least-from-requires : (t : ℕ) → least-from-lts.Need-least-from-requires (known t) (least-from-at t) least-from.Post
 least-from-least-from-requires t c κs =
     let pre = c .before .before .before .before .before .before .before .before .before .before .before .before .before .pre .1 in let its = pre .1 .1 .0 in
@@ -98,7 +86,6 @@ least-from-least-from-requires t c κs =
       (pre .0, (pre .1 .0, (passed-stands more (c .before .before .before .sets-of .ensures) (c .before .if3 .taken) (its .0) (its .1) (its .2), pre .1 .1 .1))),
     )
 
--- src/search.rt:71:9
 least-from-returns-3 : (t : ℕ) → least-from-lts.Need-returns-3 (known t) (least-from-at t) least-from.Post
 least-from-returns-3 t c =
     let pre = c .before .before .before .before .before .before .before .before .before .before .before .before .before .before .pre .1 in let its = pre .1 .1 .0 in
@@ -108,7 +95,6 @@ least-from-returns-3 t c =
       found .1,
     )
 
--- src/search.rt:75:9
 least-from-returns-4 : (t : ℕ) → least-from-lts.Need-returns-4 (known t) (least-from-at t) least-from.Post
 least-from-returns-4 t c =
     let pre = c .before .before .before .before .before .before .before .before .before .before .before .before .before .before .pre .1 in let its = pre .1 .1 .0 in (
@@ -116,19 +102,16 @@ least-from-returns-4 t c =
       pre .1 .1 .1,
     )
 
--- src/search.rt:77:9
 least-from-is-within-window-requires : (t : ℕ) → least-from-lts.Need-is-within-window-requires (known t) (least-from-at t) least-from.Post
 least-from-is-within-window-requires t c κs =
     let pre = c .before .before .before .before .before .before .before .before .before .before .before .before .before .before .pre .1 in let its = pre .1 .1 .0 in
     let below = item-below (pre .0) (its .2) (c .before .before .before .before .before .before .if2 .left) in
     (omega (arith, below, pre .0 .timed-items .few-items), omega (arith, below, its .2 .level, c .if4 .left, pre .0 .timed-items .few-levels, pre .0 .timed-items .timings-for-all))
 
--- src/search.rt:78:34
 least-from-next-level-requires : (t : ℕ) → least-from-lts.Need-next-level-requires (known t) (least-from-at t) least-from.Post
 least-from-next-level-requires t c κs =
     let pre = c .before .before .before .before .before .before .before .before .before .before .before .before .before .before .before .before .pre .1 in let its = pre .1 .1 .0 in small-node (pre .0) (its .2) (c .before .before .before .before .before .before .before .before .if2 .left)
 
--- src/search.rt:78:9
 least-from-least-from-requires-2 : (t : ℕ) → least-from-lts.Need-least-from-requires-2 (known t) (least-from-at t) least-from.Post
 least-from-least-from-requires-2 t c κs =
     let pre = c .before .before .before .before .before .before .before .before .before .before .before .before .before .before .before .before .before .pre .1 in let its = pre .1 .1 .0 in
@@ -138,7 +121,6 @@ least-from-least-from-requires-2 t c κs =
       (pre .0, (pre .1 .0, ((its .0, its .1, stands-next (pre .0) (its .2) level), pre .1 .1 .1))),
     )
 
--- src/search.rt:78:9
 least-from-returns-5 : (t : ℕ) → least-from-lts.Need-returns-5 (known t) (least-from-at t) least-from.Post
 unfolding timingAt
 least-from-returns-5 t c =
@@ -151,61 +133,51 @@ least-from-returns-5 t c =
       found .1,
     )
 
--- src/search.rt:83:17
 least-from-mul-run-at : (t : ℕ) → least-from-lts.Need-mul-run-at (known t) (least-from-at t) least-from.Post
 least-from-mul-run-at t c =
     let pre = c .before .before .before .before .before .before .before .before .before .before .before .before .before .before .before .before .pre .1 in let its = pre .1 .1 .0 in
     omega (arith, item-below (pre .0) (its .2) (c .before .before .before .before .before .before .before .before .if2 .left), pre .0 .timed-items .few-items, its .2 .level, c .before .before .if4 .left, pre .0 .timed-items .few-levels, pre .0 .timed-items .timings-for-all, pre .0 .costs-for-all)
 
--- src/search.rt:83:17
 least-from-add-run-at : (t : ℕ) → least-from-lts.Need-add-run-at (known t) (least-from-at t) least-from.Post
 least-from-add-run-at t c =
     let pre = c .before .before .before .before .before .before .before .before .before .before .before .before .before .before .before .before .pre .1 in let its = pre .1 .1 .0 in
     omega (arith, item-below (pre .0) (its .2) (c .before .before .before .before .before .before .before .before .if2 .left), pre .0 .timed-items .few-items, its .2 .level, c .before .before .if4 .left, pre .0 .timed-items .few-levels, pre .0 .timed-items .timings-for-all, pre .0 .costs-for-all)
 
--- src/search.rt:83:17
 least-from-add-run-at-2 : (t : ℕ) → least-from-lts.Need-add-run-at-2 (known t) (least-from-at t) least-from.Post
 least-from-add-run-at-2 t c =
     let pre = c .before .before .before .before .before .before .before .before .before .before .before .before .before .before .before .before .pre .1 in let its = pre .1 .1 .0 in
     omega (arith, item-below (pre .0) (its .2) (c .before .before .before .before .before .before .before .before .if2 .left), pre .0 .timed-items .few-items, its .2 .level, c .before .before .if4 .left, pre .0 .timed-items .few-levels, pre .0 .timed-items .timings-for-all, pre .0 .costs-for-all)
 
--- src/search.rt:83:9
 least-from-mul-run-at-2 : (t : ℕ) → least-from-lts.Need-mul-run-at-2 (known t) (least-from-at t) least-from.Post
 least-from-mul-run-at-2 t c =
     let pre = c .before .before .before .before .before .before .before .before .before .before .before .before .before .before .before .before .pre .1 in let its = pre .1 .1 .0 in
     omega (arith, item-below (pre .0) (its .2) (c .before .before .before .before .before .before .before .before .if2 .left), pre .0 .timed-items .few-items, its .2 .level, c .before .before .if4 .left, pre .0 .timed-items .few-levels, pre .0 .timed-items .timings-for-all, pre .0 .costs-for-all)
 
--- src/search.rt:83:9
 least-from-shared-slice-read-run-at : (t : ℕ) → least-from-lts.Need-shared-slice-read-run-at (known t) (least-from-at t) least-from.Post
 least-from-shared-slice-read-run-at t c =
     let pre = c .before .before .before .before .before .before .before .before .before .before .before .before .before .before .before .before .before .pre .1 in let its = pre .1 .1 .0 in
     omega (arith, item-below (pre .0) (its .2) (c .before .before .before .before .before .before .before .before .before .if2 .left), pre .0 .timed-items .few-items, its .2 .level, c .before .before .before .if4 .left, pre .0 .timed-items .few-levels, pre .0 .timed-items .timings-for-all, pre .0 .costs-for-all)
 
--- src/search.rt:84:14
 least-from-mul-run-at-3 : (t : ℕ) → least-from-lts.Need-mul-run-at-3 (known t) (least-from-at t) least-from.Post
 least-from-mul-run-at-3 t c =
     let pre = c .before .before .before .before .before .before .before .before .before .before .before .before .before .before .before .before .before .pre .1 in let its = pre .1 .1 .0 in
     omega (arith, item-below (pre .0) (its .2) (c .before .before .before .before .before .before .before .before .before .if2 .left), pre .0 .timed-items .few-items, its .2 .level, c .before .before .before .if4 .left, pre .0 .timed-items .few-levels, pre .0 .timed-items .timings-for-all, pre .0 .costs-for-all)
 
--- src/search.rt:84:14
 least-from-add-run-at-3 : (t : ℕ) → least-from-lts.Need-add-run-at-3 (known t) (least-from-at t) least-from.Post
 least-from-add-run-at-3 t c =
     let pre = c .before .before .before .before .before .before .before .before .before .before .before .before .before .before .before .before .before .pre .1 in let its = pre .1 .1 .0 in
     omega (arith, item-below (pre .0) (its .2) (c .before .before .before .before .before .before .before .before .before .if2 .left), pre .0 .timed-items .few-items, its .2 .level, c .before .before .before .if4 .left, pre .0 .timed-items .few-levels, pre .0 .timed-items .timings-for-all, pre .0 .costs-for-all)
 
--- src/search.rt:84:9
 least-from-mul-run-at-4 : (t : ℕ) → least-from-lts.Need-mul-run-at-4 (known t) (least-from-at t) least-from.Post
 least-from-mul-run-at-4 t c =
     let pre = c .before .before .before .before .before .before .before .before .before .before .before .before .before .before .before .before .before .pre .1 in let its = pre .1 .1 .0 in
     omega (arith, item-below (pre .0) (its .2) (c .before .before .before .before .before .before .before .before .before .if2 .left), pre .0 .timed-items .few-items, its .2 .level, c .before .before .before .if4 .left, pre .0 .timed-items .few-levels, pre .0 .timed-items .timings-for-all, pre .0 .costs-for-all)
 
--- src/search.rt:84:9
 least-from-shared-slice-read-run-at-2 : (t : ℕ) → least-from-lts.Need-shared-slice-read-run-at-2 (known t) (least-from-at t) least-from.Post
 least-from-shared-slice-read-run-at-2 t c =
     let pre = c .before .before .before .before .before .before .before .before .before .before .before .before .before .before .before .before .before .before .pre .1 in let its = pre .1 .1 .0 in
     omega (arith, item-below (pre .0) (its .2) (c .before .before .before .before .before .before .before .before .before .before .if2 .left), pre .0 .timed-items .few-items, its .2 .level, c .before .before .before .before .if4 .left, pre .0 .timed-items .few-levels, pre .0 .timed-items .timings-for-all, pre .0 .costs-for-all)
 
--- src/search.rt:80:9
 least-from-run-at-requires : (t : ℕ) → least-from-lts.Need-run-at-requires (known t) (least-from-at t) least-from.Post
 unfolding timingAt
 least-from-run-at-requires t c κs =
@@ -215,7 +187,6 @@ least-from-run-at-requires t c κs =
     let within = leb-true _ _ (not-false _ (rw (c .before .before .before .is-within-window .ensures) at (c .before .before .if5 .left))) in
     (small-node (pre .0) (its .2) (c .before .before .before .before .before .before .before .before .before .before .if2 .left), (omega (arith, c .before .before .before .before .before .before .if3 .left), pre .0 .cheap _ _ below (omega (arith, its .2 .level)) within))
 
--- src/search.rt:86:9
 least-from-least-from-requires-3 : (t : ℕ) → least-from-lts.Need-least-from-requires-3 (known t) (least-from-at t) least-from.Post
 unfolding timingAt
 least-from-least-from-requires-3 t c κs =
@@ -227,12 +198,10 @@ least-from-least-from-requires-3 t c κs =
       (pre .0, (pre .1 .0, (run-stands more (c .before .before .before .before .before .before .before .before .before .sets-of .ensures) (pre .0) (omega (arith, c .before .before .before .before .before .before .before .if3 .left)) (c .before .before .before .before .before .if4 .left) refl refl within (its .0) (its .1) (its .2), pre .1 .1 .1))),
     )
 
--- src/search.rt:87:23
 least-from-next-level-requires-2 : (t : ℕ) → least-from-lts.Need-next-level-requires-2 (known t) (least-from-at t) least-from.Post
 least-from-next-level-requires-2 t c κs =
     let pre = c .before .before .before .before .before .before .before .before .before .before .before .before .before .before .before .before .before .before .before .before .pre .1 in let its = pre .1 .1 .0 in small-node (pre .0) (its .2) (c .before .before .before .before .before .before .before .before .before .before .before .before .if2 .left)
 
--- src/search.rt:87:5
 least-from-least-from-requires-4 : (t : ℕ) → least-from-lts.Need-least-from-requires-4 (known t) (least-from-at t) least-from.Post
 least-from-least-from-requires-4 t c κs =
     let pre = c .before .before .before .before .before .before .before .before .before .before .before .before .before .before .before .before .before .before .before .before .before .pre .1 in let its = pre .1 .1 .0 in
@@ -242,7 +211,6 @@ least-from-least-from-requires-4 t c κs =
       (pre .0, (pre .1 .0, ((its .0, its .1, stands-next (pre .0) (its .2) level), c .before .least-from3 .ensures .1))),
     )
 
--- src/search.rt:45:1
 least-from-returns-6 : (t : ℕ) → least-from-lts.Need-returns-6 (known t) (least-from-at t) least-from.Post
 unfolding timingAt
 least-from-returns-6 t c =

@@ -3,7 +3,6 @@ use Prim.Native.Nat.{_-_}
 use native.Mathlib.Omega.{arith}
 use borrow.Author.Needs.{needs}
 use lib.Pow.{pow-pos}
-use borrow.Author.Needs.{needs}
 use Rattle.timed_sets.proofs.servable.fewest_in_set.Statement.{statement}
 use Rattle.timed_sets.proofs.servable.fewest_in_set.Tie as tie
 

@@ -13,63 +13,48 @@ Inv-loop item levels timings fewest₀ level₀ fewest level = FewestTicks timin
 abbrev μ-loop : tie.MeasureT-loop
 μ-loop item levels timings fewest₀ level₀ fewest level = levels - level
 
--- src/servable.rt:27:30
 mul-fewest : tie.Need-mul-fewest Inv-loop μ-loop
 mul-fewest c = search needs
 
--- src/servable.rt:27:30
 add-fewest : tie.Need-add-fewest Inv-loop μ-loop
 add-fewest c = search needs
 
--- src/servable.rt:27:22
 mul-fewest-2 : tie.Need-mul-fewest-2 Inv-loop μ-loop
 mul-fewest-2 c = search needs
 
--- src/servable.rt:27:22
 shared-slice-read-fewest : tie.Need-shared-slice-read-fewest Inv-loop μ-loop
 shared-slice-read-fewest c = search needs
 
--- src/servable.rt:29:5
 loop-holds : tie.Need-loop-holds Inv-loop μ-loop
 loop-holds c = at-first-level
 
--- src/servable.rt:30:40
 mul-fewer : tie.Need-mul-fewer Inv-loop μ-loop
 mul-fewer c = search needs
 
--- src/servable.rt:30:40
 add-fewer : tie.Need-add-fewer Inv-loop μ-loop
 add-fewer c = search needs
 
--- src/servable.rt:30:40
 add-fewer-2 : tie.Need-add-fewer-2 Inv-loop μ-loop
 add-fewer-2 c = search needs
 
--- src/servable.rt:30:32
 mul-fewer-2 : tie.Need-mul-fewer-2 Inv-loop μ-loop
 mul-fewer-2 c = search needs
 
--- src/servable.rt:30:32
 shared-slice-read-fewer : tie.Need-shared-slice-read-fewer Inv-loop μ-loop
 shared-slice-read-fewer c = search needs
 
--- src/servable.rt:30:9
 fewer-requires : tie.Need-fewer-requires Inv-loop μ-loop
 fewer-requires c κs = search needs
 
--- src/servable.rt:31:9
 add-level : tie.Need-add-level Inv-loop μ-loop
 add-level c = search needs
 
--- src/servable.rt:29:5
 loop-less : tie.Need-loop-less Inv-loop μ-loop
 loop-less c = search needs
 
--- src/servable.rt:29:5
 loop-again : tie.Need-loop-again Inv-loop μ-loop
 loop-again c = at-one-level-more (c .before .before .before .loop .inv) (c .fewer .ensures .0) (c .fewer .ensures .1)
 
--- src/servable.rt:23:1
 returns : tie.Need-returns Inv-loop μ-loop
 returns c = record { at-most = λ l h. c .before .loop .inv .at-most l (omega (arith, c .loop-test .left)) }
 

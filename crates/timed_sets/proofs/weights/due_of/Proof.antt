@@ -1,14 +1,8 @@
-use Prim.Native.Nat.{ℕ, zero, suc, _+_, _-_, _*_, _≤_, _<_}
-use mathlib.Core.Path.{_≡_, refl, sym, _∙_}
-use native.Mathlib.Omega.{arith}
+use Prim.Native.Nat.{_-_, _*_, _≤_}
 use borrow.Author.Needs.{needs}
-use lib.ListN.{length, getD}
 use Rattle.ranges.specs.Limits.{mostSpan, mostWord}
 use Rattle.timed_sets.proofs.weights.due_of.Statement.{statement}
 use Rattle.timed_sets.proofs.weights.due_of.Tie as tie
-use Rattle.timed_sets.proofs.weights.due_of.Reads as reads
-use Rattle.timed_sets.proofs.weights.due_of.Lts as lts
-use Rattle.timed_sets.proofs.weights.ticks_of_jobs.Reads as ticks-of-jobs-reads
 
 abbrev Inv-loop : tie.InvT-loop
 Inv-loop items ticks jobs due₀ i₀ due i = (i ≤ items) × (due ≤ i * (mostWord * mostSpan))

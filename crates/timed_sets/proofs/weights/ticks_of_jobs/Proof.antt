@@ -1,14 +1,9 @@
-use Prim.Native.Nat.{ℕ, zero, suc, _+_, _-_, _*_, _≤_, _<_}
-use mathlib.Core.Path.{_≡_, refl, sym, _∙_}
+use Prim.Native.Nat.{_≤_}
 use native.Mathlib.Omega.{arith}
-use borrow.Author.Needs.{needs}
-use lib.ListN.{length, getD}
 use native.Mathlib.Nat.{mul-le-mul}
-use Rattle.ranges.specs.Limits.{mostSpan, mostWord}
+use Rattle.ranges.specs.Limits.{mostWord}
 use Rattle.timed_sets.proofs.weights.ticks_of_jobs.Statement.{statement}
 use Rattle.timed_sets.proofs.weights.ticks_of_jobs.Tie as tie
-use Rattle.timed_sets.proofs.weights.ticks_of_jobs.Reads as reads
-use Rattle.timed_sets.proofs.weights.ticks_of_jobs.Lts as lts
 
 mul-result : tie.Need-mul-result
 mul-result c =

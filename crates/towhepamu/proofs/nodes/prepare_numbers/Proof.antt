@@ -1,4 +1,3 @@
-use mathlib.Core.Path.{refl}
 use borrow.Author.Needs.{needs}
 use Rattle.towhepamu.proofs.nodes.prepare_numbers.Statement.{statement}
 use Rattle.towhepamu.proofs.nodes.prepare_numbers.Tie as tie

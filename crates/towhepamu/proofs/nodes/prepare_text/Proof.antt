@@ -2,7 +2,7 @@ use mathlib.Core.Path.{sym}
 use native.Mathlib.Omega.{arith}
 use lib.Seq.{length-take-le}
 use Rattle.text.specs.NumberCountLaws.{FrontIsText, text-is-refused, words-at-front}
-use Rattle.towhepamu.specs.PreparedNodes.{TextPrepares, text-refused, words-prepared}
+use Rattle.towhepamu.specs.PreparedNodes.{text-refused, words-prepared}
 use borrow.Author.Needs.{needs}
 use Rattle.towhepamu.proofs.nodes.prepare_text.Statement.{statement}
 use Rattle.towhepamu.proofs.nodes.prepare_text.Tie as tie
