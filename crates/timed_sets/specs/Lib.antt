@@ -9,12 +9,14 @@ pub mod PriceColumns
 pub mod PricedLevels
 pub mod TickColumns
 pub mod Exceeded
+pub mod Ascents
 pub mod NodeLaws
 pub mod AdmittedLaws
 pub mod LagrangianLaws
 pub mod DualBoundLaws
 pub mod ColumnLaws
 pub mod PriceLaws
+pub mod AscentLaws
 pub mod PricedLevelLaws
 pub mod BoundLaws
 pub mod ServableLaws

@@ -12,7 +12,7 @@ ghost use Rattle.timed_sets.specs.Nodes.{TimedReady};
 ghost use Rattle.timed_sets.specs.Lagrangians.{mostPrice};
 ghost use Rattle.timed_sets.specs.PriceColumns.{LowPrices};
 
-fn is_in_set(items: usize, set: usize, item: usize) -> bool
+pub(crate) fn is_in_set(items: usize, set: usize, item: usize) -> bool
     requires { ⌜ (item < items) × (items ≤ mostItems) ⌝ }
 {
     (set >> (items - 1 - item)) & 1 == 1

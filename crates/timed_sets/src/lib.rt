@@ -1,21 +1,27 @@
 // The least value of one set of items on a core whose jobs are due at given ticks: depth first over the items of the set and their
 // levels. Items are offered at what they cost alone.
+mod ascent;
 mod bounds;
 mod choices;
 mod columns;
 mod dual_bound;
 mod exceeded;
+mod few_items;
 mod given;
 mod least;
 mod multipliers;
 mod nodes;
+mod places;
 mod prices;
 mod relaxation;
 mod search;
 mod servable;
+mod set_bounds;
+mod slopes;
 mod weights;
 
 use bounds::bound_comes_first;
+pub use few_items::has_few_items;
 use given::worth_along;
 use least::least_by_search;
 use prices::free;

@@ -1,8 +1,11 @@
 // Which ticks to weigh, and how much, so that the Lagrangian of the prices bounds the cost of a set of items well. Whatever is chosen, the
 // prices stay within their budget; how good the choice is was measured, and nothing is claimed of it.
 use crate::Timed;
+use crate::ascent::ascended;
 use crate::choices::cheapest_ticks;
 use crate::exceeded::exceeded_tick;
+use crate::few_items::has_few_items;
+use crate::places::place_for;
 use crate::prices::Prices;
 use crate::prices::free;
 use crate::prices::jobs_by;
@@ -10,26 +13,27 @@ use crate::prices::with_tick;
 use crate::weights::Fitting;
 use crate::weights::least_weight;
 ghost use mathlib.Core.Path.{_≡_};
-ghost use Prim.Native.Nat.{_≤_, _<_};
+ghost use Prim.Native.Nat.{_<_};
 ghost use lib.ListN.{length};
 ghost use Rattle.timed_sets.specs.Nodes.{TimedItems, TimedReady};
 ghost use Rattle.timed_sets.specs.Lagrangians.{WithinBudget};
 ghost use Rattle.timed_sets.specs.PriceColumns.{mostTicks};
+ghost use Rattle.timed_sets.specs.Ascents.{Placed};
 
 // How many ticks are weighed at most. Tick 0, by which nothing is due, stands where a place is free.
-const MOST_TICKS: usize = 8;
+pub(crate) const MOST_TICKS: usize = 8;
 
 // How often a tick is added and all weights are fitted.
 const ROUNDS: usize = 24;
 
 // The ticks that are weighed, and their weights.
-struct Multipliers {
-    ticks: [u32; MOST_TICKS],
-    weights: [u64; MOST_TICKS],
+pub(crate) struct Multipliers {
+    pub(crate) ticks: [u32; MOST_TICKS],
+    pub(crate) weights: [u64; MOST_TICKS],
 }
 
 // The prices of ticks with weights.
-fn prices_of(
+pub(crate) fn prices_of(
     timed: Timed,
     ticks: [u32; MOST_TICKS],
     weights: [u64; MOST_TICKS],
@@ -102,26 +106,6 @@ fn fitted_weights(
     fitted
 }
 
-// The place of a tick, or a free one for it; the number of places where there is none, and for tick 0.
-fn place_for(tick: u32, ticks: [u32; MOST_TICKS]) -> usize
-    ensures { λ r. ⌜ r ≤ mostTicks ⌝ }
-{
-    if tick == 0 {
-        return MOST_TICKS;
-    }
-    let mut n = 0;
-    while n < MOST_TICKS {
-        if ticks[n] == tick {
-            return n;
-        }
-        if ticks[n] == 0 {
-            return n;
-        }
-        n += 1;
-    }
-    n
-}
-
 // The tick that is exceeded most at the levels that are cheapest at these prices; 0 where none is.
 fn exceeded_at(timed: Timed, set: usize, known: Prices, timings: &[u32], cost: &[u64]) -> u32
     requires { ⌜ TimedReady timed (now timings) (now cost) ⌝ }
@@ -143,8 +127,8 @@ fn with_unmet(
     cost: &[u64],
 ) -> Multipliers
     requires { ⌜ TimedReady timed (now timings) (now cost) ⌝ }
-    requires { ⌜ (place < mostTicks) × (length (weighed .ticks) ≡ mostTicks) × (length (weighed .weights) ≡ mostTicks) ⌝ }
-    ensures { λ r. ⌜ (length (r .ticks) ≡ mostTicks) × (length (r .weights) ≡ mostTicks) ⌝ }
+    requires { ⌜ (place < mostTicks) × Placed weighed ⌝ }
+    ensures { λ r. ⌜ Placed r ⌝ }
 {
     let mut ticks = weighed.ticks;
     let weights = weighed.weights;
@@ -156,10 +140,10 @@ fn with_unmet(
     }
 }
 
-// Prices for a set: while at the cheapest levels too much is due by some tick, that tick is weighed too.
-pub(crate) fn find_prices(timed: Timed, set: usize, timings: &[u32], cost: &[u64]) -> Prices
+// Weights for a set: while at the cheapest levels too much is due by some tick, that tick is weighed too.
+fn fitted_multipliers(timed: Timed, set: usize, timings: &[u32], cost: &[u64]) -> Multipliers
     requires { ⌜ TimedReady timed (now timings) (now cost) ⌝ }
-    ensures { λ r. ⌜ WithinBudget timed (now (timings .entry)) (r .prices) (r .budget) ⌝ }
+    ensures { λ r. ⌜ Placed r ⌝ }
 {
     let mut weighed = Multipliers {
         ticks: [0; MOST_TICKS],
@@ -172,7 +156,7 @@ pub(crate) fn find_prices(timed: Timed, set: usize, timings: &[u32], cost: &[u64
         let ticks = weighed.ticks;
         let place = place_for(tick, ticks);
         if place == MOST_TICKS {
-            return known;
+            return weighed;
         }
         weighed = with_unmet(timed, set, weighed, place, tick, timings, cost);
         let after = weighed.ticks;
@@ -180,5 +164,28 @@ pub(crate) fn find_prices(timed: Timed, set: usize, timings: &[u32], cost: &[u64
         known = prices_of(timed, after, weights, timings);
         round += 1;
     }
-    known
+    weighed
+}
+
+// The fitted weights, made better by steps. A set of few items is searched in less time than the steps take.
+fn best_multipliers(timed: Timed, set: usize, timings: &[u32], cost: &[u64]) -> Multipliers
+    requires { ⌜ TimedReady timed (now timings) (now cost) ⌝ }
+    ensures { λ r. ⌜ Placed r ⌝ }
+{
+    let fitted = fitted_multipliers(timed, set, timings, cost);
+    if has_few_items(timed.items, set) {
+        return fitted;
+    }
+    ascended(timed, set, fitted, timings, cost)
+}
+
+// Prices for a set.
+pub(crate) fn find_prices(timed: Timed, set: usize, timings: &[u32], cost: &[u64]) -> Prices
+    requires { ⌜ TimedReady timed (now timings) (now cost) ⌝ }
+    ensures { λ r. ⌜ WithinBudget timed (now (timings .entry)) (r .prices) (r .budget) ⌝ }
+{
+    let weighed = best_multipliers(timed, set, timings, cost);
+    let ticks = weighed.ticks;
+    let weights = weighed.weights;
+    prices_of(timed, ticks, weights, timings)
 }

@@ -30,7 +30,7 @@ fn ticks_of_jobs(ticks: u32, jobs: u32) -> u64
 }
 
 // The ticks of so many jobs of each item.
-fn due_of(items: usize, ticks: [u32; MOST_ITEMS], jobs: [u32; MOST_ITEMS]) -> u64
+pub(crate) fn due_of(items: usize, ticks: [u32; MOST_ITEMS], jobs: [u32; MOST_ITEMS]) -> u64
     requires { ⌜ items ≤ mostItems ⌝ }
     requires { ⌜ length ticks ≡ mostItems ⌝ }
     requires { ⌜ FewJobs jobs ⌝ }

@@ -1,8 +1,8 @@
 use Prim.Native.Nat.{_-_, _≤_}
 use borrow.Author.Needs.{needs}
 use Rattle.timed_sets.specs.PriceColumns.{mostTicks}
-use Rattle.timed_sets.proofs.multipliers.place_for.Statement.{statement}
-use Rattle.timed_sets.proofs.multipliers.place_for.Tie as tie
+use Rattle.timed_sets.proofs.places.place_for.Statement.{statement}
+use Rattle.timed_sets.proofs.places.place_for.Tie as tie
 
 abbrev Inv-loop : tie.InvT-loop
 Inv-loop tick ticks n₀ n = n ≤ mostTicks

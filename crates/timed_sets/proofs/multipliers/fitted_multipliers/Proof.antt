@@ -1,16 +1,15 @@
 use Prim.Native.Nat.{_-_, _≤_}
-use mathlib.Core.Path.{_≡_, refl}
+use mathlib.Core.Path.{refl}
 use native.Mathlib.Omega.{arith}
 use borrow.Author.Needs.{needs}
-use lib.ListN.{length}
 use Rattle.timed_sets.specs.Lagrangians.{WithinBudget}
-use Rattle.timed_sets.specs.PriceColumns.{mostTicks}
-use Rattle.timed_sets.proofs.multipliers.find_prices.Statement.{statement}
-use Rattle.timed_sets.proofs.multipliers.find_prices.Tie as tie
+use Rattle.timed_sets.specs.Ascents.{Placed}
+use Rattle.timed_sets.proofs.multipliers.fitted_multipliers.Statement.{statement}
+use Rattle.timed_sets.proofs.multipliers.fitted_multipliers.Tie as tie
 
 abbrev Inv-loop : tie.InvT-loop
 Inv-loop timed set timings cost weighed₀ known₀ round₀ weighed known round =
-    (round ≤ 24) × WithinBudget timed timings (known .prices) (known .budget) × (length (weighed .ticks) ≡ mostTicks) × (length (weighed .weights) ≡ mostTicks)
+    (round ≤ 24) × WithinBudget timed timings (known .prices) (known .budget) × Placed weighed
 
 abbrev μ-loop : tie.MeasureT-loop
 μ-loop timed set timings cost weighed₀ known₀ round₀ weighed known round = 24 - round
@@ -19,7 +18,7 @@ free-requires : tie.Need-free-requires Inv-loop μ-loop
 free-requires c κs = search needs
 
 loop-holds : tie.Need-loop-holds Inv-loop μ-loop
-loop-holds c = (omega arith, c .free .ensures _ _, refl, refl)
+loop-holds c = (omega arith, c .free .ensures _ _, (refl, refl))
 
 exceeded-at-requires : tie.Need-exceeded-at-requires Inv-loop μ-loop
 exceeded-at-requires c κs = search needs
@@ -48,8 +47,8 @@ loop-again c = search needs
 returns-2 : tie.Need-returns-2 Inv-loop μ-loop
 returns-2 c = search needs
 
-pub find-prices-spec : {M : Type 1} → statement M
-find-prices-spec =
+pub fitted-multipliers-spec : {M : Type 1} → statement M
+fitted-multipliers-spec =
     tie.close
     (tie.spec
     Inv-loop

@@ -1,0 +1,48 @@
+-- How large the numbers are by which weights of ticks are made better, so that all sums and products fit 64 bits.
+use Prim.Native.Nat.{ℕ, _*_, _≤_}
+use mathlib.Core.List.{List}
+use mathlib.Core.Path.{_≡_}
+use lib.ListN.{length, getD}
+use Rattle.assignment.specs.Limits.{mostItems}
+use Rattle.timed_sets.specs.Lagrangians.{mostPriced}
+use Rattle.timed_sets.specs.PriceColumns.{mostTicks}
+use Rattle.timed_sets.specs.declared.ascent.Ascent.{Ascent}
+use Rattle.timed_sets.specs.declared.multipliers.Multipliers.{Multipliers}
+use Rattle.timed_sets.specs.declared.slopes.Slope.{Slope}
+
+-- 2^16 and 2^40
+abbrev pub mostExcess : ℕ
+mostExcess = 65536
+
+abbrev pub mostGap : ℕ
+mostGap = 1099511627776
+
+-- the squares of all excesses: for each tick by how much it is exceeded, and by how much it is not reached
+abbrev pub mostSquare : ℕ
+mostSquare = mostTicks * (2 * (mostExcess * mostExcess))
+
+-- what a set costs at most at its cheapest levels, the ticks at their prices included
+abbrev pub mostBound : ℕ
+mostBound = mostItems * mostPriced
+
+-- after so many steps without a gain the steps become shorter
+abbrev pub patience : ℕ
+patience = 10
+
+abbrev pub Placed : Multipliers → Type 0
+Placed weighed = (length (weighed .ticks) ≡ mostTicks) × (length (weighed .weights) ≡ mostTicks)
+
+pub record SmallExcesses (excesses : List ℕ) : Type 0 where
+  pub places : length excesses ≡ mostTicks
+  pub small : (n : ℕ) → getD excesses n 0 ≤ mostExcess
+
+pub record SmallSlope (slope : Slope) : Type 0 where
+  pub over : SmallExcesses (slope .over)
+  pub under : SmallExcesses (slope .under)
+  pub square : slope .square ≤ mostSquare
+
+pub record SmallAscent (ascent : Ascent) : Type 0 where
+  pub next : Placed (ascent .next)
+  pub best : Placed (ascent .best)
+  pub value : ascent .value ≤ mostBound
+  pub aim : ascent .aim ≤ mostBound
