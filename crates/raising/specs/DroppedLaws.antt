@@ -2,11 +2,10 @@
 use Prim.Native.Nat.{ℕ, _≤_, _<_}
 use mathlib.Core.Bool.{Bool}
 use mathlib.Core.List.{List}
-use mathlib.Core.Logic.{_⊎_, inl, inr, _≢_}
+use mathlib.Core.Logic.{_⊎_, inl, inr}
 use mathlib.Core.Path.{_≡_, refl, ap, _∙_}
 use native.Mathlib.Omega.{arith}
-use lib.ListN.{length, getD, set, length-set}
-use lib.Seq.{getD-set-same, getD-set-other}
+use lib.ListN.{length, getD}
 use Rattle.laws.specs.Truth.{false-not-true}
 use Rattle.assignment.specs.CoreTables.{Admitted, patternWorth, Keyed}
 use Rattle.assignment.specs.Sets.{setNumber, tableAt}
@@ -15,21 +14,13 @@ use Rattle.assignment.specs.Words.{noCost, valueOf, words-none}
 use Rattle.timed_sets.specs.TickColumns.{NoneServes}
 use Rattle.timed_sets.specs.TimedCores.{timedOptions}
 use Rattle.timed_sets.specs.declared.Timed.{Timed}
-use Rattle.raising.specs.LiftedTables.{DroppedTo, stays, dropped, Dropped}
-use Rattle.raising.specs.RaisedTables.{same-or-other}
+use Rattle.raising.specs.DroppedTables.{DroppedTo, stays, dropped, Dropped}
 use Rattle.raising.specs.TimedSites.{timedOf, coreOf, SiteRaised}
 use Rattle.raising.specs.declared.Site.{Site}
 
 module _ {timed : Timed} {timings : List ℕ} where
   pub none-dropped : {costs : List ℕ} → Dropped timed timings costs costs
   none-dropped = record { places = refl; cost = λ y. stays refl }
-
-  pub one-dropped : {x : ℕ} {costs : List ℕ} → NoneServes timed x timings → x < length costs → Dropped timed timings costs (set costs x noCost)
-  one-dropped {x} {costs} unserved room = record { places = length-set costs x noCost; cost = λ y. go y (same-or-other y x) }
-    where
-      go : (y : ℕ) → (y ≡ x) ⊎ (y ≢ x) → DroppedTo timed timings y (getD costs y 0) (getD (set costs x noCost) y 0)
-      go y (inl this) = rw this (dropped unserved (getD-set-same costs x noCost 0 room))
-      go y (inr other) = stays (getD-set-other costs x y noCost 0 other)
 
   pub dropped-after : {before between after : List ℕ} → Dropped timed timings before between → Dropped timed timings between after →
       Dropped timed timings before after
@@ -48,7 +39,7 @@ module _ (site : Site) {timings : List ℕ} (cost : List ℕ) {costs keys : List
       Admitted (coreOf site timings cost) S pattern → ⊥
   unfolding coreOf timedOptions
   unserved S of-items none-serves pattern admitted =
-      false-not-true (none-serves .refused S of-items refl cost pattern (admitted .keeps)) (admitted .admitted)
+      false-not-true (none-serves .refused S of-items (record { out-of-both = λ i l out. out }) cost pattern (admitted .keeps)) (admitted .admitted)
 
   -- a value is as it was, or none where nothing is admitted
   value : (S : List Bool) → length S ≡ site .items →

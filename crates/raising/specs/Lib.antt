@@ -11,4 +11,6 @@ pub mod StartTables
 pub mod LiftedTables
 pub mod LiftingLaws
 pub mod LiftedLaws
+pub mod DroppedTables
 pub mod DroppedLaws
+pub mod DroppingLaws

@@ -1,5 +1,4 @@
--- A table whose entries are raised to what a Lagrangian relaxation of a core says of their sets, and one that has none where a set
--- cannot be served.
+-- A table whose entries are raised to what a Lagrangian relaxation of a core says of their sets.
 use Prim.Native.Nat.{ℕ, _+_, _^_, _≤_, _<_}
 use mathlib.Core.Bool.{Bool}
 use mathlib.Core.List.{List}
@@ -9,12 +8,9 @@ use lib.ListN.{length, getD}
 use Rattle.assignment.specs.Keys.{weight}
 use Rattle.assignment.specs.Limits.{mostCoreCost, mostItems}
 use Rattle.assignment.specs.Sets.{setNumber}
-use Rattle.assignment.specs.Words.{noCost}
 use Rattle.partition.specs.Tables.{SmallTable}
 use Rattle.timed_sets.specs.Lagrangians.{leastPriced, mostBudget, mostPriced}
-use Rattle.timed_sets.specs.TickColumns.{NoneServes}
 use Rattle.timed_sets.specs.declared.Lagrangian.{Lagrangian}
-use Rattle.timed_sets.specs.declared.Timed.{Timed}
 
 -- the second half of the sets of one item more: the first x of them have what those without the item have, and the amount
 pub record AddedBelow (half amount x : ℕ) (before after : List ℕ) : Type 0 where
@@ -61,12 +57,3 @@ pub record LiftedBelow (n : ℕ) (relaxed : Lagrangian) (x : ℕ) (costs₀ keys
       (getD costs (setNumber n S) 0) (getD keys (setNumber n S) 0)
   pub from-costs : (y : ℕ) → x ≤ y → getD costs y 0 ≡ getD costs₀ y 0
   pub from-keys : (y : ℕ) → x ≤ y → getD keys y 0 ≡ getD keys₀ y 0
-
--- a cost stays, or is none where no pattern serves the set
-pub data DroppedTo (timed : Timed) (timings : List ℕ) (set cost newCost : ℕ) : Type 0 where
-  stays : newCost ≡ cost → DroppedTo timed timings set cost newCost
-  dropped : NoneServes timed set timings → newCost ≡ noCost → DroppedTo timed timings set cost newCost
-
-pub record Dropped (timed : Timed) (timings before after : List ℕ) : Type 0 where
-  pub places : length after ≡ length before
-  pub cost : (y : ℕ) → DroppedTo timed timings y (getD before y 0) (getD after y 0)

@@ -1,15 +1,17 @@
 // The best plan where jobs may be due before their period's end. Partition and keeping search a table of lower values, at first
 // those of load alone; the entries of the plan that they find are made exact, until the found plan's all are.
+mod dropping;
 mod lifting;
 mod rounds;
 mod sets;
 
+use dropping::drop_unservable;
 use knapsack::Core;
 use knapsack_tables::fill_knapsacks;
-use lifting::drop_unservable;
 use rounds::least_in_rounds;
 use search::Found;
 use search::write_plan;
+use timed_sets::Timed;
 use values::MOST_SETS;
 use values::NO_COST;
 ghost use Prim.Native.Nat.{_≤_};
@@ -50,7 +52,12 @@ pub fn cheapest_in_time(
         capacity: site.span as usize,
     };
     fill_knapsacks(core, site.items, load, cost, &mut costs, &mut keys);
-    drop_unservable(site, timings, &mut costs);
+    let timed = Timed {
+        items: site.items,
+        levels: site.levels,
+        span: site.span,
+    };
+    drop_unservable(timed, 0, 0, false, timings, &mut costs);
     let best = least_in_rounds(site, timings, cost, refusal, must, &mut costs, &mut keys);
     if NO_COST <= best.cost {
         return Found::NoPlan;

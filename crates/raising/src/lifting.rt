@@ -1,25 +1,19 @@
 // The table of lower values, raised by what is known of all sets at once.
-use crate::Site;
-use partition::fill_weights;
 use timed_sets::Lagrangian;
-use timed_sets::Timed;
-use timed_sets::is_servable;
 use values::MOST_COST;
 use values::MOST_ITEMS;
 use values::MOST_SETS;
-use values::NO_COST;
 use values::Worth;
 use values::sets_of;
-ghost use Prim.Native.Nat.{_^_, _≤_, _<_};
+ghost use Prim.Native.Nat.{_^_, _≤_};
 ghost use lib.ListN.{length};
 ghost use Rattle.assignment.specs.Words.{noCost};
+ghost use Rattle.partition.specs.Moves.{WeightsBelow};
 ghost use Rattle.timed_sets.specs.Lagrangians.{leastPriced, mostBudget};
-ghost use Rattle.timed_sets.specs.Nodes.{TimedItems};
-ghost use Rattle.raising.specs.LiftedTables.{AddedBelow, RoomToAdd, SumsReady, NumberedBy, LiftedTo, LiftReady, LiftedBelow, Dropped};
-ghost use Rattle.raising.specs.TimedSites.{timedOf};
+ghost use Rattle.raising.specs.LiftedTables.{AddedBelow, RoomToAdd, SumsReady, NumberedBy, LiftedTo, LiftReady, LiftedBelow};
 
 // The most that a core may cost.
-const MOST_CORE_COST: u64 = MOST_ITEMS as u64 * MOST_COST;
+pub(crate) const MOST_CORE_COST: u64 = MOST_ITEMS as u64 * MOST_COST;
 
 // From the numbers of all sets without an item, number `half` of the sets, those of the sets with it.
 fn add_item(half: usize, amount: u64, sums: &mut [u64])
@@ -34,7 +28,7 @@ fn add_item(half: usize, amount: u64, sums: &mut [u64])
 }
 
 // What the items of each set are priced at least.
-fn fill_sums(items: usize, least: [u64; MOST_ITEMS], sums: &mut [u64])
+pub(crate) fn fill_sums(items: usize, least: [u64; MOST_ITEMS], sums: &mut [u64])
     requires { ⌜ SumsReady items least (now sums) ⌝ }
     ensures { λ _. ⌜ NumberedBy items (leastPriced least 0) (now (sums .exit)) ⌝ }
 {
@@ -65,15 +59,21 @@ fn lifted(old: Worth, sum: u64, key: u64, budget: u64) -> Worth
 }
 
 // Raises each set's entry to the Lagrangian's bound where that is higher, with the least key that a pattern of the set can have.
-pub(crate) fn lift_all(items: usize, relaxed: Lagrangian, costs: &mut [u64], keys: &mut [u64])
+pub(crate) fn lift_all(
+    items: usize,
+    relaxed: Lagrangian,
+    weights: &[u64],
+    costs: &mut [u64],
+    keys: &mut [u64],
+)
     requires { ⌜ LiftReady items relaxed (now costs) (now keys) ⌝ }
+    requires { ⌜ 2 ^ items ≤ length (now weights) ⌝ }
+    requires { ⌜ WeightsBelow items (2 ^ items) (now weights) ⌝ }
     ensures { λ _. ⌜ LiftedBelow items relaxed (2 ^ items) (now (costs .entry)) (now (keys .entry)) (now (costs .exit)) (now (keys .exit)) ⌝ }
 {
     let mut sums = [0u64; MOST_SETS];
-    let mut weights = [0u64; MOST_SETS];
     let least = relaxed.least;
     fill_sums(items, least, &mut sums);
-    fill_weights(items, &mut weights);
     let all = sets_of(items);
     let mut x = 0;
     while x < all {
@@ -85,39 +85,5 @@ pub(crate) fn lift_all(items: usize, relaxed: Lagrangian, costs: &mut [u64], key
         costs[x] = new.cost;
         keys[x] = new.key;
         x += 1;
-    }
-}
-
-// The entry of a set becomes none, where the set cannot be served.
-fn drop_entry(timed: Timed, set: usize, timings: &[u32], costs: &mut [u64])
-    requires { ⌜ TimedItems timed (now timings) ⌝ }
-    requires { ⌜ set < length (now costs) ⌝ }
-    ensures { λ _. ⌜ Dropped timed (now (timings .entry)) (now (costs .entry)) (now (costs .exit)) ⌝ }
-{
-    if NO_COST <= costs[set] {
-        return;
-    }
-    if is_servable(timed, set, timings) {
-        return;
-    }
-    costs[set] = NO_COST;
-}
-
-// The entries of the sets that cannot be served become none.
-pub(crate) fn drop_unservable(site: Site, timings: &[u32], costs: &mut [u64])
-    requires { ⌜ TimedItems (timedOf site) (now timings) ⌝ }
-    requires { ⌜ 2 ^ site .items ≤ length (now costs) ⌝ }
-    ensures { λ _. ⌜ Dropped (timedOf site) (now (timings .entry)) (now (costs .entry)) (now (costs .exit)) ⌝ }
-{
-    let timed = Timed {
-        items: site.items,
-        levels: site.levels,
-        span: site.span,
-    };
-    let all = sets_of(site.items);
-    let mut set = 1;
-    while set < all {
-        drop_entry(timed, set, timings, costs);
-        set += 1;
     }
 }

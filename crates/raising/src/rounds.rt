@@ -3,6 +3,7 @@ use crate::Site;
 use crate::lifting::lift_all;
 use crate::sets::core_set;
 use core_tables::charge_idle_once;
+use partition::fill_weights;
 use search::Shape;
 use search::least_of_table;
 use timed_sets::Lagrangian;
@@ -98,7 +99,9 @@ fn settle_set(
     if relaxed.budget == 0 {
         return;
     }
-    lift_all(site.items, relaxed, costs, keys);
+    let mut weights = [0u64; MOST_SETS];
+    fill_weights(site.items, &mut weights);
+    lift_all(site.items, relaxed, &weights, costs, keys);
 }
 
 // Makes the entries of the sets that the cores of a found plan run exact, and answers how many were not.

@@ -1,4 +1,4 @@
--- Where the items of a set cannot be served at their fewest ticks, no pattern of the set is admitted.
+-- Where the items of a set cannot be served at their fewest ticks, no pattern of a set that has them is admitted.
 use Prim.Native.Nat.{ℕ, zero, suc, _+_, _-_, _*_, _/_, _%_, _^_, _≤_, _<_}
 use mathlib.Core.Bool.{Bool, true, false, cond}
 use mathlib.Core.List.{List, _∷_}
@@ -23,7 +23,7 @@ use Rattle.timed_sets.specs.BoundLaws.{fewer-ticks-meet}
 use Rattle.timed_sets.specs.DemandBounds.{SameTasks, same-tasks-meet}
 use Rattle.timed_sets.specs.Nodes.{TimedItems, timedCore}
 use Rattle.timed_sets.specs.PatternLaws.{timing-of}
-use Rattle.timed_sets.specs.TickColumns.{columnJobs, FewestTicks, inSet, FewestColumn, NoneServes}
+use Rattle.timed_sets.specs.TickColumns.{columnJobs, FewestTicks, inSet, FewestColumn, Includes, NoneServes}
 use Rattle.timed_sets.specs.TimedCores.{entryTicks, patternTasks, timingAt, timingIn, timingsOf, timingWidth}
 use Rattle.timed_sets.specs.declared.Timed.{Timed}
 
@@ -98,15 +98,15 @@ module _ {timed : Timed} {x : ℕ} {timings : List ℕ} where
       }
 
   module _ (ready : TimedItems timed timings) {column : List ℕ} (few : FewestColumn timed x timings (timed .items) column) where
-    no-fewer : (S : List Bool) → length S ≡ timed .items → setNumber (timed .items) S ≡ x → {pattern : List ℕ} →
+    no-fewer : (S : List Bool) → length S ≡ timed .items → Includes (timed .items) (setNumber (timed .items) S) x → {pattern : List ℕ} →
         Keeps (timed .levels) S pattern → (i : ℕ) → i < timed .items →
         getD column i 0 ≤ entryTicks (timingIn (timingsOf timings (timed .items)) i) (getD pattern i 0)
     unfolding entryTicks
-    no-fewer S of-items number {pattern} keeps i l = go (getD pattern i 0) refl
+    no-fewer S of-items includes {pattern} keeps i l = go (getD pattern i 0) refl
       where
         go : (e : ℕ) → getD pattern i 0 ≡ e → getD column i 0 ≤ entryTicks (timingIn (timingsOf timings (timed .items)) i) e
         go zero out =
-            omega (arith, few .others i l (rw number at (not-run-not-in-set (timed .items) keeps of-items i l out)))
+            omega (arith, few .others i l (includes .out-of-both i l (not-run-not-in-set (timed .items) keeps of-items i l out)))
         go (suc level) is =
             rw (timing-of timings (timed .items) i l) (few .fewest i l .at-most level (run-level-below keeps i level is))
 
@@ -130,10 +130,10 @@ module _ {timed : Timed} {x : ℕ} {timings : List ℕ} where
     unfolding patternTasks
     none-serves {r} answer unmet =
         record {
-          refused = λ S of-items number cost pattern keeps.
+          refused = λ S of-items includes cost pattern keeps.
               not-true-is-false (timedCore timed timings cost .admits pattern) (λ met.
               false-not-true (sym (unmet-tick-decides _ (timed .span) r answer) ∙ unmet)
               (sym (same-tasks-meet (fewestTasks pattern) (columnJobs timed timings column) (same-jobs pattern) (timed .span))
               ∙ fewer-ticks-meet (fewestTasks pattern) (patternTasks (timingsOf timings (timed .items)) pattern) refl (λ i. refl) (λ i. refl)
-              (λ i l. no-fewer S of-items number keeps i (rw (counted ready) at l)) (timed .span) met));
+              (λ i l. no-fewer S of-items includes keeps i (rw (counted ready) at l)) (timed .span) met));
         }

@@ -36,7 +36,11 @@ pub record FewestColumn (timed : Timed) (set : ℕ) (timings : List ℕ) (k : �
   pub fewest : (i : ℕ) → i < k → FewestTicks timings i (timed .levels) (getD column i 0)
   pub others : (i : ℕ) → i < k → inSet (timed .items) set i ≡ 0 → getD column i 0 ≡ 0
 
--- no core admits a pattern that keeps exactly the items of the set
+-- set number y of n items has all items of set number x
+pub record Includes (n y x : ℕ) : Type 0 where
+  pub out-of-both : (i : ℕ) → i < n → inSet n y i ≡ 0 → inSet n x i ≡ 0
+
+-- no core admits a pattern that keeps the items of the set, alone or with others
 pub record NoneServes (timed : Timed) (set : ℕ) (timings : List ℕ) : Type 0 where
-  pub refused : (S : List Bool) → length S ≡ timed .items → setNumber (timed .items) S ≡ set → (cost pattern : List ℕ) →
+  pub refused : (S : List Bool) → length S ≡ timed .items → Includes (timed .items) (setNumber (timed .items) S) set → (cost pattern : List ℕ) →
       Keeps (timed .levels) S pattern → timedCore timed timings cost .admits pattern ≡ false

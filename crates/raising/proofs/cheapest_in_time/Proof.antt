@@ -3,13 +3,14 @@ use native.Mathlib.Nat.{le-refl}
 use borrow.Author.Needs.{needs}
 use Rattle.partition.specs.Tables.{mostSets}
 use Rattle.raising.specs.DroppedLaws.{site-dropped}
+use Rattle.raising.specs.DroppingLaws.{all-sets}
 use Rattle.raising.specs.SiteLaws.{no-plan-told, plan-told}
 use Rattle.raising.specs.StartTables.{site-ready, knapsacks-fit, start-raised}
 use Rattle.raising.proofs.cheapest_in_time.Statement.{statement}
 use Rattle.raising.proofs.cheapest_in_time.Tie as tie
 
-cast-t12 : tie.Need-cast-t12
-cast-t12 c = search needs
+cast-t13 : tie.Need-cast-t13
+cast-t13 c = search needs
 
 slice-aggregate-fill-knapsacks : tie.Need-slice-aggregate-fill-knapsacks
 slice-aggregate-fill-knapsacks c = search needs
@@ -28,7 +29,7 @@ drop-unservable-requires : tie.Need-drop-unservable-requires
 drop-unservable-requires c κs =
     let offered = c .before .before .before .before .before .before .before .before .before .before .before .before .before .pre .0 in
     let table = start-raised offered (c .before .before .before .fill-knapsacks .ensures) in
-    (site-ready offered .timed .timed-items, table .small .costs-for-all)
+    (site-ready offered .timed .timed-items, all-sets _ (table .small .costs-for-all))
 
 least-in-rounds-requires : tie.Need-least-in-rounds-requires
 least-in-rounds-requires c κs =
@@ -58,7 +59,7 @@ pub cheapest-in-time-spec : {M : Type 1} → statement M
 cheapest-in-time-spec =
     tie.close
     (tie.spec
-    cast-t12
+    cast-t13
     slice-aggregate-fill-knapsacks
     slice-aggregate-fill-knapsacks-2
     fill-knapsacks-requires
