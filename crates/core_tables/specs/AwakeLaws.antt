@@ -41,7 +41,7 @@ module _ {levels span unit : ℕ} where
         alone-cost = λ i l h. given .alone-cost (suc i) l (omega arith);
       }
 
-  pub alone-load : {T : List Bool} {pattern : List ℕ} (offers alone : List Offer) → OfferedAlone levels span unit offers alone →
+  alone-load : {T : List Bool} {pattern : List ℕ} (offers alone : List Offer) → OfferedAlone levels span unit offers alone →
       length T ≡ length offers → Keeps levels T pattern → patternLoad alone pattern ≡ patternLoad offers pattern
   unfolding patternLoad entryLoad
   alone-load [] [] given beside keeps = refl

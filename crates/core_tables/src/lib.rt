@@ -12,7 +12,7 @@ ghost use Rattle.core_tables.specs.AwakeCores.{surplus};
 ghost use Rattle.core_tables.specs.ChargedTables.{ChargeReady, ChargedBelow, SizesBelow, charged};
 
 // How many items each set has.
-fn fill_sizes(items: usize, sizes: &mut [u64])
+pub fn fill_sizes(items: usize, sizes: &mut [u64])
     requires { ⌜ items ≤ mostItems ⌝ }
     requires { ⌜ 2 ^ items ≤ length (now sizes) ⌝ }
     requires { ⌜ getD (now sizes) 0 0 ≡ 0 ⌝ }

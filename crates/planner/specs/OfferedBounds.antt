@@ -27,6 +27,10 @@ module _ {p : Problem} (v : Valid p) where
       (mul-le-mul (v .energy-weight .at-most) (mul-le-mul (le-trans fits (v .span-at-most)) (v .level l h .power .at-most)))
       (mul-le-mul (mul-le-mul (v .energy-weight .at-most) (v .idle)) (le-trans (sub-le _ _) (v .span-at-most)))
 
+  pub idle-span-at-most : idleCost p * span p ≤ mostCost
+  unfolding idleCost
+  idle-span-at-most = omega (arith, mul-le-mul (mul-le-mul (v .energy-weight .at-most) (v .idle)) (v .span-at-most))
+
   -- also where the task may not be refused
   refusal-at-most : (i : ℕ) → i < taskCount p → itemOf p (taskAt p i) .refusal ≤ mostWeight * (mostSpan * mayNotBeRefused)
   unfolding itemOf jobsOf jobs

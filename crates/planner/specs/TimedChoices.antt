@@ -1,8 +1,9 @@
 -- The best plan under deadlines: what is offered to the search in rounds, and that its options are the problem's.
-use Prim.Native.Nat.{ℕ, _+_, _*_, _≤_}
+use Prim.Native.Nat.{ℕ, _+_, _*_, _/_, _≤_, _<_}
 use mathlib.Core.Bool.{Bool}
 use mathlib.Core.List.{List}
 use mathlib.Core.Path.{_≡_, refl, sym, ap, subst, _∙_}
+use native.Mathlib.Nat.{le-trans, mul-le-mul-left, div-mul-le-self}
 use native.Mathlib.Omega.{arith}
 use lib.ListN.{length}
 use Rattle.instance.specs.Held.{Sound, problemIn, held-levelcount, held-span, held-taskcount}
@@ -11,16 +12,16 @@ use Rattle.plan_rules.specs.HeldPlans.{held-cores}
 use Rattle.instance.specs.Node.{Problem, levelCount, taskCount, span}
 use Rattle.instance.specs.Valid.{Valid}
 use Rattle.plan_rules.specs.FitLaws.{load-of-fitting-core}
+use Rattle.prices.specs.Prices.{coreEnergy}
 use Rattle.assignment.specs.AlikeLaws.{Alike, allowed-alike, alike-sym, best-alike, cost-alike}
 use Rattle.assignment.specs.Assignment.{Options}
-use Rattle.assignment.specs.Keeping.{Keeps}
+use Rattle.assignment.specs.CoreTables.{Admitted}
 use Rattle.assignment.specs.KeepingLaws.{kept-items}
-use Rattle.knapsack.specs.Offered.{offersOf}
-use Rattle.knapsack.specs.Offers.{patternCost, patternLoad}
-use Rattle.core_tables.specs.AwakeCores.{idleLoad, size, surplus}
-use Rattle.core_tables.specs.AwakeLaws.{alone-load, core-cost}
+use Rattle.assignment.specs.Limits.{mostCost}
+use Rattle.knapsack.specs.Offered.{entryOf, offersOf}
+use Rattle.core_tables.specs.AwakeCores.{size, surplus}
+use Rattle.core_tables.specs.AwakeLaws.{core-cost}
 use Rattle.raising.specs.ChargedOptions.{chargedOnce}
-use Rattle.raising.specs.LoadLaws.{TimedLoads}
 use Rattle.raising.specs.StartTables.{SiteOffered}
 use Rattle.timed_sets.specs.SetTheorem.{loads-do-not-matter}
 use Rattle.raising.specs.TimedSites.{coreOf, siteOptions}
@@ -28,9 +29,9 @@ use Rattle.raising.specs.declared.Site.{Site}
 use Rattle.search.specs.Found.{BestFound}
 use Rattle.search.specs.declared.Found.{Found}
 use Rattle.search.specs.declared.Found.the-variants as Found
-use Rattle.timed_sets.specs.TimedCores.{timedOptions, timingWidth}
+use Rattle.timed_sets.specs.TimedCores.{timedOptions, timingAt, timingWidth}
 use Rattle.planner.specs.BestChoiceLaws.{Chosen, found-is-chosen}
-use Rattle.planner.specs.OfferedBounds.{offered-affordable, offered-refusal-at-most}
+use Rattle.planner.specs.OfferedBounds.{idle-span-at-most, offered-affordable, offered-refusal-at-most}
 use Rattle.planner.specs.OfferedLaws.{awake-cost, offered-alone, offered-items, offers-beside-items, tasks-load}
 use Rattle.planner.specs.OfferedOptions.{OptionsOffered, offered-level}
 use Rattle.planner.specs.OptionsLaws.{item-count}
@@ -53,25 +54,32 @@ found-alike alike before after Found.NoPlan (none, unchanged) = (λ plan allowed
 
 module _ {p : Problem} {load cost refusal timings : List ℕ} {must : List Bool} (v : Valid p)
     (o : OptionsOffered p (taskCount p) load cost refusal must) (t : TimingsOffered p (taskCount p * timingWidth) timings) where
-  -- costs alone of a pattern whose load is within the span
-  counted-cost : {T : List Bool} {pattern : List ℕ} → Keeps (levelCount p) T pattern → length T ≡ taskCount p →
-      patternLoad (offersIn p) pattern ≤ span p →
-      patternCost (offersOf load cost (taskCount p)) pattern
-      ≡ surplus (idleCost p * span p) (size T) + (patternCost (offersIn p) pattern + idleCost p * idleLoad (span p) (offersIn p) pattern)
-  counted-cost keeps of-items within =
-      core-cost (offersIn p) (offersOf load cost (taskCount p)) (offered-alone v (o .levels))
-      (of-items ∙ sym (offers-beside-items p ∙ item-count p)) keeps within
+  -- costs alone of an admitted pattern
+  admitted-cost : {T : List Bool} {pattern : List ℕ} → length T ≡ taskCount p → Admitted (coreOf (siteOf p) timings cost) T pattern →
+      coreOf (siteOf p) timings cost .coreCost pattern ≡ surplus (idleCost p * span p) (size T) + p .weights .energy * coreEnergy p pattern 0
+  unfolding coreOf timedOptions
+  admitted-cost {T} {pattern} of-items admitted =
+      let keeps = admitted .keeps in
+      let within = rw (sym (tasks-load p keeps of-items)) at (load-of-fitting-core p v pattern 0 (sym (timed-fits t v keeps) ∙ admitted .admitted)) in
+      let alone = core-cost (offersIn p) (offersOf load cost (taskCount p)) (offered-alone v (o .levels)) (of-items ∙ sym (offers-beside-items p ∙ item-count p)) keeps within in
+      rw (sym (loads-do-not-matter load cost (taskCount p) pattern)) (omega (arith, alone, awake-cost p keeps of-items))
 
-  loads-timed : TimedLoads (record { items = taskCount p; levels = levelCount p; span = span p }) timings load
+  timed-load : (i l : ℕ) → i < taskCount p → l < levelCount p → entryOf load i l ≡ span p / timingAt timings i .period * timingAt timings i .ticks l
   unfolding offerOf loadAt jobsOf
-  loads-timed =
-      record {
-        each = λ i l h k.
-            offered-level (v .level-count .at-most) (o .levels) i l h k .same-load
-            ∙ rw (period-is t i h, ticks-are t i l (v .level-count .at-most) h k) refl;
-      }
+  timed-load i l h k =
+      offered-level (v .level-count .at-most) (o .levels) i l h k .same-load
+      ∙ rw (period-is t i h, ticks-are t i l (v .level-count .at-most) h k) refl
 
-  pub site-offered : SiteOffered (siteOf p) timings load cost refusal must
+  -- a job within its window, once a period, is within the span
+  cheap-in-window : (i l : ℕ) → i < taskCount p → l < levelCount p → timingAt timings i .ticks l ≤ timingAt timings i .window →
+      entryOf cost i l ≤ mostCost
+  cheap-in-window i l h k in-window =
+      let period = timingAt timings i .period in
+      let in-period = le-trans in-window (problem-timed t v .item i h .window-within-period) in
+      offered-affordable v (o .levels) .cheap i h l k
+      (rw (timed-load i l h k) (le-trans (mul-le-mul-left (span p / period) in-period) (div-mul-le-self (span p) period)))
+
+  pub site-offered : SiteOffered (siteOf p) timings cost refusal must
   site-offered =
       record {
         limits =
@@ -88,11 +96,14 @@ module _ {p : Problem} {load cost refusal timings : List ℕ} {must : List Bool}
               refusals-limited = offered-refusal-at-most v o;
             };
         some-level = v .level-count .at-least;
-        timed-items = problem-timed t v;
-        loads = loads-timed;
-        affordable = offered-affordable v (o .levels);
-        counted = λ T of-items pattern keeps within.
-            omega (arith, counted-cost keeps of-items (rw (alone-load (offersIn p) (offersOf load cost (taskCount p)) (offered-alone v (o .levels)) (of-items ∙ sym (offers-beside-items p ∙ item-count p)) keeps) at within));
+        timed =
+            record {
+              timed-items = problem-timed t v;
+              costs-for-all = offered-affordable v (o .levels) .costs-for-all;
+              cheap = cheap-in-window;
+            };
+        whole-limited = idle-span-at-most v;
+        counted = λ T of-items pattern admitted. omega (arith, admitted-cost of-items admitted);
       }
 
   timed-alike : Alike (siteOptions (siteOf p) timings cost refusal must) (optionsOf p)
@@ -104,11 +115,9 @@ module _ {p : Problem} {load cost refusal timings : List ℕ} {must : List Bool}
         same-items = offered-items o;
         same-admits = λ T of-items pattern keeps. timed-fits t v keeps;
         same-cost = λ T of-items pattern admitted.
-            let keeps = admitted .keeps in
             let beside = of-items ∙ ap length (offered-items o) ∙ item-count p in
-            let within = rw (sym (tasks-load p keeps beside)) at (load-of-fitting-core p v pattern 0 (sym (timed-fits t v keeps) ∙ admitted .admitted)) in
-            rw (sym (loads-do-not-matter load cost (taskCount p) pattern), kept-items keeps)
-            (omega (arith, counted-cost keeps beside within, awake-cost p keeps beside));
+            let on-core : Admitted (coreOf (siteOf p) timings cost) T pattern = record { keeps = admitted .keeps; admitted = admitted .admitted } in
+            rw (kept-items (admitted .keeps)) (omega (arith, admitted-cost beside on-core));
       }
 
   pub found-in-time : {before after : List ℕ} {r : Found} → BestFound (siteOptions (siteOf p) timings cost refusal must) before after r →
@@ -147,7 +156,7 @@ module _ (inst : Instance) (s : Sound inst) where
     same-site : siteWith ≡ siteOf (problemIn inst)
     same-site = (λ i. record { items = inst .taskcount; cores = inst .cores; levels = inst .levelcount; span = inst .span; whole = is i }) ∙ held-site
 
-    pub held-site-offered : SiteOffered siteWith timings load cost refusal must
+    pub held-site-offered : SiteOffered siteWith timings cost refusal must
     held-site-offered = rw same-site (site-offered (s .valid) o t)
 
     pub held-found-in-time : {before after : List ℕ} {r : Found} → BestFound (siteOptions siteWith timings cost refusal must) before after r →

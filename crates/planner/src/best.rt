@@ -18,8 +18,9 @@ use search::write_plan;
 use values::MOST_SETS;
 use values::NO_COST;
 use values::Worth;
-ghost use Prim.Native.Nat.{_*_, _≤_, _<_};
+ghost use Prim.Native.Nat.{ℕ, _*_, _≤_, _<_};
 ghost use mathlib.Core.Bool.{false};
+ghost use mathlib.Core.List.{List};
 ghost use mathlib.Core.Path.{_≡_};
 ghost use lib.ListN.{length};
 ghost use Rattle.ranges.specs.Limits.{mostLevels};
@@ -163,14 +164,13 @@ fn idle_span_cost(inst: Instance) -> u64
 // The best plan where some task is due before its period ends.
 fn best_in_time(
     inst: Instance,
-    load: &[u64],
     cost: &[u64],
     refusal: &[u64],
     must: &[bool],
     plan: &mut [u32],
 ) -> Found
     requires { ⌜ Sound inst ⌝ }
-    requires { ⌜ OptionsOffered (problemIn inst) (taskCount (problemIn inst)) (now load) (now cost) (now refusal) (now must) ⌝ }
+    requires { ⌜ ((load : List ℕ) × OptionsOffered (problemIn inst) (taskCount (problemIn inst)) load (now cost) (now refusal) (now must)) ⌝ }
     requires { ⌜ taskCount (problemIn inst) ≤ length (now plan) ⌝ }
     ensures { λ r. ⌜ r ≡ foundOf (problemIn inst) (bestPlan (problemIn inst)) ⌝ }
     ensures { λ _. ⌜ now (plan .exit) ≡ chosenOnto (bestPlan (problemIn inst)) (now (plan .entry)) ⌝ }
@@ -184,7 +184,7 @@ fn best_in_time(
         span: inst.span,
         whole: idle_span_cost(inst),
     };
-    cheapest_in_time(site, &timings, load, cost, refusal, must, plan)
+    cheapest_in_time(site, &timings, cost, refusal, must, plan)
 }
 
 // Writes the best plan to the front of the buffer, or nothing where there is none.
@@ -200,7 +200,7 @@ pub(crate) fn best_choices(inst: Instance, plan: &mut [u32]) -> Found
     let mut must = [false; MOST_TASKS as usize];
     fill_options(inst, &mut load, &mut cost, &mut refusal, &mut must);
     if is_early(inst) {
-        return best_in_time(inst, &load, &cost, &refusal, &must, plan);
+        return best_in_time(inst, &cost, &refusal, &must, plan);
     }
     best_by_load(inst, &load, &cost, &refusal, &must, plan)
 }

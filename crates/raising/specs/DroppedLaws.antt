@@ -32,7 +32,7 @@ module _ {timed : Timed} {timings : List ℕ} where
       go (stays same) (stays again) = stays (again ∙ same)
       go (dropped unserved gone) (stays again) = dropped unserved (again ∙ gone)
 
-module _ (site : Site) {timings : List ℕ} (cost : List ℕ) {costs keys : List ℕ} {exact : List Bool} (raised : SiteRaised site timings cost costs keys exact)
+module _ (site : Site) {timings : List ℕ} (cost : List ℕ) {costs keys left : List ℕ} (raised : SiteRaised site timings cost costs keys left)
     {after : List ℕ} (drop : Dropped (timedOf site) timings costs after) where
   -- no pattern of a dropped set is admitted
   unserved : (S : List Bool) → length S ≡ site .items → NoneServes (timedOf site) (setNumber (site .items) S) timings → (pattern : List ℕ) →
@@ -76,7 +76,7 @@ module _ (site : Site) {timings : List ℕ} (cost : List ℕ) {costs keys : List
       go (stays same) real = same
       go (dropped none-serves gone) real = absurd (omega arith)
 
-  pub site-dropped : SiteRaised site timings cost after keys exact
+  pub site-dropped : SiteRaised site timings cost after keys left
   site-dropped =
       record {
         small =
@@ -92,9 +92,10 @@ module _ (site : Site) {timings : List ℕ} (cost : List ℕ) {costs keys : List
             each-value (λ T v. (pattern : List ℕ) → Admitted (coreOf site timings cost) T pattern → AtMost v (patternWorth (coreOf site timings cost) pattern))
             (λ T nothing pattern admitted. absurd (nothing pattern admitted)) S of-items (raised .lower S of-items);
         surplus-counted = λ y h real. let same = real-cost y real in omega (arith, raised .surplus-counted y h (omega arith));
-        flags-for-all = raised .flags-for-all;
-        least-where-flagged = λ S of-items flagged.
+        tries-for-all = raised .tries-for-all;
+        few-tries = raised .few-tries;
+        least-where-settled = λ S of-items settled.
             each-value (λ T v. Least (Admitted (coreOf site timings cost) T) (patternWorth (coreOf site timings cost)) v)
             (λ T nothing. record { below = λ pattern admitted. absurd (nothing pattern admitted); attained = inl refl }) S of-items
-            (raised .least-where-flagged S of-items flagged);
+            (raised .least-where-settled S of-items settled);
       }

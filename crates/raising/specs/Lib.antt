@@ -4,13 +4,16 @@ pub mod CoreSets
 pub mod RaisedTables
 pub mod RaisingLaws
 pub mod Rounds
-pub mod LoadLaws
+pub mod AdmittedCosts
+pub mod LeastKeys
+pub mod LowestTables
 pub mod TimedSites
 pub mod SiteLaws
 pub mod StartTables
 pub mod LiftedTables
 pub mod LiftingLaws
 pub mod LiftedLaws
+pub mod TriedLaws
 pub mod DroppedTables
 pub mod DroppedLaws
 pub mod DroppingLaws

@@ -1,18 +1,18 @@
--- The table that the search in rounds keeps: nowhere above the least values, and exact where it says so. Which of its entries
--- are made exact, and when, does not matter.
-use Prim.Native.Nat.{ℕ, zero, suc, _+_, _^_, _≤_, _<_}
+-- The table that the search in rounds keeps: nowhere above the least values, and exact where a set may not be tried again. Which of
+-- its entries are raised, and when, does not matter.
+use Prim.Native.Nat.{ℕ, _^_, _≤_, _<_}
 use mathlib.Core.Path.{_≡_, refl}
 use mathlib.Core.Logic.{_⊎_, inl, inr, _≢_}
-use mathlib.Core.Bool.{Bool, true, false, cond, not}
+use mathlib.Core.Bool.{Bool, true, false}
 use mathlib.Core.List.{List}
-use native.Mathlib.Nat.{eq-or-lt-of-le}
+use native.Mathlib.Nat.{le-of-lt, le-refl}
 use native.Mathlib.Omega.{arith}
 use borrow.Author.Tests.{eqb-true, eqb-false}
 use lib.Dec.{eqb}
 use lib.ListN.{length, getD, set}
 use lib.Seq.{getD-set-same, getD-set-other}
-use Rattle.laws.specs.Search.{count}
-use Rattle.laws.specs.SearchFacts.{count-same}
+use Rattle.laws.specs.Sums.{sum}
+use Rattle.laws.specs.SumLaws.{sum-falls}
 use Rattle.assignment.specs.Assignment.{Options}
 use Rattle.assignment.specs.CoreTables.{Admitted, patternWorth, Keyed}
 use Rattle.assignment.specs.Limits.{mostCoreCost}
@@ -23,21 +23,26 @@ use Rattle.core_tables.specs.AwakeCores.{surplus}
 use Rattle.core_tables.specs.SetSizes.{itemsIn}
 use Rattle.partition.specs.Tables.{SmallTable}
 
--- of n items; `exact` flags sets by their numbers
-pub record Raised (o : Options) (whole n : ℕ) (costs keys : List ℕ) (exact : List Bool) : Type 0 where
+-- how often a set is tried at most
+abbrev pub mostTries : ℕ
+mostTries = 13
+
+-- of n items; `left` has how often each set, by its number, may still be tried
+pub record Raised (o : Options) (whole n : ℕ) (costs keys left : List ℕ) : Type 0 where
   pub small : SmallTable n mostCoreCost costs keys
   -- each value is none or has the key of a pattern that keeps exactly its set
   pub keyed : (S : List Bool) → length S ≡ n → Keyed (o .levels) S (tableAt n costs keys S)
   pub lower : (S : List Bool) → length S ≡ n → (pattern : List ℕ) → Admitted o S pattern → AtMost (tableAt n costs keys S) (patternWorth o pattern)
   -- no cost is below what is taken off it
   pub surplus-counted : (x : ℕ) → x < 2 ^ n → getD costs x 0 < noCost → surplus whole (itemsIn n x) ≤ getD costs x 0
-  pub flags-for-all : 2 ^ n ≤ length exact
-  pub least-where-flagged : (S : List Bool) → length S ≡ n → getD exact (setNumber n S) false ≡ true →
+  pub tries-for-all : 2 ^ n ≤ length left
+  pub few-tries : (x : ℕ) → x < 2 ^ n → getD left x 0 ≤ mostTries
+  pub least-where-settled : (S : List Bool) → length S ≡ n → getD left (setNumber n S) 0 ≡ 0 →
       Least (Admitted o S) (patternWorth o) (tableAt n costs keys S)
 
--- how many sets are not flagged: with each set that is raised one less
-unfoldable pub unflagged : ℕ → List Bool → ℕ
-unflagged n exact = count (λ x. not (getD exact x false)) (2 ^ n)
+-- of all sets together: with each set that is tried fewer
+unfoldable pub triesLeft : ℕ → List ℕ → ℕ
+triesLeft n left = sum (λ x. getD left x 0) (2 ^ n)
 
 pub same-or-other : (x y : ℕ) → (x ≡ y) ⊎ (x ≢ y)
 same-or-other x y = go (eqb x y) refl
@@ -55,32 +60,15 @@ stored P xs x v d room new y old = go (same-or-other y x)
     go (inl e) = rw (e, getD-set-same xs x v d room) new
     go (inr other) = rw (getD-set-other xs x y v d other) old
 
-one-flag-less : (exact : List Bool) (x m : ℕ) → x < length exact → x < m → getD exact x false ≡ false →
-    count (λ y. not (getD (set exact x true) y false)) m + 1 ≡ count (λ y. not (getD exact y false)) m
-unfolding count
-one-flag-less exact x zero room under clear = absurd (omega arith)
-one-flag-less exact x (suc m) room under clear = go (eq-or-lt-of-le under) (λ earlier. one-flag-less exact x m room earlier clear)
-  where
-    unchanged : (y : ℕ) → y ≢ x → not (getD (set exact x true) y false) ≡ not (getD exact y false)
-    unchanged y other = rw (getD-set-other exact x y true false other)
-
-    go : (suc x ≡ suc m) ⊎ (suc x < suc m) →
-        (x < m → count (λ y. not (getD (set exact x true) y false)) m + 1 ≡ count (λ y. not (getD exact y false)) m) →
-        count (λ y. not (getD (set exact x true) y false)) m + cond (not (getD (set exact x true) m false)) 1 0 + 1
-        ≡ count (λ y. not (getD exact y false)) m + cond (not (getD exact m false)) 1 0
-    go (inl e) ih =
-        let last : m ≡ x = omega arith in
-        let same = count-same (λ y. not (getD (set exact x true) y false)) (λ y. not (getD exact y false)) m (λ y h. unchanged y (omega arith)) in
-        rw (last, getD-set-same exact x true false room, clear) (omega (arith, rw last at same))
-    go (inr earlier) ih =
-        rw (unchanged m (omega arith)) (omega (arith, ih (omega arith)))
-
-module _ {o : Options} {whole n : ℕ} {costs keys : List ℕ} {exact : List Bool} (raised : Raised o whole n costs keys exact) where
+module _ {o : Options} {whole n : ℕ} {costs keys left : List ℕ} (raised : Raised o whole n costs keys left) where
   pub in-costs : (x : ℕ) → x < 2 ^ n → x < length costs
   in-costs x under = omega (arith, raised .small .costs-for-all)
 
   pub in-keys : (x : ℕ) → x < 2 ^ n → x < length keys
   in-keys x under = omega (arith, raised .small .keys-for-all)
+
+  pub in-tries : (x : ℕ) → x < 2 ^ n → x < length left
+  in-tries x under = omega (arith, raised .tries-for-all)
 
   module _ (x cost key : ℕ) (under : x < 2 ^ n) where
     pub at-the-set : (S : List Bool) → setNumber n S ≡ x → tableAt n (set costs x cost) (set keys x key) S ≡ valueOf cost key
@@ -91,6 +79,9 @@ module _ {o : Options} {whole n : ℕ} {costs keys : List ℕ} {exact : List Boo
     unfolding tableAt
     at-others S other = rw (getD-set-other costs x (setNumber n S) cost 0 other, getD-set-other keys x (setNumber n S) key 0 other)
 
-    pub one-less-unflagged : getD exact x false ≡ false → unflagged n (set exact x true) + 1 ≡ unflagged n exact
-    unfolding unflagged
-    one-less-unflagged clear = one-flag-less exact x (2 ^ n) (omega (arith, raised .flags-for-all)) under clear
+  pub fewer-tries : (x v : ℕ) → x < 2 ^ n → v < getD left x 0 → triesLeft n (set left x v) < triesLeft n left
+  unfolding triesLeft
+  fewer-tries x v under fewer =
+      sum-falls (λ y. getD (set left x v) y 0) (λ y. getD left y 0) (2 ^ n) x
+      (λ y h. stored (λ z tries. tries ≤ getD left z 0) left x v 0 (in-tries x under) (le-of-lt fewer) y (le-refl (getD left y 0))) under
+      (rw (getD-set-same left x v 0 (in-tries x under)) fewer)

@@ -3,7 +3,7 @@
 use Prim.Native.Nat.{ℕ, zero, suc, pred, _*_, _%_, _^_, _≤_, _<_}
 use mathlib.Core.Path.{_≡_, refl, sym, ap, subst, _∙_}
 use mathlib.Core.Logic.{_⊎_, inl, inr}
-use mathlib.Core.Bool.{Bool, true, false}
+use mathlib.Core.Bool.{Bool}
 use mathlib.Core.List.{List}
 use native.Mathlib.Omega.{arith}
 use lib.ListN.{length, getD}
@@ -44,9 +44,9 @@ pub record RefusalsOffered (n : ℕ) (refusal : List ℕ) (must : List Bool) : T
   pub musts-for-all : n ≤ length must
   pub refusals-limited : (i : ℕ) → i < n → getD refusal i 0 ≤ mostCost
 
--- each core of a plan runs a set whose entry is flagged
-pub record AllFlagged (shape : Shape) (key : ℕ) (exact : List Bool) : Type 0 where
-  pub core : (k : ℕ) → k < shape .cores → getD exact (coreSetNumber (shape .items) (shape .levels) k key) false ≡ true
+-- each core of a plan runs a set that may not be tried again
+pub record AllSettled (shape : Shape) (key : ℕ) (left : List ℕ) : Type 0 where
+  pub core : (k : ℕ) → k < shape .cores → getD left (coreSetNumber (shape .items) (shape .levels) k key) 0 ≡ 0
 
 digits-length : (n key : ℕ) → length (digits n key) ≡ n
 unfolding digits
@@ -97,9 +97,9 @@ pub found-key-below : {shape : Shape} {whole : ℕ} {refusal : List ℕ} {must :
 found-key-below {worth = worth} ready found real =
     found-key (charged-ready ready (found .charged) (found .same-length)) (worth .cost) (worth .key) (found .is) real
 
-module _ {shape : Shape} {refusal : List ℕ} {must : List Bool} {o : Options} {whole : ℕ} {costs keys : List ℕ} {exact : List Bool}
+module _ {shape : Shape} {refusal : List ℕ} {must : List Bool} {o : Options} {whole : ℕ} {costs keys left : List ℕ}
     (limits : ShapeLimited shape) (offered : RefusalsOffered (shape .items) refusal must) (same-levels : o .levels ≡ shape .levels)
-    (counted : CostsCounted whole (shape .items) o) (raised : Raised o whole (shape .items) costs keys exact) where
+    (counted : CostsCounted whole (shape .items) o) (raised : Raised o whole (shape .items) costs keys left) where
   items : List Item
   items = itemsOf refusal must (shape .items)
 
@@ -153,22 +153,22 @@ module _ {shape : Shape} {refusal : List ℕ} {must : List Bool} {o : Options} {
               (raised .lower T (of-items ∙ of-shape)) pattern admitted);
         }
 
-    exact-once : (T : List Bool) → length T ≡ shape .items → getD exact (setNumber (shape .items) T) false ≡ true →
+    exact-once : (T : List Bool) → length T ≡ shape .items → getD left (setNumber (shape .items) T) 0 ≡ 0 →
         value-of T ≡ exactTable true-options T
     unfolding true-options value-of items chargedOnce
-    exact-once T of-items flagged =
+    exact-once T of-items settled =
         least-unique
         (rw (charged-entry keys (found .charged) T of-items)
-        (least-charged counted (shape .cores) items T of-items (raised .least-where-flagged T of-items flagged)))
+        (least-charged counted (shape .cores) items T of-items (raised .least-where-settled T of-items settled)))
         (exact-core-table true-options .least T (of-items ∙ sym of-shape))
 
-    cores-exact : AllFlagged shape (worth .key) exact → (k : ℕ) → k < shape .cores →
+    cores-exact : AllSettled shape (worth .key) left → (k : ℕ) → k < shape .cores →
         let S = coreSet (o .levels) k (digits (length items) (worth .key)) in
         value-of S ≡ exactTable true-options S
     unfolding items coreSetNumber
-    cores-exact flagged k h =
+    cores-exact settled k h =
         exact-once _ (coreSet-length (o .levels) k (digits (length items) (worth .key)) ∙ digits-length (length items) (worth .key) ∙ of-shape)
-        (rw (same-levels, of-shape) (flagged .core k h))
+        (rw (same-levels, of-shape) (settled .core k h))
 
     found-chosen : chosen (o .levels) items value-of (pred (shape .cores)) ≡ worthOf worth
     unfolding foundValue value-of items
@@ -190,11 +190,11 @@ module _ {shape : Shape} {refusal : List ℕ} {must : List Bool} {o : Options} {
         let nothing = words-none (worth .cost) (worth .key) dear in
         rw nothing (best-of-exact (chosen-none (exact-core-table true-options) lower-once (pred (shape .cores)) (found-chosen ∙ nothing)))
 
-    pub settled-found : worth .cost < noCost → AllFlagged shape (worth .key) exact →
+    pub settled-found : worth .cost < noCost → AllSettled shape (worth .key) left →
         BestAnswers (chargedOnce whole (withItems (shape .cores) (itemsOf refusal must (shape .items)) o)) (worthOf worth)
     unfolding true-options items chargedOnce
-    settled-found real flagged =
+    settled-found real settled =
         let told = words-pair (worth .cost) (worth .key) real in
         rw told
         (best-of-exact
-        (chosen-settled (exact-core-table true-options) lower-once (limits .some-core) few-digits (found-chosen ∙ told) (cores-exact flagged)))
+        (chosen-settled (exact-core-table true-options) lower-once (limits .some-core) few-digits (found-chosen ∙ told) (cores-exact settled)))

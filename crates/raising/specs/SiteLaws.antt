@@ -1,12 +1,11 @@
--- The rounds of the search, step by step: one set more, and the last round.
+-- The rounds of the search, step by step: one core's set more, and the last round.
 use Prim.Native.Nat.{ℕ, _+_, _^_, _≤_, _<_}
 use mathlib.Core.Path.{_≡_, refl}
-use mathlib.Core.Bool.{Bool, true, false}
-use mathlib.Core.List.{List, []}
+use mathlib.Core.Bool.{Bool}
+use mathlib.Core.List.{List}
 use native.Mathlib.Omega.{arith}
 use borrow.Author.Count.{below-more}
-use lib.ListN.{length, getD, set}
-use lib.Seq.{getD-set-same}
+use lib.ListN.{length, getD}
 use Rattle.laws.specs.Lists.{onto}
 use Rattle.assignment.specs.CoreTables.{patternWorth}
 use Rattle.assignment.specs.Keys.{keyBase, digits}
@@ -17,16 +16,14 @@ use Rattle.search.specs.Found.{BestFound}
 use Rattle.search.specs.FoundLaws.{items-counted, told-is-best}
 use Rattle.search.specs.declared.Found.the-variants.{Cheapest, NoPlan}
 use Rattle.timed_sets.specs.TimedCores.{timedOptions}
-use Rattle.timed_sets.specs.Nodes.{LowerTimed, LeastInTime}
+use Rattle.timed_sets.specs.Nodes.{LowerTimed}
 use Rattle.timed_sets.specs.Reached.{worthOn}
 use Rattle.values.specs.Worths.{worthOf}
 use Rattle.values.specs.declared.value.Worth.{Worth}
 use Rattle.raising.specs.ChargedOptions.{chargedOnce}
 use Rattle.raising.specs.CoreSets.{coreSetNumber}
-use Rattle.raising.specs.RaisedTables.{stored, one-less-unflagged}
-use Rattle.raising.specs.RaisingLaws.{LeastOfSet, one-more-exact}
 use Rattle.raising.specs.Rounds.{RefusalsOffered, RoundReady, RoundFound, found-key-below, round-ready, none-found, settled-found}
-use Rattle.raising.specs.TimedSites.{shapeOf, timedOf, coreOf, siteOptions, SiteReady, SiteRaised, EntryRaised, SetSettled, SetsRaised}
+use Rattle.raising.specs.TimedSites.{shapeOf, timedOf, coreOf, siteOptions, SiteReady, SiteRaised, SetTried, SetsRaised}
 use Rattle.raising.specs.declared.Site.{Site}
 use Rattle.raising.specs.declared.rounds.Candidate.{Candidate}
 
@@ -34,8 +31,8 @@ pub core-set-below : (n levels core key : ℕ) → coreSetNumber n levels core k
 unfolding coreSetNumber
 core-set-below n levels core key = setNumber-below n _
 
-module _ {site : Site} {timings cost costs keys : List ℕ} {exact : List Bool} (ready : SiteReady site timings cost)
-    (table : SiteRaised site timings cost costs keys exact) where
+module _ {site : Site} {timings cost costs keys left : List ℕ} (ready : SiteReady site timings cost)
+    (table : SiteRaised site timings cost costs keys left) where
   pub lower-for-sets : LowerTimed (timedOf site) timings cost costs keys
   unfolding coreOf timedOptions patternWorth worthOn
   lower-for-sets =
@@ -45,71 +42,48 @@ module _ {site : Site} {timings cost costs keys : List ℕ} {exact : List Bool} 
         lower = λ S of-items pattern keeps admits. table .lower S of-items pattern record { keeps = keeps; admitted = admits };
       }
 
--- the least value in time, as the core of a site has it
-pub in-time-least : (site : Site) {x : ℕ} {timings cost : List ℕ} {r : Worth} → LeastInTime (timedOf site) x timings cost r →
-    LeastOfSet (coreOf site timings cost) (site .items) x (r .cost) (r .key)
-unfolding coreOf
-in-time-least site found =
-    record { least = found .least 1 [] []; at-most-none = found .small .at-most-none; digits = found .small .digits }
-
-pub nothing-raised : {found : Candidate} {timings cost costs keys : List ℕ} {exact : List Bool} →
-    SiteRaised (found .site) timings cost costs keys exact → SetsRaised found timings cost costs keys exact exact 0 0
+pub nothing-raised : {found : Candidate} {timings cost costs keys left : List ℕ} →
+    SiteRaised (found .site) timings cost costs keys left → SetsRaised found timings cost costs keys left left 0 0
 nothing-raised table =
     record {
       table = table;
       fewer = omega arith;
       same = λ none. refl;
-      flagged = λ j none. absurd (omega arith);
+      settled = λ none j h. absurd (omega arith);
     }
 
-module _ {found : Candidate} {timings cost costs keys : List ℕ} {exact₀ exact : List Bool} {k raised : ℕ}
-    (so-far : SetsRaised found timings cost costs keys exact₀ exact k raised) {x : ℕ}
+module _ {found : Candidate} {timings cost costs keys left₀ left : List ℕ} {k raised : ℕ}
+    (so-far : SetsRaised found timings cost costs keys left₀ left k raised) {x : ℕ}
     (is : x ≡ coreSetNumber (found .site .items) (found .site .levels) k (found .key)) where
   pub next-set-below : x < 2 ^ found .site .items
   next-set-below = rw is (core-set-below (found .site .items) (found .site .levels) k (found .key))
 
-  pub next-flag-held : x < length exact
-  next-flag-held = omega (arith, next-set-below, so-far .table .flags-for-all)
-
   -- the next core's set is exact
-  pub set-was-exact : getD exact x false ≡ true → SetsRaised found timings cost costs keys exact₀ exact (k + 1) raised
-  set-was-exact flag =
+  pub set-was-exact : getD left x 0 ≡ 0 → SetsRaised found timings cost costs keys left₀ left (k + 1) raised
+  set-was-exact exact =
       record {
         table = so-far .table;
         fewer = so-far .fewer;
         same = so-far .same;
-        flagged = below-more _ k (so-far .flagged) (rw is at flag);
+        settled = λ none. below-more _ k (so-far .settled none) (rw is at exact);
       }
 
-  -- it was not, and is
-  pub set-made-exact : {costs' keys' : List ℕ} {exact' : List Bool} → getD exact x false ≡ false →
-      SetSettled (found .site) x timings cost costs' keys' exact exact' →
-      SetsRaised found timings cost costs' keys' exact₀ exact' (k + 1) (raised + 1)
-  set-made-exact clear settled =
-      rw (settled .flagged) (record {
-        table = rw (settled .flagged) at (settled .table);
-        fewer = omega (arith, so-far .fewer, one-less-unflagged (so-far .table) x 0 0 next-set-below clear);
+  -- it may be tried, and was
+  pub set-was-tried : {costs' keys' left' : List ℕ} → SetTried (found .site) timings cost costs' keys' left left' →
+      SetsRaised found timings cost costs' keys' left₀ left' (k + 1) (raised + 1)
+  set-was-tried tried =
+      record {
+        table = tried .table;
+        fewer = omega (arith, so-far .fewer, tried .fewer);
         same = λ none. absurd (omega arith);
-        flagged =
-            below-more _ k (λ j h. stored (λ y b. b ≡ true) exact x true false next-flag-held refl _ (so-far .flagged j h))
-            (rw (← is) (getD-set-same exact x true false next-flag-held));
-      })
-
--- the entry of a set made exact
-pub entry-settled : {site : Site} {x : ℕ} {timings cost costs keys costs' keys' : List ℕ} {exact : List Bool} → SiteReady site timings cost →
-    SiteRaised site timings cost costs keys exact → x < 2 ^ site .items → EntryRaised site x timings cost costs keys costs' keys' →
-    SetSettled site x timings cost costs' keys' exact (set exact x true)
-entry-settled ready table under entry =
-    record {
-      table = rw (entry .costs-set, entry .keys-set) (one-more-exact (ready .counted) table under (entry .least));
-      flagged = refl;
-    }
+        settled = λ none. absurd (omega arith);
+      }
 
 -- what a round says of the best plan
 
-module _ {site : Site} {timings cost refusal : List ℕ} {must : List Bool} {costs keys : List ℕ} {exact : List Bool}
+module _ {site : Site} {timings cost refusal : List ℕ} {must : List Bool} {costs keys left : List ℕ}
     (ready : SiteReady site timings cost) (offered : RefusalsOffered (site .items) refusal must)
-    (table : SiteRaised site timings cost costs keys exact) where
+    (table : SiteRaised site timings cost costs keys left) where
   same-levels : coreOf site timings cost .levels ≡ site .levels
   unfolding coreOf timedOptions
   same-levels = refl
@@ -125,12 +99,12 @@ module _ {site : Site} {timings cost refusal : List ℕ} {must : List Bool} {cos
     nothing-found = none-found (ready .limits) offered same-levels (ready .counted) table found
 
     -- where no set of the found plan was open, nothing was raised
-    pub plan-settled : {costs' keys' : List ℕ} {exact' : List Bool} {raised : ℕ} →
-        SetsRaised record { site = site; key = worth .key } timings cost costs' keys' exact exact' (site .cores) raised → raised ≡ 0 →
+    pub plan-settled : {costs' keys' left' : List ℕ} {raised : ℕ} →
+        SetsRaised record { site = site; key = worth .key } timings cost costs' keys' left left' (site .cores) raised → raised ≡ 0 →
         worth .cost < noCost → BestAnswers (siteOptions site timings cost refusal must) (worthOf worth)
     plan-settled sets none real =
         settled-found (ready .limits) offered same-levels (ready .counted) table found real
-        (record { core = λ k h. rw (sets .same none) at (sets .flagged k h) })
+        (record { core = λ k h. rw (sets .same none) at (sets .settled none k h) })
 
 -- and what is written
 

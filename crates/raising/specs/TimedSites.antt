@@ -1,21 +1,26 @@
 -- What the rounds of the search ask of a site, and what each of their steps leaves behind.
-use Prim.Native.Nat.{ℕ, _+_, _≤_, _<_}
+use Prim.Native.Nat.{ℕ, _+_, _^_, _≤_, _<_}
 use mathlib.Core.Path.{_≡_}
-use mathlib.Core.Bool.{Bool, true, false}
+use mathlib.Core.Logic.{_⊎_}
+use mathlib.Core.Bool.{Bool}
 use mathlib.Core.List.{List, []}
-use lib.ListN.{getD, set}
+use lib.ListN.{length, getD}
 use Rattle.assignment.specs.Assignment.{Options}
+use Rattle.assignment.specs.Keys.{keyBase}
+use Rattle.assignment.specs.Limits.{mostCoreCost, mostItems}
+use Rattle.assignment.specs.Words.{noCost}
 use Rattle.knapsack.specs.Offered.{offersOf}
+use Rattle.partition.specs.Moves.{WeightsBelow}
 use Rattle.search.specs.Limits.{ShapeLimited}
 use Rattle.search.specs.declared.Shape.{Shape}
 use Rattle.timed_sets.specs.Nodes.{TimedReady}
 use Rattle.timed_sets.specs.TimedCores.{timedOptions, timingsOf}
 use Rattle.timed_sets.specs.declared.Timed.{Timed}
 use Rattle.values.specs.Items.{itemsOf}
+use Rattle.values.specs.declared.value.Worth.{Worth}
 use Rattle.raising.specs.ChargedOptions.{withItems, chargedOnce, CostsCounted}
 use Rattle.raising.specs.CoreSets.{coreSetNumber}
-use Rattle.raising.specs.RaisedTables.{Raised, unflagged}
-use Rattle.raising.specs.RaisingLaws.{LeastOfSet}
+use Rattle.raising.specs.RaisedTables.{mostTries, Raised, triesLeft}
 use Rattle.raising.specs.declared.Site.{Site}
 use Rattle.raising.specs.declared.rounds.Candidate.{Candidate}
 
@@ -43,25 +48,43 @@ pub record SiteReady (site : Site) (timings cost : List ℕ) : Type 0 where
   pub counted : CostsCounted (site .whole) (site .items) (coreOf site timings cost)
 
 -- the table as the search in rounds keeps it
-abbrev pub SiteRaised : Site → (timings cost costs keys : List ℕ) → List Bool → Type 0
+abbrev pub SiteRaised : Site → (timings cost costs keys left : List ℕ) → Type 0
 SiteRaised site timings cost = Raised (coreOf site timings cost) (site .whole) (site .items)
 
--- the entry of set x was replaced by its least value
-pub record EntryRaised (site : Site) (x : ℕ) (timings cost costs₀ keys₀ costs keys : List ℕ) : Type 0 where
-  pub newCost : ℕ
-  pub newKey : ℕ
-  pub least : LeastOfSet (coreOf site timings cost) (site .items) x newCost newKey
-  pub costs-set : costs ≡ set costs₀ x newCost
-  pub keys-set : keys ≡ set keys₀ x newKey
+-- the least key of each set of n items
+pub record SetsWeighed (n : ℕ) (weights : List ℕ) : Type 0 where
+  pub for-all : 2 ^ n ≤ length weights
+  pub each : WeightsBelow n (2 ^ n) weights
 
--- the entry of set x is exact, and flagged so
-pub record SetSettled (site : Site) (x : ℕ) (timings cost costs keys : List ℕ) (exact₀ exact : List Bool) : Type 0 where
-  pub table : SiteRaised site timings cost costs keys exact
-  pub flagged : exact ≡ set exact₀ x true
+-- what the limit of a search asks, of a set that may still be tried so often: its entry's cost, and the least key of its patterns
+pub record LimitReady (n tries low key : ℕ) : Type 0 where
+  pub few-items : n ≤ mostItems
+  pub few-tries : tries ≤ mostTries
+  pub at-most-none : low ≤ noCost
+  pub digits : key < keyBase ^ n
 
--- so many of the sets that the first k cores of a found plan run were not exact, and are now; with none nothing changed
-pub record SetsRaised (found : Candidate) (timings cost costs keys : List ℕ) (exact₀ exact : List Bool) (k raised : ℕ) : Type 0 where
-  pub table : SiteRaised (found .site) timings cost costs keys exact
-  pub fewer : unflagged (found .site .items) exact + raised ≡ unflagged (found .site .items) exact₀
-  pub same : raised ≡ 0 → exact ≡ exact₀
-  pub flagged : (j : ℕ) → j < k → getD exact (coreSetNumber (found .site .items) (found .site .levels) j (found .key)) false ≡ true
+-- no limit, or one that is not below the entry, and not the last try's
+pub record LimitOf (n tries low key : ℕ) (most : Worth) : Type 0 where
+  pub at-most-none : most .cost ≤ noCost
+  pub digits : most .key < keyBase ^ n
+  pub cost : most .cost < noCost → (low ≤ most .cost) × (most .cost ≤ mostCoreCost)
+  pub least-key : most .cost < noCost → most .key ≡ key
+  pub not-last : most .cost < noCost → 1 < tries
+
+-- how often a set may still be tried that was searched up to a limit: less often, and not at all where what was found comes before
+-- the limit or there was none
+pub record TriesAfter (tries : ℕ) (most found : Worth) (after : ℕ) : Type 0 where
+  pub fewer : after < tries
+  pub settled : after ≡ 0 → (noCost ≤ most .cost) ⊎ ((found .cost < most .cost) ⊎ (found .key < most .key))
+
+-- a set was tried
+pub record SetTried (site : Site) (timings cost costs keys left₀ left : List ℕ) : Type 0 where
+  pub table : SiteRaised site timings cost costs keys left
+  pub fewer : triesLeft (site .items) left < triesLeft (site .items) left₀
+
+-- so many of the sets that the first k cores of a found plan run were tried; with none nothing changed, and all are exact
+pub record SetsRaised (found : Candidate) (timings cost costs keys left₀ left : List ℕ) (k raised : ℕ) : Type 0 where
+  pub table : SiteRaised (found .site) timings cost costs keys left
+  pub fewer : triesLeft (found .site .items) left + raised ≤ triesLeft (found .site .items) left₀
+  pub same : raised ≡ 0 → left ≡ left₀
+  pub settled : raised ≡ 0 → (j : ℕ) → j < k → getD left (coreSetNumber (found .site .items) (found .site .levels) j (found .key)) 0 ≡ 0

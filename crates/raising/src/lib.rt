@@ -1,17 +1,15 @@
-// The best plan where jobs may be due before their period's end. Partition and keeping search a table of lower values, at first
-// those of load alone; the entries of the plan that they find are made exact, until the found plan's all are.
+// The best plan where jobs may be due before their period's end. Partition and keeping search a table of lower values; the
+// entries of the plan that they find are raised, until all of them are exact.
 mod dropping;
 mod lifting;
 mod rounds;
 mod sets;
+mod start;
 
-use dropping::drop_unservable;
-use knapsack::Core;
-use knapsack_tables::fill_knapsacks;
 use rounds::least_in_rounds;
 use search::Found;
 use search::write_plan;
-use timed_sets::Timed;
+use start::fill_start;
 use values::MOST_SETS;
 use values::NO_COST;
 ghost use Prim.Native.Nat.{_≤_};
@@ -34,30 +32,19 @@ pub struct Site {
 pub fn cheapest_in_time(
     site: Site,
     timings: &[u32],
-    load: &[u64],
     cost: &[u64],
     refusal: &[u64],
     must: &[bool],
     plan: &mut [u32],
 ) -> Found
-    requires { ⌜ SiteOffered site (now timings) (now load) (now cost) (now refusal) (now must) ⌝ }
+    requires { ⌜ SiteOffered site (now timings) (now cost) (now refusal) (now must) ⌝ }
     requires { ⌜ site .items ≤ length (now plan) ⌝ }
     ensures { λ r. ⌜ BestFound (siteOptions site (now (timings .entry)) (now (cost .entry)) (now (refusal .entry)) (now (must .entry)))
         (now (plan .entry)) (now (plan .exit)) r ⌝ }
 {
     let mut costs = [0u64; MOST_SETS];
     let mut keys = [0u64; MOST_SETS];
-    let core = Core {
-        levels: site.levels,
-        capacity: site.span as usize,
-    };
-    fill_knapsacks(core, site.items, load, cost, &mut costs, &mut keys);
-    let timed = Timed {
-        items: site.items,
-        levels: site.levels,
-        span: site.span,
-    };
-    drop_unservable(timed, 0, 0, false, timings, &mut costs);
+    fill_start(site, timings, cost, &mut costs, &mut keys);
     let best = least_in_rounds(site, timings, cost, refusal, must, &mut costs, &mut keys);
     if NO_COST <= best.cost {
         return Found::NoPlan;

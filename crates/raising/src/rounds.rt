@@ -1,29 +1,33 @@
 // The rounds of the search.
 use crate::Site;
+use crate::lifting::MOST_CORE_COST;
 use crate::lifting::lift_all;
 use crate::sets::core_set;
 use core_tables::charge_idle_once;
 use partition::fill_weights;
 use search::Shape;
 use search::least_of_table;
-use timed_sets::Lagrangian;
+use timed_sets::Bounded;
 use timed_sets::Timed;
-use timed_sets::least_in_time;
+use timed_sets::has_few_items;
+use timed_sets::least_up_to;
+use timed_sets::relaxation_of;
 use values::MOST_SETS;
 use values::NO_COST;
 use values::Worth;
-ghost use mathlib.Core.Bool.{false};
 ghost use Prim.Native.Nat.{_^_, _<_};
-ghost use lib.ListN.{replicate};
+ghost use lib.ListN.{getD, replicate};
 ghost use Rattle.assignment.specs.Keys.{keyBase};
 ghost use Rattle.assignment.specs.SearchTheorem.{BestAnswers};
 ghost use Rattle.assignment.specs.Words.{noCost};
 ghost use Rattle.partition.specs.Tables.{mostSets};
 ghost use Rattle.values.specs.Worths.{worthOf};
+ghost use Rattle.raising.specs.RaisedTables.{mostTries};
 ghost use Rattle.raising.specs.Rounds.{RefusalsOffered, RoundReady, RoundFound};
-ghost use Rattle.raising.specs.TimedSites.{shapeOf, timedOf, siteOptions, SiteReady, SiteRaised, EntryRaised, SetSettled, SetsRaised};
-ghost use Rattle.timed_sets.specs.Lagrangians.{Relaxes};
-ghost use Rattle.timed_sets.specs.Nodes.{LowerTimed};
+ghost use Rattle.raising.specs.TimedSites.{shapeOf, siteOptions, SiteReady, SiteRaised, SetsWeighed, LimitReady, LimitOf, TriesAfter, SetTried, SetsRaised};
+
+// How often a set is tried at most.
+const TRIES: u32 = 13;
 
 // A plan that was found, by its key.
 struct Candidate {
@@ -51,73 +55,100 @@ fn least_charged(
     least_of_table(shape, refusal, must, &costs, keys)
 }
 
-// Replaces the entry of a set by its least value, and answers a relaxation, which bounds all sets.
-fn raise_entry(
+// Up to where a set is searched, from its entry on: each try goes above the entry twice as far as the one before it, the last as far
+// as there is.
+fn limit_of(items: usize, set: usize, left: u32, low: u64, key: u64) -> Worth
+    requires { ⌜ LimitReady items left low key ⌝ }
+    ensures { λ r. ⌜ LimitOf items left low key r ⌝ }
+{
+    let none = Worth {
+        cost: NO_COST,
+        key: 0,
+    };
+    if has_few_items(items, set) {
+        return none;
+    }
+    if left <= 1 {
+        return none;
+    }
+    let cost = low + (low >> left) + 1;
+    if MOST_CORE_COST < cost {
+        return none;
+    }
+    Worth {
+        cost: cost,
+        key: key,
+    }
+}
+
+// How often a set may still be tried, once it was searched up to a limit: not at all where its least value was found.
+fn left_after(left: u32, most: Worth, found: Worth) -> u32
+    requires { ⌜ 0 < left ⌝ }
+    requires { ⌜ (most .cost < noCost → 1 < left) ⌝ }
+    ensures { λ r. ⌜ TriesAfter left most found r ⌝ }
+{
+    if NO_COST <= most.cost {
+        return 0;
+    }
+    if found.cost < most.cost {
+        return 0;
+    }
+    if found.key < most.key {
+        return 0;
+    }
+    left - 1
+}
+
+// Searches a set up to its limit, for its least value or a higher entry; its relaxation raises the others' entries.
+fn try_set(
     site: Site,
     set: usize,
     timings: &[u32],
     cost: &[u64],
+    weights: &[u64],
     costs: &mut [u64],
     keys: &mut [u64],
-) -> Lagrangian
+    left: &mut [u32],
+)
     requires { ⌜ SiteReady site (now timings) (now cost) ⌝ }
-    requires { ⌜ LowerTimed (timedOf site) (now timings) (now cost) (now costs) (now keys) ⌝ }
+    requires { ⌜ SetsWeighed (site .items) (now weights) ⌝ }
+    requires { ⌜ SiteRaised site (now timings) (now cost) (now costs) (now keys) (now left) ⌝ }
     requires { ⌜ set < 2 ^ site .items ⌝ }
-    ensures { λ _. ⌜ EntryRaised site set (now (timings .entry)) (now (cost .entry)) (now (costs .entry)) (now (keys .entry))
-        (now (costs .exit)) (now (keys .exit)) ⌝ }
-    ensures { λ r. ⌜ Relaxes (timedOf site) (now (timings .entry)) (now (cost .entry)) r ⌝ }
+    requires { ⌜ 0 < getD (now left) set 0 ⌝ }
+    ensures { λ _. ⌜ SetTried site (now (timings .entry)) (now (cost .entry)) (now (costs .exit)) (now (keys .exit))
+        (now (left .entry)) (now (left .exit)) ⌝ }
 {
     let timed = Timed {
         items: site.items,
         levels: site.levels,
         span: site.span,
     };
-    let settled = least_in_time(timed, set, timings, cost, costs, keys);
-    costs[set] = settled.least.cost;
-    keys[set] = settled.least.key;
-    settled.relaxed
+    let relaxed = relaxation_of(timed, set, timings, cost);
+    lift_all(site.items, relaxed, weights, costs, keys);
+    let most = limit_of(site.items, set, left[set], costs[set], weights[set]);
+    let bounded = Bounded { timed, relaxed };
+    let found = least_up_to(bounded, set, most, timings, cost, costs, keys);
+    costs[set] = found.cost;
+    keys[set] = found.key;
+    left[set] = left_after(left[set], most, found);
 }
 
-// Makes the entry of a set exact, and raises the others as far as its relaxation says.
-fn settle_set(
-    site: Site,
-    set: usize,
-    timings: &[u32],
-    cost: &[u64],
-    costs: &mut [u64],
-    keys: &mut [u64],
-    exact: &mut [bool],
-)
-    requires { ⌜ SiteReady site (now timings) (now cost) ⌝ }
-    requires { ⌜ SiteRaised site (now timings) (now cost) (now costs) (now keys) (now exact) ⌝ }
-    requires { ⌜ set < 2 ^ site .items ⌝ }
-    ensures { λ _. ⌜ SetSettled site set (now (timings .entry)) (now (cost .entry)) (now (costs .exit)) (now (keys .exit))
-        (now (exact .entry)) (now (exact .exit)) ⌝ }
-{
-    let relaxed = raise_entry(site, set, timings, cost, costs, keys);
-    exact[set] = true;
-    if relaxed.budget == 0 {
-        return;
-    }
-    let mut weights = [0u64; MOST_SETS];
-    fill_weights(site.items, &mut weights);
-    lift_all(site.items, relaxed, &weights, costs, keys);
-}
-
-// Makes the entries of the sets that the cores of a found plan run exact, and answers how many were not.
+// Tries the sets that the cores of a found plan run, where their entries are not exact, and answers how many these were.
 fn raise_sets(
     found: Candidate,
     timings: &[u32],
     cost: &[u64],
+    weights: &[u64],
     costs: &mut [u64],
     keys: &mut [u64],
-    exact: &mut [bool],
+    left: &mut [u32],
 ) -> usize
     requires { ⌜ SiteReady (found .site) (now timings) (now cost) ⌝ }
+    requires { ⌜ SetsWeighed (found .site .items) (now weights) ⌝ }
     requires { ⌜ found .key < keyBase ^ found .site .items ⌝ }
-    requires { ⌜ SiteRaised (found .site) (now timings) (now cost) (now costs) (now keys) (now exact) ⌝ }
+    requires { ⌜ SiteRaised (found .site) (now timings) (now cost) (now costs) (now keys) (now left) ⌝ }
     ensures { λ r. ⌜ SetsRaised found (now (timings .entry)) (now (cost .entry)) (now (costs .exit)) (now (keys .exit))
-        (now (exact .entry)) (now (exact .exit)) (found .site .cores) r ⌝ }
+        (now (left .entry)) (now (left .exit)) (found .site .cores) r ⌝ }
 {
     let site = found.site;
     let mut raised = 0;
@@ -125,15 +156,15 @@ fn raise_sets(
     while core < site.cores {
         let set = core_set(site.items, site.levels, core, found.key);
         core += 1;
-        if !exact[set] {
-            settle_set(site, set, timings, cost, costs, keys, exact);
+        if 0 < left[set] {
+            try_set(site, set, timings, cost, weights, costs, keys, left);
             raised += 1;
         }
     }
     raised
 }
 
-// The value of the best plan, from a table of lower values. Each round makes an entry exact.
+// The value of the best plan, from a table of lower values. Each round tries a set.
 pub(crate) fn least_in_rounds(
     site: Site,
     timings: &[u32],
@@ -145,11 +176,13 @@ pub(crate) fn least_in_rounds(
 ) -> Worth
     requires { ⌜ SiteReady site (now timings) (now cost) ⌝ }
     requires { ⌜ RefusalsOffered (site .items) (now refusal) (now must) ⌝ }
-    requires { ⌜ SiteRaised site (now timings) (now cost) (now costs) (now keys) (replicate mostSets false) ⌝ }
+    requires { ⌜ SiteRaised site (now timings) (now cost) (now costs) (now keys) (replicate mostSets mostTries) ⌝ }
     ensures { λ r. ⌜ BestAnswers (siteOptions site (now (timings .entry)) (now (cost .entry)) (now (refusal .entry)) (now (must .entry))) (worthOf r) ⌝ }
     ensures { λ r. ⌜ (r .cost < noCost → r .key < keyBase ^ site .items) ⌝ }
 {
-    let mut exact = [false; MOST_SETS];
+    let mut weights = [0u64; MOST_SETS];
+    let mut left = [TRIES; MOST_SETS];
+    fill_weights(site.items, &mut weights);
     loop {
         let best = least_charged(site, refusal, must, *costs, keys);
         if NO_COST <= best.cost {
@@ -159,7 +192,7 @@ pub(crate) fn least_in_rounds(
             site: site,
             key: best.key,
         };
-        let raised = raise_sets(found, timings, cost, costs, keys, &mut exact);
+        let raised = raise_sets(found, timings, cost, &weights, costs, keys, &mut left);
         if raised == 0 {
             return best;
         }

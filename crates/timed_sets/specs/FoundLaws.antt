@@ -9,17 +9,16 @@ use native.Mathlib.Omega.{arith}
 use lib.ListN.{length}
 use Rattle.assignment.specs.Sets.{setNumber}
 use Rattle.assignment.specs.SetLaws.{setNumber-below}
-use Rattle.assignment.specs.Values.{Value, none, to-none}
-use Rattle.assignment.specs.Words.{noCost, words-none}
+use Rattle.assignment.specs.Values.{Value, none}
 use Rattle.knapsack.specs.Offered.{entryOf}
-use Rattle.values.specs.WorthLaws.{lesserWorth-either}
+use Rattle.values.specs.WorthLaws.{lesserWorth-value}
 use Rattle.values.specs.Worths.{lesserWorth, worthOf}
 use Rattle.values.specs.declared.value.Worth.{Worth}
 use Rattle.timed_sets.specs.AdmittedLaws.{too-long-is-not-reached}
-use Rattle.timed_sets.specs.Nodes.{timedCore, TimedReady, Stands, passedOver, runAt, nextLevel, FoundFrom, OneFrom, noneYet}
+use Rattle.timed_sets.specs.Nodes.{timedCore, TimedReady, Stands, passedOver, runAt, nextLevel, FoundFrom, OneFrom}
 use Rattle.timed_sets.specs.NodeLaws.{stands-passed, stands-run, stands-next}
 use Rattle.timed_sets.specs.Reached.{OneCore, Reached, whole, passed, runs}
-use Rattle.timed_sets.specs.ReachedLaws.{nothing-before, pass-over, no-level-left, level-by-level}
+use Rattle.timed_sets.specs.ReachedLaws.{nothing-before, known-lowered, pass-over, no-level-left, level-by-level}
 use Rattle.timed_sets.specs.TimedCores.{timingAt}
 use Rattle.timed_sets.specs.declared.Node.{Node}
 use Rattle.timed_sets.specs.declared.Timed.{Timed}
@@ -161,24 +160,10 @@ one-whole {timed} {timings} {cost} {q} {T} {node} {known} {r} is-none found = re
     go (inl e) = inl (e ∙ is-none)
     go (inr reached) = inr (from-any-level reached)
 
--- one of two patterns
-pub one-lesser : {timed : Timed} {timings cost q : List ℕ} {T : List Bool} {a b r : Worth} → r ≡ lesserWorth a b →
-    OneFrom timed timings cost q T a → OneFrom timed timings cost q T b → OneFrom timed timings cost q T r
-one-lesser {timed} {timings} {cost} {q} {T} {a} {b} is first second = rw is (go (lesserWorth-either a b))
-  where
-    go : (lesserWorth a b ≡ a) ⊎ (lesserWorth a b ≡ b) → OneFrom timed timings cost q T (lesserWorth a b)
-    go (inl e) = rw e first
-    go (inr e) = rw e second
-
--- from what one pattern is worth the search goes on as from none
-pub found-from-one : {timed : Timed} {timings cost q : List ℕ} {T : List Bool} {node : Node} {known r : Worth} → node .level ≡ 0 →
-    OneFrom timed timings cost q T known → FoundFrom timed timings cost node q T known r → FoundFrom timed timings cost node q T noneYet r
-found-from-one {timed} {timings} {cost} {q} {T} {node} {known} {r} at-first one found =
-    record { least = record { no-later = rw (words-none noCost 0 (omega arith)) to-none; below = found .least .below; attained = go (found .least .attained) (one .one) } }
-  where
-    go : (worthOf r ≡ worthOf known) ⊎ Reached (timedCore timed timings cost) q T (node .level) (worthOf r) →
-        (worthOf known ≡ none) ⊎ Reached (timedCore timed timings cost) q T 0 (worthOf known) →
-        (worthOf r ≡ worthOf noneYet) ⊎ Reached (timedCore timed timings cost) q T (node .level) (worthOf r)
-    go (inl same) (inl e) = inl (same ∙ e ∙ sym (words-none noCost 0 (omega arith)))
-    go (inl same) (inr reached) = inr (rw (same, at-first) reached)
-    go (inr reached) either = inr reached
+-- from the lesser of a value and of what one pattern is worth the search goes on as from the value
+pub found-from-one : {timed : Timed} {timings cost q : List ℕ} {T : List Bool} {node : Node} {most one best r : Worth} → node .level ≡ 0 →
+    best ≡ lesserWorth most one → OneFrom timed timings cost q T one → FoundFrom timed timings cost node q T best r →
+    FoundFrom timed timings cost node q T most r
+found-from-one {most} {one} at-first is its found =
+    let lowered = ap worthOf is ∙ lesserWorth-value most one in
+    record { least = known-lowered (rw at-first (its .one)) (rw lowered at (found .least)) }

@@ -18,7 +18,7 @@ use Rattle.assignment.specs.Values.{Value, none, AtMost, Least}
 use Rattle.assignment.specs.Words.{noCost}
 use Rattle.knapsack.specs.Offered.{entryOf, offersOf}
 use Rattle.knapsack.specs.Offers.{patternCost}
-use Rattle.values.specs.Worths.{Small, worthOf}
+use Rattle.values.specs.Worths.{worthOf}
 use Rattle.values.specs.declared.value.Worth.{Worth}
 use Rattle.timed_sets.specs.Reached.{OneCore, worthOn, Reached, LeastFrom}
 use Rattle.timed_sets.specs.TimedCores.{timingWidth, timingAt, timingIn, timingsOf, patternTasks, entryTicks, timedOptions}
@@ -101,8 +101,15 @@ abbrev pub atLevel : Node → ℕ → Node
 atLevel node level =
     record { item = node .item; level = level; rest = node .rest; cost = node .cost; key = node .key; ticks = node .ticks }
 
-abbrev pub SmallWorth : Timed → Worth → Type 0
-SmallWorth timed worth = Small (timed .items) (worth .cost) (worth .key)
+-- no more than what stands for none, no real cost above that of a core, and a key with a digit for each item
+pub record SmallWorth (timed : Timed) (worth : Worth) : Type 0 where
+  pub at-most-none : worth .cost ≤ noCost
+  pub real : worth .cost < noCost → worth .cost ≤ mostCoreCost
+  pub digits : worth .key < keyBase ^ timed .items
+
+-- what the front of a node is worth
+abbrev pub worthAt : Node → Worth
+worthAt node = record { cost = node .cost; key = node .key }
 
 abbrev pub noneYet : Worth
 noneYet = record { cost = noCost; key = 0 }
@@ -138,3 +145,13 @@ pub record LeastInTime (timed : Timed) (set : ℕ) (timings cost : List ℕ) (r 
       let o = timedOptions cores (timed .levels) (timed .span) (timingsOf timings (timed .items)) (offersOf load cost (timed .items)) items in
       Least (Admitted o S) (patternWorth o) (worthOf r)
   pub small : SmallWorth timed r
+
+-- a value that no admitted pattern of the set comes before
+pub record LowerInTime (timed : Timed) (set : ℕ) (timings cost : List ℕ) (r : Worth) : Type 0 where
+  pub lower : (S : List Bool) → length S ≡ timed .items → setNumber (timed .items) S ≡ set → (pattern : List ℕ) → Keeps (timed .levels) S pattern →
+      timedCore timed timings cost .admits pattern ≡ true → AtMost (worthOf r) (worthOn (timedCore timed timings cost) pattern)
+
+-- what a search up to a limit finds: the least value of the set; or the limit, where nothing comes before it
+pub data FoundUpTo (timed : Timed) (set : ℕ) (timings cost : List ℕ) (most r : Worth) : Type 0 where
+  is-least : LeastInTime timed set timings cost r → FoundUpTo timed set timings cost most r
+  is-limit : worthOf r ≡ worthOf most → LowerInTime timed set timings cost r → FoundUpTo timed set timings cost most r

@@ -8,13 +8,31 @@ use native.Mathlib.Nat.{eq-or-lt-of-le}
 use native.Mathlib.Omega.{arith}
 use Rattle.laws.specs.Truth.{false-not-true}
 use Rattle.assignment.specs.Keeping.{Keeps, done, refused, kept}
-use Rattle.assignment.specs.Values.{Value, none, AtMost, lesser, Least}
-use Rattle.assignment.specs.ValueLaws.{atMost-refl, atMost-trans, lesser-first, lesser-second, lesser-either}
+use Rattle.assignment.specs.Values.{Value, none, AtMost, to-none, lesser}
+use Rattle.assignment.specs.ValueLaws.{atMost-refl, atMost-trans, atMost-antisym, lesser-first, lesser-second, lesser-either}
 use Rattle.timed_sets.specs.Reached.{OneCore, worthOn, Reached, whole, passed, runs, LeastFrom}
 
 -- nothing that is reached comes before the known value
 pub nothing-before : {Has : Value → Type 0} {known : Value} → ((u : Value) → Has u → AtMost known u) → LeastFrom Has known known
 nothing-before {known} after = record { no-later = atMost-refl known; below = after; attained = inl refl }
+
+-- a known value may be lowered to one that is reached
+pub known-lowered : {Has : Value → Type 0} {known one v : Value} → (one ≡ none) ⊎ Has one → LeastFrom Has (lesser known one) v → LeastFrom Has known v
+known-lowered {Has} {known} {one} {v} reached least =
+    record {
+      no-later = no-later;
+      below = least .below;
+      attained = attained (least .attained) (lesser-either known one) reached;
+    }
+  where
+    no-later : AtMost v known
+    no-later = atMost-trans (least .no-later) (lesser-first known one)
+
+    attained : (v ≡ lesser known one) ⊎ Has v → (lesser known one ≡ known) ⊎ (lesser known one ≡ one) → (one ≡ none) ⊎ Has one → (v ≡ known) ⊎ Has v
+    attained (inr has) either its = inr has
+    attained (inl same) (inl e) its = inl (same ∙ e)
+    attained (inl same) (inr e) (inl is-none) = let nothing = same ∙ e ∙ is-none in inl (atMost-antisym no-later (rw nothing to-none))
+    attained (inl same) (inr e) (inr has) = let its = same ∙ e in inr (rw its has)
 
 module _ (core : OneCore) where
   pub whole-met : {q : List ℕ} {level : ℕ} {known : Value} → core .admits q ≡ true →
@@ -108,17 +126,3 @@ module _ (core : OneCore) where
   pattern-reached q (kept {plan = r} l within keeps) met =
       let e = append-assoc q (suc l ∷ []) r in
       runs {level = 0} l (omega arith) within (rw e at (pattern-reached (q ++ (suc l ∷ [])) keeps (rw (sym e) at met)))
-
-  -- from nothing on, where nothing is known: the least value of a set
-  pub least-of-set : {S : List Bool} {v : Value} → LeastFrom (Reached core [] S 0) none v →
-      Least (λ (pattern : List ℕ). Keeps (core .levels) S pattern × (core .admits pattern ≡ true)) (worthOn core) v
-  least-of-set {S} {v} least =
-      record {
-        below = λ pattern has. least .below (worthOn core pattern) (pattern-reached [] (has .0) (has .1));
-        attained = attained (least .attained);
-      }
-    where
-      attained : (v ≡ none) ⊎ Reached core [] S 0 v →
-          (v ≡ none) ⊎ ((pattern : List ℕ) × (Keeps (core .levels) S pattern × (core .admits pattern ≡ true)) × (v ≡ worthOn core pattern))
-      attained (inl e) = inl e
-      attained (inr reached) = let (r, keeps, met, worth) = reached-pattern reached in inr (r, (keeps, met), worth)

@@ -1,29 +1,28 @@
--- What the search of one set finds is its least value, whatever the cores, the loads and the refusals are.
+-- What the search of one set up to a limit finds is its least value, whatever the cores, the loads and the refusals are; or the limit.
 use Prim.Native.Nat.{ℕ, zero, suc, _^_, _<_}
-use mathlib.Core.Bool.{Bool, true}
+use mathlib.Core.Bool.{Bool, true, false}
 use mathlib.Core.List.{List, [], _∷_, _++_}
-use mathlib.Core.Logic.{_⊎_, inl, inr}
-use mathlib.Core.Path.{_≡_, refl}
+use mathlib.Core.Logic.{_⊎_, inl, inr, _≢_}
+use mathlib.Core.Path.{_≡_, refl, sym, ap, _∙_}
 use native.Mathlib.Omega.{arith}
-use lib.ListN.{replicate}
+use lib.ListN.{length, replicate}
 use Rattle.laws.specs.Lists.{listOf}
 use Rattle.assignment.specs.Assignment.{Item}
 use Rattle.assignment.specs.CoreTables.{Admitted, patternWorth}
 use Rattle.assignment.specs.Keeping.{Keeps}
-use Rattle.assignment.specs.Keys.{planKey}
 use Rattle.assignment.specs.Limits.{mostItems}
-use Rattle.assignment.specs.SetLaws.{numbered}
-use Rattle.assignment.specs.Values.{none, pair}
-use Rattle.assignment.specs.Words.{noCost, words-none}
+use Rattle.assignment.specs.SetLaws.{Numbered, numbered, setNumber-below}
+use Rattle.assignment.specs.Sets.{setNumber}
+use Rattle.assignment.specs.Values.{none, Attained}
 use Rattle.knapsack.specs.Offered.{offerAt, offersOf}
 use Rattle.knapsack.specs.Offers.{Offer, entryCost, patternCost}
 use Rattle.values.specs.Worths.{worthOf}
 use Rattle.values.specs.declared.value.Worth.{Worth}
-use Rattle.timed_sets.specs.Nodes.{timedCore, Stands, FoundFrom, SmallWorth, LeastInTime, noneYet}
+use Rattle.timed_sets.specs.Nodes.{timedCore, Stands, FoundFrom, SmallWorth, LeastInTime, LowerInTime, FoundUpTo, is-least, is-limit, noneYet}
 use Rattle.timed_sets.specs.NodeLaws.{stands-at-start}
 use Rattle.timed_sets.specs.PromisingLaws.{power-above-0}
 use Rattle.timed_sets.specs.Reached.{worthOn, LeastFrom, Reached}
-use Rattle.timed_sets.specs.ReachedLaws.{least-of-set}
+use Rattle.timed_sets.specs.ReachedLaws.{reached-pattern, pattern-reached}
 use Rattle.timed_sets.specs.TimedCores.{timedOptions, timingsOf}
 use Rattle.timed_sets.specs.declared.Node.{Node}
 use Rattle.timed_sets.specs.declared.Timed.{Timed}
@@ -66,29 +65,84 @@ start-stands timed timings cost set below =
 pub none-is-small : (timed : Timed) → SmallWorth timed noneYet
 none-is-small timed = record { at-most-none = omega arith; real = λ below. absurd (omega arith); digits = power-above-0 (timed .items) }
 
-pub found-is-least : {timed : Timed} {timings cost : List ℕ} {set : ℕ} {r : Worth} →
-    ((q : List ℕ) (T : List Bool) → Stands timed timings cost (startAt set) q T → FoundFrom timed timings cost (startAt set) q T noneYet r) →
-    SmallWorth timed r → LeastInTime timed set timings cost r
-unfolding timedOptions patternWorth worthOn
-found-is-least {timed} {timings} {cost} {set} {r} found small =
-    record {
-      least = λ cores load items S of-items is.
-          let stands = rw is at (stands-at-start timed timings cost S of-items) in
-          let from : LeastFrom (Reached (timedCore timed timings cost) [] S 0) none (worthOf r) =
-          rw (words-none noCost 0 (omega arith)) at (found [] S stands .least) in
-          let least = least-of-set (timedCore timed timings cost) from in
-          let same = loads-do-not-matter load cost (timed .items) in
-          record {
-            below = λ pattern admitted.
-                rw (same pattern) (least .below pattern (admitted .keeps, admitted .admitted));
-            attained = attained cores load items S (least .attained);
-          };
-      small = small;
-    }
-  where
-    attained : (cores : ℕ) (load : List ℕ) (items : List Item) (S : List Bool) →
-        (worthOf r ≡ none) ⊎ ((pattern : List ℕ) × (Keeps (timed .levels) S pattern × (timedCore timed timings cost .admits pattern ≡ true)) × (worthOf r ≡ worthOn (timedCore timed timings cost) pattern)) →
-        (worthOf r ≡ none) ⊎ ((pattern : List ℕ) × Admitted (timedOptions cores (timed .levels) (timed .span) (timingsOf timings (timed .items)) (offersOf load cost (timed .items)) items) S pattern × (worthOf r ≡ pair (patternCost (offersOf load cost (timed .items)) pattern) (planKey pattern)))
-    attained cores load items S (inl e) = inl e
-    attained cores load items S (inr (pattern, (keeps, met), e)) =
-        inr (pattern, record { keeps = keeps; admitted = met }, rw (loads-do-not-matter load cost (timed .items) pattern) e)
+-- sets of one number are the same
+same-set : (n : ℕ) (S T : List Bool) → length S ≡ n → length T ≡ n → setNumber n S ≡ setNumber n T → S ≡ T
+unfolding setNumber
+same-set zero [] [] of-items also same = refl
+same-set zero (b ∷ S) T of-items also same = absurd (omega (arith, of-items))
+same-set zero [] (b ∷ T) of-items also same = absurd (omega (arith, also))
+same-set (suc n) [] T of-items also same = absurd (omega (arith, of-items))
+same-set (suc n) (b ∷ S) [] of-items also same = absurd (omega (arith, also))
+same-set (suc n) (true ∷ S) (true ∷ T) of-items also same =
+    ap (λ (rest : List Bool). true ∷ rest) (same-set n S T (omega (arith, of-items)) (omega (arith, also)) (omega (arith, same)))
+same-set (suc n) (false ∷ S) (false ∷ T) of-items also same =
+    ap (λ (rest : List Bool). false ∷ rest) (same-set n S T (omega (arith, of-items)) (omega (arith, also)) (omega (arith, same)))
+same-set (suc n) (true ∷ S) (false ∷ T) of-items also same = absurd (omega (arith, same, setNumber-below n T))
+same-set (suc n) (false ∷ S) (true ∷ T) of-items also same = absurd (omega (arith, same, setNumber-below n S))
+
+module _ {timed : Timed} {set : ℕ} {timings cost : List ℕ} {r : Worth} where
+  -- a lower value that is attained, or none
+  lower-is-least : SmallWorth timed r → LowerInTime timed set timings cost r →
+      ((S : List Bool) → length S ≡ timed .items → setNumber (timed .items) S ≡ set →
+      Attained (λ (pattern : List ℕ). Keeps (timed .levels) S pattern × (timedCore timed timings cost .admits pattern ≡ true))
+      (worthOn (timedCore timed timings cost)) (worthOf r)) →
+      LeastInTime timed set timings cost r
+  unfolding timedOptions patternWorth worthOn
+  lower-is-least small lower attained =
+      record {
+        least = λ cores load items S of-items is.
+            record {
+              below = λ pattern admitted.
+                  rw (loads-do-not-matter load cost (timed .items) pattern) (lower .lower S of-items is pattern (admitted .keeps) (admitted .admitted));
+              attained = in-options cores load items S (attained S of-items is);
+            };
+        small = small;
+      }
+    where
+      in-options : (cores : ℕ) (load : List ℕ) (items : List Item) (S : List Bool) →
+          Attained (λ (pattern : List ℕ). Keeps (timed .levels) S pattern × (timedCore timed timings cost .admits pattern ≡ true))
+          (worthOn (timedCore timed timings cost)) (worthOf r) →
+          let o = timedOptions cores (timed .levels) (timed .span) (timingsOf timings (timed .items)) (offersOf load cost (timed .items)) items in
+          Attained (Admitted o S) (patternWorth o) (worthOf r)
+      in-options cores load items S (inl e) = inl e
+      in-options cores load items S (inr (pattern, (keeps, met), e)) =
+          inr (pattern, record { keeps = keeps; admitted = met }, rw (loads-do-not-matter load cost (timed .items) pattern) e)
+
+  module _ {most : Worth} where
+    -- what is found from the start
+    pub found-up-to : set < 2 ^ timed .items → SmallWorth timed r →
+        ((q : List ℕ) (T : List Bool) → Stands timed timings cost (startAt set) q T → FoundFrom timed timings cost (startAt set) q T most r) →
+        FoundUpTo timed set timings cost most r
+    found-up-to under small found =
+        let its = numbered (timed .items) set under in go its (from (its .set) (its .of-items) (its .number) .attained)
+      where
+        from : (S : List Bool) → length S ≡ timed .items → setNumber (timed .items) S ≡ set →
+            LeastFrom (Reached (timedCore timed timings cost) [] S 0) (worthOf most) (worthOf r)
+        from S of-items is = found [] S (rw is at (stands-at-start timed timings cost S of-items)) .least
+
+        lower : LowerInTime timed set timings cost r
+        lower =
+            record { lower = λ S of-items is pattern keeps met. from S of-items is .below _ (pattern-reached (timedCore timed timings cost) [] keeps met) }
+
+        go : (its : Numbered (timed .items) set) → (worthOf r ≡ worthOf most) ⊎ Reached (timedCore timed timings cost) [] (its .set) 0 (worthOf r) →
+            FoundUpTo timed set timings cost most r
+        go its (inl e) = is-limit e lower
+        go its (inr reached) =
+            let (pattern, keeps, met, worth) = reached-pattern (timedCore timed timings cost) reached in
+            is-least (lower-is-least small lower (λ S of-items is.
+            let same = same-set (timed .items) S (its .set) of-items (its .of-items) (is ∙ sym (its .number)) in
+            inr (pattern, (rw same keeps, met), worth)))
+
+    pub found-is-lower : FoundUpTo timed set timings cost most r → LowerInTime timed set timings cost r
+    unfolding timedOptions patternWorth worthOn
+    found-is-lower (is-least least) =
+        record { lower = λ S of-items is pattern keeps met. least .least 1 [] [] S of-items is .below pattern record { keeps = keeps; admitted = met } }
+    found-is-lower (is-limit e lower) = lower
+
+    pub least-without-limit : FoundUpTo timed set timings cost most r → worthOf most ≡ none → SmallWorth timed r → LeastInTime timed set timings cost r
+    least-without-limit (is-least least) no-limit small = least
+    least-without-limit (is-limit e lower) no-limit small = lower-is-least small lower (λ S of-items is. inl (e ∙ no-limit))
+
+    pub least-before-limit : FoundUpTo timed set timings cost most r → worthOf r ≢ worthOf most → LeastInTime timed set timings cost r
+    least-before-limit (is-least least) before = least
+    least-before-limit (is-limit e lower) before = absurd (before e)

@@ -9,16 +9,13 @@ use Rattle.assignment.specs.Limits.{mostItems}
 use Rattle.assignment.specs.Values.{pair, lesser}
 use Rattle.assignment.specs.Words.{words-pair}
 use Rattle.values.specs.WorthLaws.{lesserWorth-either, lesserWorth-value}
-use Rattle.values.specs.Worths.{Small, lesserWorth, worthOf}
+use Rattle.values.specs.Worths.{lesserWorth, worthOf}
 use Rattle.values.specs.declared.value.Worth.{Worth}
-use Rattle.timed_sets.specs.Nodes.{timedCore, Stands, FoundFrom, SmallWorth}
+use Rattle.timed_sets.specs.Nodes.{timedCore, Stands, FoundFrom, SmallWorth, worthAt}
 use Rattle.timed_sets.specs.Reached.{worthOn}
 use Rattle.timed_sets.specs.ReachedLaws.{whole-met, whole-unmet}
 use Rattle.timed_sets.specs.declared.Node.{Node}
 use Rattle.timed_sets.specs.declared.Timed.{Timed}
-
-abbrev pub worthAt : Node → Worth
-worthAt node = record { cost = node .cost; key = node .key }
 
 module _ {timed : Timed} {timings cost : List ℕ} {node : Node} (few : timed .items ≤ mostItems) (whole : node .item ≡ timed .items) where
   its-worth : {q : List ℕ} {T : List Bool} → Stands timed timings cost node q T → worthOf (worthAt node) ≡ worthOn (timedCore timed timings cost) q
@@ -38,7 +35,7 @@ module _ {timed : Timed} {timings cost : List ℕ} {node : Node} (few : timed .i
   found-unmet q [] stands unmet = record { least = whole-unmet _ (sym unmet) }
   found-unmet q (b ∷ T) stands unmet = absurd (omega (arith, stands .behind))
 
-pub lesser-small : (timed : Timed) (a b r : Worth) → r ≡ lesserWorth a b → Small (timed .items) (b .cost) (b .key) → SmallWorth timed a → SmallWorth timed r
+pub lesser-small : (timed : Timed) (a b r : Worth) → r ≡ lesserWorth a b → SmallWorth timed b → SmallWorth timed a → SmallWorth timed r
 lesser-small timed a b r is small-b small-a = go (lesserWorth-either a b)
   where
     go : (lesserWorth a b ≡ a) ⊎ (lesserWorth a b ≡ b) → SmallWorth timed r
@@ -46,10 +43,10 @@ lesser-small timed a b r is small-b small-a = go (lesserWorth-either a b)
     go (inr e) = let same = is ∙ e in rw same small-b
 
 pub small-at : {timed : Timed} {timings cost : List ℕ} {node : Node} {q : List ℕ} {T : List Bool} → timed .items ≤ mostItems →
-    node .item ≡ timed .items → Stands timed timings cost node q T → Small (timed .items) (node .cost) (node .key)
+    node .item ≡ timed .items → Stands timed timings cost node q T → SmallWorth timed (worthAt node)
 small-at few whole stands =
     record {
       at-most-none = omega (arith, stands .cheap);
-      real = λ below. rw (← whole) (stands .cheap);
+      real = λ below. omega (arith, stands .cheap);
       digits = rw (← whole) (stands .key-below);
     }

@@ -30,7 +30,7 @@ fn comes_first(a: Worth, b: Worth) -> bool
 }
 
 // Whether what the node is worth and the table's value of the items still to come come before the best so far.
-pub(crate) fn bound_comes_first(
+fn bound_comes_first(
     timed: Timed,
     node: Node,
     best: Worth,

@@ -8,7 +8,6 @@ mod dual_bound;
 mod exceeded;
 mod few_items;
 mod given;
-mod least;
 mod multipliers;
 mod nodes;
 mod places;
@@ -20,19 +19,22 @@ mod set_bounds;
 mod slopes;
 mod weights;
 
-use bounds::bound_comes_first;
+use choices::cheapest_key;
 pub use few_items::has_few_items;
 use given::worth_along;
-use least::least_by_search;
+use multipliers::find_prices;
 use prices::free;
+use prices::with_tick;
 use relaxation::lagrangian_of;
+use search::least_from;
 pub use servable::is_servable;
 use values::MOST_ITEMS;
 use values::MOST_LEVELS;
 use values::Worth;
+use values::lesser;
 ghost use Prim.Native.Nat.{_^_, _<_};
-ghost use Rattle.timed_sets.specs.Lagrangians.{Relaxes};
-ghost use Rattle.timed_sets.specs.Nodes.{TimedReady, LowerTimed, LeastInTime};
+ghost use Rattle.timed_sets.specs.Lagrangians.{BoundsHold, Relaxes};
+ghost use Rattle.timed_sets.specs.Nodes.{TimedReady, SmallWorth, FoundUpTo};
 
 // How many items and levels there are, and how many ticks a span has.
 pub struct Timed {
@@ -64,32 +66,52 @@ pub struct Lagrangian {
 }
 
 // What leaves parts out of a search beside the table of lower values.
-struct Bounded {
-    timed: Timed,
-    relaxed: Lagrangian,
-}
-
-// What is settled of a set: its least value; and the relaxation that was found for it, which bounds the values of all sets.
-pub struct Settled {
-    pub least: Worth,
+pub struct Bounded {
+    pub timed: Timed,
     pub relaxed: Lagrangian,
 }
 
-// The least value of running exactly the items of a set, by its number, with every job done in time. Where the core admits the pattern
-// that the table's entry stands for, at the entry's cost, that is it.
-pub fn least_in_time(
+// The relaxation with one tick weighed.
+pub fn relaxation_at(
     timed: Timed,
+    tick: u32,
+    weight: u64,
+    timings: &[u32],
+    cost: &[u64],
+) -> Lagrangian
+    requires { ⌜ TimedReady timed (now timings) (now cost) ⌝ }
+    ensures { λ r. ⌜ Relaxes timed (now (timings .entry)) (now (cost .entry)) r ⌝ }
+{
+    let known = with_tick(timed, free(), tick, weight, timings);
+    lagrangian_of(timed, known, timings, cost)
+}
+
+// A relaxation whose weighed ticks are chosen for a set.
+pub fn relaxation_of(timed: Timed, set: usize, timings: &[u32], cost: &[u64]) -> Lagrangian
+    requires { ⌜ TimedReady timed (now timings) (now cost) ⌝ }
+    ensures { λ r. ⌜ Relaxes timed (now (timings .entry)) (now (cost .entry)) r ⌝ }
+{
+    let known = find_prices(timed, set, timings, cost);
+    lagrangian_of(timed, known, timings, cost)
+}
+
+// The least value of running exactly the items of a set, by its number, with every job done in time; or the limit `most`, where nothing
+// comes before it. The search begins with the pattern of the levels that are cheapest by the relaxation, where the core admits it.
+pub fn least_up_to(
+    bounded: Bounded,
     set: usize,
+    most: Worth,
     timings: &[u32],
     cost: &[u64],
     lowcosts: &[u64],
     lowkeys: &[u64],
-) -> Settled
-    requires { ⌜ TimedReady timed (now timings) (now cost) ⌝ }
-    requires { ⌜ LowerTimed timed (now timings) (now cost) (now lowcosts) (now lowkeys) ⌝ }
-    requires { ⌜ set < 2 ^ timed .items ⌝ }
-    ensures { λ r. ⌜ LeastInTime timed set (now (timings .entry)) (now (cost .entry)) (r .least) ⌝ }
-    ensures { λ r. ⌜ Relaxes timed (now (timings .entry)) (now (cost .entry)) (r .relaxed) ⌝ }
+) -> Worth
+    requires { ⌜ TimedReady (bounded .timed) (now timings) (now cost) ⌝ }
+    requires { ⌜ BoundsHold bounded (now timings) (now cost) (now lowcosts) (now lowkeys) ⌝ }
+    requires { ⌜ set < 2 ^ bounded .timed .items ⌝ }
+    requires { ⌜ SmallWorth (bounded .timed) most ⌝ }
+    ensures { λ r. ⌜ FoundUpTo (bounded .timed) set (now (timings .entry)) (now (cost .entry)) most r ⌝ }
+    ensures { λ r. ⌜ SmallWorth (bounded .timed) r ⌝ }
 {
     let start = Node {
         item: 0,
@@ -99,12 +121,9 @@ pub fn least_in_time(
         key: 0,
         ticks: [0; MOST_ITEMS],
     };
-    let own = worth_along(timed, start, lowkeys[set], timings, cost);
-    if !bound_comes_first(timed, start, own, lowcosts, lowkeys) {
-        return Settled {
-            least: own,
-            relaxed: lagrangian_of(timed, free(), timings, cost),
-        };
-    }
-    least_by_search(timed, start, own, timings, cost, lowcosts, lowkeys)
+    let prices = bounded.relaxed.prices;
+    let key = cheapest_key(bounded.timed, set, prices, timings, cost);
+    let one = worth_along(bounded.timed, start, key, timings, cost);
+    let best = lesser(most, one);
+    least_from(bounded, start, best, timings, cost, lowcosts, lowkeys)
 }

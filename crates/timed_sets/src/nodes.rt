@@ -2,7 +2,6 @@
 use crate::Node;
 use crate::TIMING_WIDTH;
 use values::KEY_BASE;
-use values::MOST_ITEMS;
 ghost use mathlib.Core.Path.{_≡_};
 ghost use Prim.Native.Nat.{_+_, _*_, _≤_, _<_};
 ghost use lib.Dec.{leb};

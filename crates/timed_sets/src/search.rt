@@ -17,11 +17,10 @@ ghost use mathlib.Core.Bool.{Bool};
 ghost use mathlib.Core.List.{List};
 ghost use Prim.Native.Nat.{ℕ};
 ghost use Rattle.timed_sets.specs.Lagrangians.{BoundsHold};
-ghost use Rattle.timed_sets.specs.Nodes.{TimedItems, TimedReady, Stands, SmallWorth, FoundFrom};
+ghost use Rattle.timed_sets.specs.Nodes.{TimedItems, TimedReady, Stands, SmallWorth, FoundFrom, worthAt};
 ghost use mathlib.Core.Path.{_≡_};
 ghost use lib.ListN.{length};
 ghost use Rattle.assignment.specs.Limits.{mostItems};
-ghost use Rattle.values.specs.Worths.{Small};
 
 // A whole pattern, where it comes before the best so far and the core admits it.
 pub(crate) fn with_whole(timed: Timed, node: Node, best: Worth, timings: &[u32]) -> Worth
@@ -29,7 +28,7 @@ pub(crate) fn with_whole(timed: Timed, node: Node, best: Worth, timings: &[u32])
     requires { ⌜ length (node .ticks) ≡ mostItems ⌝ }
     ensures { λ r. ⌜ ((cost q : List ℕ) (T : List Bool) → node .item ≡ timed .items → Stands timed (now (timings .entry)) cost node q T →
         FoundFrom timed (now (timings .entry)) cost node q T best r) ⌝ }
-    ensures { λ r. ⌜ (Small (timed .items) (node .cost) (node .key) → SmallWorth timed best → SmallWorth timed r) ⌝ }
+    ensures { λ r. ⌜ (SmallWorth timed (worthAt node) → SmallWorth timed best → SmallWorth timed r) ⌝ }
 {
     if is_admitted(timed, node, timings) {
         return lesser(

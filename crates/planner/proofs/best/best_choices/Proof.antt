@@ -20,12 +20,9 @@ slice-aggregate-best-in-time-2 c = search needs
 slice-aggregate-best-in-time-3 : tie.Need-slice-aggregate-best-in-time-3
 slice-aggregate-best-in-time-3 c = search needs
 
-slice-aggregate-best-in-time-4 : tie.Need-slice-aggregate-best-in-time-4
-slice-aggregate-best-in-time-4 c = search needs
-
 best-in-time-requires : tie.Need-best-in-time-requires
 best-in-time-requires c κs =
-    let pre = c .before .before .before .before .before .before .before .before .before .before .before .before .before .pre in (pre .0, (c .before .before .before .before .before .before .before .fill-options .ensures, pre .1))
+    let pre = c .before .before .before .before .before .before .before .before .before .before .before .before .pre in (pre .0, ((_, c .before .before .before .before .before .before .fill-options .ensures), pre .1))
 
 same-length : tie.Need-same-length
 same-length c = search needs
@@ -66,7 +63,6 @@ best-choices-spec =
     slice-aggregate-best-in-time
     slice-aggregate-best-in-time-2
     slice-aggregate-best-in-time-3
-    slice-aggregate-best-in-time-4
     best-in-time-requires
     same-length
     returns

@@ -1,49 +1,61 @@
--- `raise_sets` reads each core's set off the key, and raises its entry where that is not exact yet.
+-- `raise_sets` reads each core's set off the key, and tries it where its entry is not exact yet.
 use Prim.Native.Nat.{_-_, _≤_}
 use mathlib.Core.Path.{_≡_, refl, _∙_}
 use native.Mathlib.Omega.{arith}
 use borrow.Author.Needs.{needs}
-use borrow.Author.Tests.{not-true, not-false}
 use lib.ListN.{length}
-use Rattle.raising.specs.SiteLaws.{nothing-raised, next-set-below, next-flag-held, set-was-exact, set-made-exact}
+use Rattle.partition.specs.Tables.{room-for-sets}
+use Rattle.raising.specs.RaisedTables.{in-tries}
+use Rattle.raising.specs.SiteLaws.{nothing-raised, next-set-below, set-was-exact, set-was-tried}
 use Rattle.raising.specs.TimedSites.{SetsRaised}
 use Rattle.raising.proofs.rounds.raise_sets.Statement.{statement}
 use Rattle.raising.proofs.rounds.raise_sets.Tie as tie
 
 abbrev Inv-loop : tie.InvT-loop
-Inv-loop found timings cost costs₀ keys₀ exact₀ site raised₀ core₀ costs keys exact raised core =
-    (length costs ≡ length costs₀) × (length keys ≡ length keys₀) × (length exact ≡ length exact₀)
-    × (core ≤ found .site .cores) × (raised ≤ core) × SetsRaised found timings cost costs keys exact₀ exact core raised
+Inv-loop found timings cost weights costs₀ keys₀ left₀ site raised₀ core₀ costs keys left raised core =
+    (length costs ≡ length costs₀) × (length keys ≡ length keys₀) × (length left ≡ length left₀)
+    × (core ≤ found .site .cores) × (raised ≤ core) × SetsRaised found timings cost costs keys left₀ left core raised
 
 abbrev μ-loop : tie.MeasureT-loop
-μ-loop found timings cost costs₀ keys₀ exact₀ site raised₀ core₀ costs keys exact raised core =
-    found .site .cores - core
+μ-loop found timings cost weights costs₀ keys₀ left₀ site raised₀ core₀ costs keys left raised core = found .site .cores - core
 
 loop-holds : tie.Need-loop-holds Inv-loop μ-loop
 loop-holds c =
-    let start = c .before .before .before .before .before .before in
-    (refl, refl, refl, omega arith, omega arith, nothing-raised (start .pre .1 .1))
+    let start = c .before .before .before .before .before .before .before in
+    (refl, refl, refl, omega arith, omega arith, nothing-raised (start .pre .1 .1 .1))
 
 core-set-requires : tie.Need-core-set-requires Inv-loop μ-loop
 core-set-requires c κs =
-    let start = c .before .before .before .before .before .before .before .before .before in
-    (start .pre .0 .limits .items, (start .pre .0 .some-level, start .pre .1 .0))
+    let start = c .before .before .before .before .before .before .before .before .before .before in
+    (start .pre .0 .limits .items, (start .pre .0 .some-level, start .pre .1 .1 .0))
 
 add-core : tie.Need-add-core Inv-loop μ-loop
 add-core c =
-    omega (arith, c .before .before .before .before .before .before .before .before .before .before .pre .0 .limits .cores)
+    let start = c .before .before .before .before .before .before .before .before .before .before .before in
+    omega (arith, start .pre .0 .limits .cores)
+
+mul-if2 : tie.Need-mul-if2 Inv-loop μ-loop
+mul-if2 c =
+    let start = c .before .before .before .before .before .before .before .before .before .before .before in
+    let below = next-set-below (c .before .before .before .loop .inv .5) (c .core-set .ensures) in
+    omega (arith, below, room-for-sets (start .pre .0 .limits .items))
 
 slice-read-if2 : tie.Need-slice-read-if2 Inv-loop μ-loop
-slice-read-if2 c = next-flag-held (c .before .before .before .before .loop .inv .5) (c .before .core-set .ensures)
+slice-read-if2 c =
+    let sets = c .before .before .before .before .loop .inv .5 in
+    in-tries (sets .table) _ (next-set-below sets (c .before .core-set .ensures))
 
-settle-set-requires : tie.Need-settle-set-requires Inv-loop μ-loop
-settle-set-requires c κs =
+try-set-requires : tie.Need-try-set-requires Inv-loop μ-loop
+try-set-requires c κs =
+    let start = c .before .before .before .before .before .before .before .before .before .before .before .before .before .before .before .before in
     let sets = c .before .before .before .before .before .before .before .before .loop .inv .5 in
-    (c .before .before .before .before .before .before .before .before .before .before .before .before .before .before .before .pre .0, (sets .table, next-set-below sets (c .before .before .before .before .before .core-set .ensures)))
+    let below = next-set-below sets (c .before .before .before .before .before .core-set .ensures) in
+    (start .pre .0, (start .pre .1 .0, (sets .table, (below, c .before .before .before .if2 .taken))))
 
 add-raised : tie.Need-add-raised Inv-loop μ-loop
 add-raised c =
-    omega (arith, c .before .before .before .before .before .before .before .before .before .before .before .before .before .before .before .loop .inv, c .before .before .before .before .before .before .before .before .before .before .before .before .before .before .before .before .before .before .before .before .before .before .pre .0 .limits .cores)
+    let start = c .before .before .before .before .before .before .before .before .before .before .before .before .before .before .before .before .before .before .before .before .before .before .before in
+    omega (arith, c .before .before .before .before .before .before .before .before .before .before .before .before .before .before .before .loop .inv, start .pre .0 .limits .cores)
 
 loop-less : tie.Need-loop-less Inv-loop μ-loop
 loop-less c = search needs
@@ -51,13 +63,14 @@ loop-less c = search needs
 loop-again : tie.Need-loop-again Inv-loop μ-loop
 loop-again c =
     let at = c .before .before .before .before .before .before .before .before .before .before .before .before .before .before .before .loop in
-    let kept = c .before .before .before .before .before .before .settle-set .kept .1 .1 .1 .1 in (
+    let tried = c .before .before .before .before .before .before .try-set in
+    let kept = tried .kept .1 .1 .1 .1 .1 in (
       kept .0 ∙ at .inv .0,
       kept .1 .0 ∙ at .inv .1,
       kept .1 .1 .0 ∙ at .inv .2,
       omega arith,
       omega arith,
-      set-made-exact (at .inv .5) (c .before .before .before .before .before .before .before .before .before .before .before .before .core-set .ensures) (not-true _ (c .before .before .before .before .before .before .before .before .before .before .if2 .taken)) (c .before .before .before .before .before .before .settle-set .ensures),
+      set-was-tried (at .inv .5) (c .before .before .before .before .before .before .before .before .before .before .before .before .core-set .ensures) (tried .ensures),
     )
 
 loop-less-2 : tie.Need-loop-less-2 Inv-loop μ-loop
@@ -71,7 +84,7 @@ loop-again-2 c =
       at .inv .2,
       omega arith,
       omega arith,
-      set-was-exact (at .inv .5) (c .before .before .core-set .ensures) (not-false _ (c .if2 .left)),
+      set-was-exact (at .inv .5) (c .before .before .core-set .ensures) (omega (arith, c .if2 .left)),
     )
 
 same-length : tie.Need-same-length Inv-loop μ-loop
@@ -86,7 +99,7 @@ same-length-3 c = c .before .before .loop .inv .2
 returns : tie.Need-returns Inv-loop μ-loop
 returns c =
     let at = c .before .before .loop in
-    let all : at .core ≡ c .before .before .before .before .before .before .before .before .before .args .found .site .cores = omega arith in
+    let all : at .core ≡ c .before .before .before .before .before .before .before .before .before .before .args .found .site .cores = omega arith in
     rw all at (at .inv .5)
 
 pub raise-sets-spec : {M : Type 1} → statement M
@@ -98,8 +111,9 @@ raise-sets-spec =
     loop-holds
     core-set-requires
     add-core
+    mul-if2
     slice-read-if2
-    settle-set-requires
+    try-set-requires
     add-raised
     loop-less
     loop-again

@@ -1,0 +1,47 @@
+use Prim.Native.Nat.{_^_}
+use native.Mathlib.Nat.{div-le-self}
+use native.Mathlib.Omega.{arith}
+use borrow.Author.Needs.{needs}
+use Rattle.raising.proofs.rounds.limit_of.Statement.{statement}
+use Rattle.raising.proofs.rounds.limit_of.Tie as tie
+
+has-few-items-requires : tie.Need-has-few-items-requires
+has-few-items-requires c κs = search needs
+
+returns : tie.Need-returns
+returns c = search needs
+
+returns-2 : tie.Need-returns-2
+returns-2 c = search needs
+
+shr-cost : tie.Need-shr-cost
+shr-cost c = search needs
+
+add-cost : tie.Need-add-cost
+add-cost c =
+    let start = c .before .before .before in
+    omega (arith, div-le-self (start .args .low) (2 ^ start .args .left), start .pre)
+
+add-cost-2 : tie.Need-add-cost-2
+add-cost-2 c =
+    let start = c .before .before .before in
+    omega (arith, div-le-self (start .args .low) (2 ^ start .args .left), start .pre)
+
+returns-3 : tie.Need-returns-3
+returns-3 c = search needs
+
+returns-4 : tie.Need-returns-4
+returns-4 c = search needs
+
+pub limit-of-spec : {M : Type 1} → statement M
+limit-of-spec =
+    tie.close
+    (tie.spec
+    has-few-items-requires
+    returns
+    returns-2
+    shr-cost
+    add-cost
+    add-cost-2
+    returns-3
+    returns-4)

@@ -1,0 +1,38 @@
+use mathlib.Core.Path.{refl}
+use borrow.Author.Needs.{needs}
+use Rattle.timed_sets.specs.FoundLaws.{found-from-one}
+use Rattle.timed_sets.specs.SetTheorem.{start-stands, found-up-to}
+use Rattle.timed_sets.specs.WholeLaws.{lesser-small}
+use Rattle.timed_sets.proofs.least_up_to.Statement.{statement}
+use Rattle.timed_sets.proofs.least_up_to.Tie as tie
+
+cheapest-key-requires : tie.Need-cheapest-key-requires
+cheapest-key-requires c κs = search needs
+
+worth-along-requires : tie.Need-worth-along-requires
+worth-along-requires c κs =
+    let pre = c .before .before .before .before .before .before .pre in (pre .0, start-stands _ _ _ _ (pre .1 .1 .0))
+
+lesser-requires : tie.Need-lesser-requires
+lesser-requires c κs = search needs
+
+least-from-requires : tie.Need-least-from-requires
+least-from-requires c κs =
+    let pre = c .before .before .before .before .before .before .before .before .pre in
+    let timed = c .before .before .before .before .before .before .before .before .args .bounded .timed in (
+      pre .0,
+      (pre .1 .0, (start-stands _ _ _ _ (pre .1 .1 .0), lesser-small timed _ _ _ (c .lesser .ensures) (c .before .worth-along .ensures .1) (pre .1 .1 .1))),
+    )
+
+returns : tie.Need-returns
+returns c =
+    let pre = c .before .before .before .before .before .before .before .before .before .pre in
+    let found = c .least-from .ensures in (
+      found-up-to (pre .1 .1 .0) (found .1)
+          (λ q T stands. found-from-one refl (c .before .lesser .ensures) (c .before .before .worth-along .ensures .0 q T stands) (found .0 q T stands)),
+      found .1,
+    )
+
+pub least-up-to-spec : {M : Type 1} → statement M
+least-up-to-spec =
+    tie.close (tie.spec cheapest-key-requires worth-along-requires lesser-requires least-from-requires returns)
