@@ -38,7 +38,7 @@ pub record EntryOfSet (o : Options) (whole n x tries cost key : ℕ) : Type 0 wh
   pub digits : key < keyBase ^ n
 
 -- a least value has the key of a pattern that keeps exactly the set
-pub least-keyed : {o : Options} {T : List Bool} {v : Value} → Least (Admitted o T) (patternWorth o) v → Keyed (o .levels) T v
+least-keyed : {o : Options} {T : List Bool} {v : Value} → Least (Admitted o T) (patternWorth o) v → Keyed (o .levels) T v
 unfolding patternWorth
 least-keyed {o} {T} least = go (least .attained)
   where

@@ -50,7 +50,7 @@ try-set-requires c κs =
     let start = c .before .before .before .before .before .before .before .before .before .before .before .before .before .before .before .before in
     let sets = c .before .before .before .before .before .before .before .before .loop .inv .5 in
     let below = next-set-below sets (c .before .before .before .before .before .core-set .ensures) in
-    (start .pre .0, (start .pre .1 .0, (sets .table, (below, c .before .before .before .if2 .taken))))
+    (start .pre .0, (start .pre .1 .0, (sets .table, (below, omega (arith, c .before .before .before .if2 .taken)))))
 
 add-raised : tie.Need-add-raised Inv-loop μ-loop
 add-raised c =
