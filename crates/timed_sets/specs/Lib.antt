@@ -8,6 +8,7 @@ pub mod Lagrangians
 pub mod PriceColumns
 pub mod PricedLevels
 pub mod TickColumns
+pub mod DemandRows
 pub mod Exceeded
 pub mod Ascents
 pub mod NodeLaws
@@ -20,6 +21,8 @@ pub mod AscentLaws
 pub mod PricedLevelLaws
 pub mod BoundLaws
 pub mod ServableLaws
+pub mod DemandRowLaws
+pub mod OverdueLaws
 pub mod PromisingLaws
 pub mod WholeLaws
 pub mod FoundLaws

@@ -1,16 +1,14 @@
 -- Where what a node is worth and the table's value of the items still to come do not come before the best so far, nothing does.
-use Prim.Native.Nat.{ℕ, zero, suc, _+_, _-_, _*_, _^_, _≤_, _<_}
-use mathlib.Core.Bool.{Bool, true, false}
-use mathlib.Core.List.{List, [], _∷_, _++_}
+use Prim.Native.Nat.{ℕ, _+_, _-_, _*_, _^_, _≤_, _<_}
+use mathlib.Core.Bool.{Bool, false}
+use mathlib.Core.List.{List}
 use mathlib.Core.Logic.{_⊎_}
 use mathlib.Core.Path.{_≡_, refl, sym, ap, _∙_}
-use native.Mathlib.Nat.{le-refl, lt-of-lt-of-le, pow-le-pow-right, pow-zero}
+use native.Mathlib.Nat.{lt-of-lt-of-le, pow-le-pow-right, pow-zero}
 use native.Mathlib.Omega.{arith}
 use lib.Arith.{digits-lt}
 use lib.ListN.{length, getD, length-append, length-replicate, replicate}
 use lib.Pow.{pow-add, pow-mono}
-use Rattle.laws.specs.Truth.{false-not-true}
-use Rattle.edf.specs.Demand.{meetsDemand}
 use Rattle.assignment.specs.KeyLaws.{keys-fit}
 use Rattle.assignment.specs.Keys.{keyBase}
 use Rattle.assignment.specs.SetLaws.{setNumber-below}
@@ -21,11 +19,10 @@ use Rattle.assignment.specs.LeastLaws.{add-none}
 use Rattle.assignment.specs.Words.{noCost, valueOf, words-add, words-atMost, words-none, words-pair}
 use Rattle.knapsack.specs.Offered.{offersOf}
 use Rattle.values.specs.declared.value.Worth.{Worth}
-use Rattle.timed_sets.specs.BoundLaws.{unflagged, left-out-number, left-out-admitted, bound-below, fewer-ticks-meet}
+use Rattle.timed_sets.specs.BoundLaws.{unflagged, left-out-number, left-out-admitted, bound-below}
 use Rattle.timed_sets.specs.Nodes.{timedCore, LowerTimed, NothingBefore, Stands}
 use Rattle.timed_sets.specs.Reached.{Reached}
-use Rattle.timed_sets.specs.ReachedLaws.{reached-pattern}
-use Rattle.timed_sets.specs.TimedCores.{Timing, entryTicks, patternTasks, timingIn, timingsOf}
+use Rattle.timed_sets.specs.TimedCores.{timingsOf}
 use Rattle.timed_sets.specs.declared.Node.{Node}
 use Rattle.timed_sets.specs.declared.Timed.{Timed}
 
@@ -106,25 +103,3 @@ module _ {timed : Timed} {timings cost lowCosts lowKeys q : List ℕ} {T : List 
             atMost-trans (words-atMost (best .cost) (best .key) _ _ order)
             (rw (← words-pair (node .cost) (node .key * keyBase ^ (timed .items - node .item)) here, sum) at (below reached));
       }
-
--- where the front alone asks for too much, so does all that goes on from it
-front-ticks : (timing : Timing) (q r : List ℕ) (j : ℕ) → entryTicks timing (getD q j 0) ≤ entryTicks timing (getD (q ++ r) j 0)
-unfolding entryTicks
-front-ticks timing [] r j = omega arith
-front-ticks timing (c ∷ q) r zero = le-refl _
-front-ticks timing (c ∷ q) r (suc j) = front-ticks timing q r j
-
-front-admitted : (timings : List Timing) (span : ℕ) (q r : List ℕ) → meetsDemand (patternTasks timings (q ++ r)) span ≡ true →
-    meetsDemand (patternTasks timings q) span ≡ true
-unfolding patternTasks
-front-admitted timings span q r met =
-    fewer-ticks-meet _ _ refl (λ i. refl) (λ i. refl) (λ i l. front-ticks (timingIn timings i) q r i) span met
-
-pub front-not-admitted : {timed : Timed} {timings cost q : List ℕ} {T : List Bool} {node : Node} {best : Worth} →
-    timedCore timed timings cost .admits q ≡ false → NothingBefore timed timings cost node q T best
-front-not-admitted {timed} {timings} {cost} {q} unmet =
-    record {
-      after = λ u reached.
-          let (r, keeps, met, worth) = reached-pattern (timedCore timed timings cost) reached in
-          absurd (false-not-true unmet (front-admitted (timingsOf timings (timed .items)) (timed .span) q r met));
-    }

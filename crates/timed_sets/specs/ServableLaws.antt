@@ -38,7 +38,7 @@ first-bit-off true n i r l =
     rw divided (omega (arith, pow-suc 2 i))
 
 -- an item that a pattern does not run is not in its set
-not-run-not-in-set : {levels : ℕ} (n : ℕ) {S : List Bool} {pattern : List ℕ} → Keeps levels S pattern → length S ≡ n →
+pub not-run-not-in-set : {levels : ℕ} (n : ℕ) {S : List Bool} {pattern : List ℕ} → Keeps levels S pattern → length S ≡ n →
     (i : ℕ) → i < n → getD pattern i 0 ≡ 0 → inSet n (setNumber n S) i ≡ 0
 unfolding setNumber
 not-run-not-in-set zero keeps of-items i l out = absurd (omega arith)
@@ -54,7 +54,7 @@ not-run-not-in-set (suc n) {S = true ∷ S} (kept d h keeps) of-items (suc i) l 
     let same : suc n - 1 - suc i ≡ n - 1 - i = omega arith in
     rw same (first-bit-off true n i (setNumber n S) (omega arith) ∙ not-run-not-in-set n keeps (omega arith) i (omega arith) out)
 
-run-level-below : {levels : ℕ} {S : List Bool} {pattern : List ℕ} → Keeps levels S pattern → (i l : ℕ) → getD pattern i 0 ≡ suc l → l < levels
+pub run-level-below : {levels : ℕ} {S : List Bool} {pattern : List ℕ} → Keeps levels S pattern → (i l : ℕ) → getD pattern i 0 ≡ suc l → l < levels
 run-level-below done i l is = absurd (omega arith)
 run-level-below (refused keeps) zero l is = absurd (omega arith)
 run-level-below (refused keeps) (suc i) l is = run-level-below keeps i l is

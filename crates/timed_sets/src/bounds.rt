@@ -2,7 +2,7 @@
 use crate::Bounded;
 use crate::Node;
 use crate::Timed;
-use crate::columns::is_admitted;
+use crate::demand_rows::is_overdue;
 use crate::dual_bound::relaxed_is_cheaper;
 use values::NO_COST;
 use values::Worth;
@@ -13,8 +13,10 @@ ghost use mathlib.Core.Path.{_≡_};
 ghost use Prim.Native.Nat.{ℕ, _<_, _≤_};
 ghost use mathlib.Core.Logic.{_⊎_};
 ghost use Rattle.assignment.specs.Words.{noCost};
+ghost use Rattle.timed_sets.specs.DemandRows.{DemandRows};
 ghost use Rattle.timed_sets.specs.Lagrangians.{BoundsHold};
 ghost use Rattle.timed_sets.specs.Nodes.{LowerTimed, NothingBefore, Stands, TimedReady};
+ghost use Rattle.timed_sets.specs.PriceColumns.{mostTicks};
 
 // Whether a comes before b.
 fn comes_first(a: Worth, b: Worth) -> bool
@@ -55,22 +57,23 @@ fn bound_comes_first(
 }
 
 // Whether something that goes on from the node can come before the best so far: not where a bound of it does not, and not where the
-// front alone asks for too much by some tick, which is tested once for all levels of the next item.
+// node is overdue, which is tested once for all levels of the next item.
 pub(crate) fn is_promising(
     bounded: Bounded,
     node: Node,
     best: Worth,
-    timings: &[u32],
     lowcosts: &[u64],
     lowkeys: &[u64],
+    rows: &[u32],
 ) -> bool
-    requires { ⌜ ((cost q : List ℕ) × (T : List Bool) × TimedReady (bounded .timed) (now timings) cost
-        × BoundsHold bounded (now timings) cost (now lowcosts) (now lowkeys) × Stands (bounded .timed) (now timings) cost node q T) ⌝ }
+    requires { ⌜ ((timings cost q : List ℕ) × (T : List Bool) × TimedReady (bounded .timed) timings cost
+        × BoundsHold bounded timings cost (now lowcosts) (now lowkeys) × DemandRows (bounded .timed) timings mostTicks (now rows)
+        × Stands (bounded .timed) timings cost node q T) ⌝ }
     requires { ⌜ best .cost ≤ noCost ⌝ }
-    ensures { λ r. ⌜ ((cost q : List ℕ) (T : List Bool) → TimedReady (bounded .timed) (now (timings .entry)) cost →
-        BoundsHold bounded (now (timings .entry)) cost (now (lowcosts .entry)) (now (lowkeys .entry)) →
-        Stands (bounded .timed) (now (timings .entry)) cost node q T → r ≡ false →
-        NothingBefore (bounded .timed) (now (timings .entry)) cost node q T best) ⌝ }
+    ensures { λ r. ⌜ ((timings cost q : List ℕ) (T : List Bool) → TimedReady (bounded .timed) timings cost →
+        BoundsHold bounded timings cost (now (lowcosts .entry)) (now (lowkeys .entry)) →
+        DemandRows (bounded .timed) timings mostTicks (now (rows .entry)) → Stands (bounded .timed) timings cost node q T → r ≡ false →
+        NothingBefore (bounded .timed) timings cost node q T best) ⌝ }
 {
     if !bound_comes_first(bounded.timed, node, best, lowcosts, lowkeys) {
         return false;
@@ -81,5 +84,5 @@ pub(crate) fn is_promising(
     if 0 < node.level {
         return true;
     }
-    is_admitted(bounded.timed, node, timings)
+    !is_overdue(bounded.timed, node, rows)
 }

@@ -4,6 +4,7 @@ mod ascent;
 mod bounds;
 mod choices;
 mod columns;
+mod demand_rows;
 mod dual_bound;
 mod exceeded;
 mod few_items;
@@ -20,9 +21,13 @@ mod slopes;
 mod weights;
 
 use choices::cheapest_key;
+use demand_rows::ROW_WORDS;
+use demand_rows::fill_rows;
 pub use few_items::has_few_items;
 use given::worth_along;
-use multipliers::find_prices;
+use multipliers::MOST_TICKS;
+use multipliers::best_multipliers;
+use multipliers::prices_of;
 use prices::free;
 use prices::with_tick;
 use relaxation::lagrangian_of;
@@ -58,11 +63,13 @@ struct Node {
 }
 
 // Prices of a tick of a job of each item, such that the ticks of an admitted pattern come to no more than the budget; and what each
-// item costs at least, its ticks at their price included.
+// item costs at least, its ticks at their price included. `ticks` are those that were weighed, or 0: parts of patterns are tested at them,
+// and nothing is claimed of them.
 pub struct Lagrangian {
     pub prices: [u64; MOST_ITEMS],
     pub least: [u64; MOST_ITEMS],
     pub budget: u64,
+    pub ticks: [u32; MOST_TICKS],
 }
 
 // What leaves parts out of a search beside the table of lower values.
@@ -83,7 +90,9 @@ pub fn relaxation_at(
     ensures { λ r. ⌜ Relaxes timed (now (timings .entry)) (now (cost .entry)) r ⌝ }
 {
     let known = with_tick(timed, free(), tick, weight, timings);
-    lagrangian_of(timed, known, timings, cost)
+    let mut ticks = [0; MOST_TICKS];
+    ticks[0] = tick;
+    lagrangian_of(timed, known, ticks, timings, cost)
 }
 
 // A relaxation whose weighed ticks are chosen for a set.
@@ -91,8 +100,11 @@ pub fn relaxation_of(timed: Timed, set: usize, timings: &[u32], cost: &[u64]) ->
     requires { ⌜ TimedReady timed (now timings) (now cost) ⌝ }
     ensures { λ r. ⌜ Relaxes timed (now (timings .entry)) (now (cost .entry)) r ⌝ }
 {
-    let known = find_prices(timed, set, timings, cost);
-    lagrangian_of(timed, known, timings, cost)
+    let weighed = best_multipliers(timed, set, timings, cost);
+    let ticks = weighed.ticks;
+    let weights = weighed.weights;
+    let known = prices_of(timed, ticks, weights, timings);
+    lagrangian_of(timed, known, ticks, timings, cost)
 }
 
 // The least value of running exactly the items of a set, by its number, with every job done in time; or the limit `most`, where nothing
@@ -125,5 +137,17 @@ pub fn least_up_to(
     let key = cheapest_key(bounded.timed, set, prices, timings, cost);
     let one = worth_along(bounded.timed, start, key, timings, cost);
     let best = lesser(most, one);
-    least_from(bounded, start, best, timings, cost, lowcosts, lowkeys)
+    let ticks = bounded.relaxed.ticks;
+    let mut rows = [0; ROW_WORDS];
+    fill_rows(bounded.timed, ticks, timings, &mut rows);
+    least_from(
+        bounded,
+        start,
+        best,
+        timings,
+        cost,
+        lowcosts,
+        lowkeys,
+        &rows,
+    )
 }

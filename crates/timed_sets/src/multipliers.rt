@@ -168,7 +168,12 @@ fn fitted_multipliers(timed: Timed, set: usize, timings: &[u32], cost: &[u64]) -
 }
 
 // The fitted weights, made better by steps. A set of few items is searched in less time than the steps take.
-fn best_multipliers(timed: Timed, set: usize, timings: &[u32], cost: &[u64]) -> Multipliers
+pub(crate) fn best_multipliers(
+    timed: Timed,
+    set: usize,
+    timings: &[u32],
+    cost: &[u64],
+) -> Multipliers
     requires { ⌜ TimedReady timed (now timings) (now cost) ⌝ }
     ensures { λ r. ⌜ Placed r ⌝ }
 {
@@ -177,15 +182,4 @@ fn best_multipliers(timed: Timed, set: usize, timings: &[u32], cost: &[u64]) -> 
         return fitted;
     }
     ascended(timed, set, fitted, timings, cost)
-}
-
-// Prices for a set.
-pub(crate) fn find_prices(timed: Timed, set: usize, timings: &[u32], cost: &[u64]) -> Prices
-    requires { ⌜ TimedReady timed (now timings) (now cost) ⌝ }
-    ensures { λ r. ⌜ WithinBudget timed (now (timings .entry)) (r .prices) (r .budget) ⌝ }
-{
-    let weighed = best_multipliers(timed, set, timings, cost);
-    let ticks = weighed.ticks;
-    let weights = weighed.weights;
-    prices_of(timed, ticks, weights, timings)
 }

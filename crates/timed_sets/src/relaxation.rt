@@ -2,6 +2,7 @@
 use crate::Lagrangian;
 use crate::TIMING_WIDTH;
 use crate::Timed;
+use crate::multipliers::MOST_TICKS;
 use crate::nodes::is_within_window;
 use crate::prices::Prices;
 use values::MOST_ITEMS;
@@ -76,10 +77,11 @@ pub(crate) fn cheapest_level(
     best
 }
 
-// The Lagrangian of these prices.
+// The Lagrangian of these prices, by these ticks.
 pub(crate) fn lagrangian_of(
     timed: Timed,
     known: Prices,
+    ticks: [u32; MOST_TICKS],
     timings: &[u32],
     cost: &[u64],
 ) -> Lagrangian
@@ -98,5 +100,6 @@ pub(crate) fn lagrangian_of(
         prices,
         least,
         budget: known.budget,
+        ticks,
     }
 }

@@ -16,7 +16,9 @@ use values::sets_of;
 ghost use mathlib.Core.Bool.{Bool};
 ghost use mathlib.Core.List.{List};
 ghost use Prim.Native.Nat.{ℕ};
+ghost use Rattle.timed_sets.specs.DemandRows.{DemandRows};
 ghost use Rattle.timed_sets.specs.Lagrangians.{BoundsHold};
+ghost use Rattle.timed_sets.specs.PriceColumns.{mostTicks};
 ghost use Rattle.timed_sets.specs.Nodes.{TimedItems, TimedReady, Stands, SmallWorth, FoundFrom, worthAt};
 ghost use mathlib.Core.Path.{_≡_};
 ghost use lib.ListN.{length};
@@ -51,16 +53,18 @@ pub(crate) fn least_from(
     cost: &[u64],
     lowcosts: &[u64],
     lowkeys: &[u64],
+    rows: &[u32],
 ) -> Worth
     requires { ⌜ TimedReady (bounded .timed) (now timings) (now cost) ⌝ }
     requires { ⌜ BoundsHold bounded (now timings) (now cost) (now lowcosts) (now lowkeys) ⌝ }
     requires { ⌜ ((q : List ℕ) × (T : List Bool) × Stands (bounded .timed) (now timings) (now cost) node q T) ⌝ }
     requires { ⌜ SmallWorth (bounded .timed) best ⌝ }
+    requires { ⌜ DemandRows (bounded .timed) (now timings) mostTicks (now rows) ⌝ }
     ensures { λ r. ⌜ ((q : List ℕ) (T : List Bool) → Stands (bounded .timed) (now (timings .entry)) (now (cost .entry)) node q T →
         FoundFrom (bounded .timed) (now (timings .entry)) (now (cost .entry)) node q T best r) ⌝ }
     ensures { λ r. ⌜ SmallWorth (bounded .timed) r ⌝ }
 {
-    if !is_promising(bounded, node, best, timings, lowcosts, lowkeys) {
+    if !is_promising(bounded, node, best, lowcosts, lowkeys, rows) {
         return best;
     }
     let i = node.item;
@@ -77,6 +81,7 @@ pub(crate) fn least_from(
             cost,
             lowcosts,
             lowkeys,
+            rows,
         );
     }
     let l = node.level;
@@ -92,6 +97,7 @@ pub(crate) fn least_from(
             cost,
             lowcosts,
             lowkeys,
+            rows,
         );
     }
     let child = run_at(
@@ -100,7 +106,7 @@ pub(crate) fn least_from(
         timings[i * TIMING_WIDTH + 2 + l],
         cost[i * STRIDE + l],
     );
-    let here = least_from(bounded, child, best, timings, cost, lowcosts, lowkeys);
+    let here = least_from(bounded, child, best, timings, cost, lowcosts, lowkeys, rows);
     least_from(
         bounded,
         next_level(node),
@@ -109,5 +115,6 @@ pub(crate) fn least_from(
         cost,
         lowcosts,
         lowkeys,
+        rows,
     )
 }

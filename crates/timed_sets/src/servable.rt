@@ -47,7 +47,7 @@ fn fewest_in_set(timed: Timed, set: usize, item: usize, timings: &[u32]) -> u32
 }
 
 // The fewest ticks of a job of each item of a set, none of the others.
-fn fewest_column(timed: Timed, set: usize, timings: &[u32]) -> [u32; MOST_ITEMS]
+pub(crate) fn fewest_column(timed: Timed, set: usize, timings: &[u32]) -> [u32; MOST_ITEMS]
     requires { ⌜ TimedItems timed (now timings) ⌝ }
     ensures { λ r. ⌜ FewestColumn timed set (now (timings .entry)) (timed .items) r ⌝ }
 {

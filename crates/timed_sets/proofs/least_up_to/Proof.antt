@@ -16,23 +16,40 @@ worth-along-requires c κs =
 lesser-requires : tie.Need-lesser-requires
 lesser-requires c κs = search needs
 
+slice-aggregate-fill-rows : tie.Need-slice-aggregate-fill-rows
+slice-aggregate-fill-rows c = search needs
+
+fill-rows-requires : tie.Need-fill-rows-requires
+fill-rows-requires c κs = (c .before .before .before .before .before .before .before .before .before .before .pre .0 .timed-items, refl)
+
+slice-aggregate-least-from : tie.Need-slice-aggregate-least-from
+slice-aggregate-least-from c = search needs
+
 least-from-requires : tie.Need-least-from-requires
 least-from-requires c κs =
-    let pre = c .before .before .before .before .before .before .before .before .pre in
-    let timed = c .before .before .before .before .before .before .before .before .args .bounded .timed in (
-      pre .0,
-      (pre .1 .0, (start-stands _ _ _ _ (pre .1 .1 .0), lesser-small timed _ _ _ (c .lesser .ensures) (c .before .worth-along .ensures .1) (pre .1 .1 .1))),
-    )
+    let pre = c .before .before .before .before .before .before .before .before .before .before .before .before .before .pre in
+    let timed = c .before .before .before .before .before .before .before .before .before .before .before .before .before .args .bounded .timed in
+    let small = lesser-small timed _ _ _ (c .before .before .before .before .before .lesser .ensures) (c .before .before .before .before .before .before .worth-along .ensures .1) (pre .1 .1 .1) in
+    (pre .0, (pre .1 .0, (start-stands _ _ _ _ (pre .1 .1 .0), (small, c .before .before .fill-rows .ensures))))
 
 returns : tie.Need-returns
 returns c =
-    let pre = c .before .before .before .before .before .before .before .before .before .pre in
+    let pre = c .before .before .before .before .before .before .before .before .before .before .before .before .before .before .pre in
     let found = c .least-from .ensures in (
       found-up-to (pre .1 .1 .0) (found .1)
-          (λ q T stands. found-from-one refl (c .before .lesser .ensures) (c .before .before .worth-along .ensures .0 q T stands) (found .0 q T stands)),
+          (λ q T stands. found-from-one refl (c .before .before .before .before .before .before .lesser .ensures) (c .before .before .before .before .before .before .before .worth-along .ensures .0 q T stands) (found .0 q T stands)),
       found .1,
     )
 
 pub least-up-to-spec : {M : Type 1} → statement M
 least-up-to-spec =
-    tie.close (tie.spec cheapest-key-requires worth-along-requires lesser-requires least-from-requires returns)
+    tie.close
+    (tie.spec
+    cheapest-key-requires
+    worth-along-requires
+    lesser-requires
+    slice-aggregate-fill-rows
+    fill-rows-requires
+    slice-aggregate-least-from
+    least-from-requires
+    returns)

@@ -8,6 +8,9 @@ free-requires c κs = search needs
 with-tick-requires : tie.Need-with-tick-requires
 with-tick-requires c κs = (c .before .before .before .pre .timed-items, c .free .ensures _ _)
 
+array-write-ticks : tie.Need-array-write-ticks
+array-write-ticks c = search needs
+
 lagrangian-of-requires : tie.Need-lagrangian-of-requires
 lagrangian-of-requires c κs = search needs
 
@@ -15,4 +18,4 @@ returns : tie.Need-returns
 returns c = search needs
 
 pub relaxation-at-spec : {M : Type 1} → statement M
-relaxation-at-spec = tie.close (tie.spec free-requires with-tick-requires lagrangian-of-requires returns)
+relaxation-at-spec = tie.close (tie.spec free-requires with-tick-requires array-write-ticks lagrangian-of-requires returns)

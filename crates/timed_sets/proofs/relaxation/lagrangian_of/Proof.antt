@@ -7,11 +7,11 @@ use Rattle.timed_sets.proofs.relaxation.lagrangian_of.Statement.{statem
 use Rattle.timed_sets.proofs.relaxation.lagrangian_of.Tie as tie
 
 abbrev Inv-loop : tie.InvT-loop
-Inv-loop timed known timings cost prices least₀ i₀ least i =
+Inv-loop timed known ticks timings cost prices least₀ i₀ least i =
     (i ≤ timed .items) × LeastOfEach (timed .levels) timings cost (known .prices) i least
 
 abbrev μ-loop : tie.MeasureT-loop
-μ-loop timed known timings cost prices least₀ i₀ least i = timed .items - i
+μ-loop timed known ticks timings cost prices least₀ i₀ least i = timed .items - i
 
 loop-holds : tie.Need-loop-holds Inv-loop μ-loop
 loop-holds c = (omega arith, no-item-yet)
