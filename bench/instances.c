@@ -242,18 +242,22 @@ static uint32_t idle_power(const reference_instance *in, enum idle idle) {
                               : 2 * top_level(in)->power;
 }
 
+size_t write_site(const reference_instance *in, uint8_t *text) {
+    uint32_t words[MOST_INSTANCE_WORDS];
+    uint32_t settings = in->start_ticks > 0 ? 5 : in->idle_power > 0 ? 4 : 3;
+    written_as as = {settings, reference_has_early(in) ? EACH_DEADLINE : LIST_ENDS};
+    generator unused = {1};
+    return write_text(&unused, words, list_words(in, as, words), false, text);
+}
+
 size_t write_instance(size_t family, size_t number, enum idle idle, uint8_t *text) {
     generator g = {UINT64_C(0x9E3779B97F4A7C15) * (1 + 1000 * family + number)};
     reference_instance in = {1, 1, 4, 0, 0, 0, 12, 4096, {{0, 0}}, {{0, 0, 0, 0}}};
-    uint32_t words[MOST_INSTANCE_WORDS];
     if (family_list[family].levels == 5)
         use_xscale(&in);
     else
         use_eight_levels(&in, 2000);
     family_list[family].draw(&g, &in, family_list[family].first, family_list[family].second);
     in.idle_power = idle_power(&in, idle);
-    uint32_t settings = in.start_ticks > 0 ? 5 : idle == NO_IDLE ? 3 : 4;
-    written_as as = {settings, reference_has_early(&in) ? EACH_DEADLINE : LIST_ENDS};
-    size_t count = list_words(&in, as, words);
-    return write_text(&g, words, count, false, text);
+    return write_site(&in, text);
 }

@@ -2,10 +2,10 @@
 #ifndef INSTANCES_H
 #define INSTANCES_H
 
-#include <stddef.h>
-#include <stdint.h>
+#include "reference.h"
 
-enum { FAMILIES = 31, SITES_A_FAMILY = 12 };
+/* The families with deadlines follow each other. */
+enum { FAMILIES = 31, SITES_A_FAMILY = 12, FIRST_TIMED_FAMILY = 25, TIMED_FAMILIES = 4 };
 
 /* What idle power a family's sites are given: none, half the power of the lowest level, or twice
    that of the highest. Otherwise they are the same sites. */
@@ -16,5 +16,8 @@ const char *idle_name(enum idle idle);
 
 /* Writes the site file of one instance of a family; returns its length. */
 size_t write_instance(size_t family, size_t number, enum idle idle, uint8_t *text);
+
+/* The same for any site, with as few settings as it needs and deadlines where one is early. */
+size_t write_site(const reference_instance *site, uint8_t *text);
 
 #endif

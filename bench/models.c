@@ -47,6 +47,18 @@ static bool is_offered(size_t task, size_t level) {
     return reference_ticks(&in, task, level) <= in.task[task].deadline;
 }
 
+static bool has_level(size_t task) {
+    size_t level = 0;
+    while (level < in.levels && !is_offered(task, level))
+        level++;
+    return level < in.levels;
+}
+
+/* A sum needs a term, so that of a must that fits no core has refusing it, 0 times. */
+static bool has_refusal(size_t task) {
+    return in.task[task].penalty != MUST || !has_level(task);
+}
+
 /* The ticks by which what is due is limited, in their order; the span's end is the last. */
 static size_t list_ticks(uint32_t ticks[MOST_SPAN]) {
     size_t count = 0;
@@ -59,6 +71,14 @@ static size_t list_ticks(uint32_t ticks[MOST_SPAN]) {
             ticks[count++] = t;
     }
     return count;
+}
+
+/* Whether anything can be due on a core by a tick. */
+static bool is_limited(size_t core, uint32_t tick) {
+    for (size_t i = 0; i < in.tasks; i++)
+        if (core < cores_offered(i) && has_level(i) && reference_jobs_due(&in, i, tick) > 0)
+            return true;
+    return false;
 }
 
 /* What a task at a level that fits adds to the cost of an awake core. */
@@ -111,8 +131,9 @@ static void print_task(model m, size_t task, bool priced) {
         for (size_t l = 0; l < in.levels; l++)
             if (is_offered(task, l))
                 print_choice(m, priced ? cost_of(task, l) : 1, task, c, l);
-    if (in.task[task].penalty != MUST)
-        print_refusal(m, priced ? penalty_of(task) : 1, task);
+    bool must = in.task[task].penalty == MUST;
+    if (has_refusal(task))
+        print_refusal(m, must ? 0 : priced ? penalty_of(task) : 1, task);
 }
 
 static void print_cost(model m) {
@@ -170,10 +191,11 @@ static void print_lp(FILE *file) {
         fprintf(file, " = 1\n");
     }
     for (size_t c = 0; c < cores_used(); c++)
-        for (size_t n = 0; n < count; n++) {
-            fprintf(file, " core_%zu_%" PRIu32 ":", c, ticks[n]);
-            print_core(m, c, ticks[n]);
-        }
+        for (size_t n = 0; n < count; n++)
+            if (is_limited(c, ticks[n])) {
+                fprintf(file, " core_%zu_%" PRIu32 ":", c, ticks[n]);
+                print_core(m, c, ticks[n]);
+            }
     for (size_t i = 0; in.idle_power > 0 && i < in.tasks; i++)
         for (size_t c = 0; c < cores_offered(i); c++) {
             fprintf(file, " runs_%zu_%zu:", i, c);
@@ -185,7 +207,7 @@ static void print_lp(FILE *file) {
             for (size_t l = 0; l < in.levels; l++)
                 if (is_offered(i, l))
                     fprintf(file, " x_%zu_%zu_%zu\n", i, c, l);
-        if (in.task[i].penalty != MUST)
+        if (has_refusal(i))
             fprintf(file, " r_%zu\n", i);
     }
     for (size_t c = 0; in.idle_power > 0 && c < cores_used(); c++)
@@ -198,7 +220,10 @@ static void print_opb(FILE *file) {
     bool idle = in.idle_power > 0;
     size_t variables = MOST_TASKS * MOST_CORES * MOST_LEVELS + MOST_TASKS + (idle ? MOST_CORES : 0);
     uint32_t ticks[MOST_SPAN];
-    size_t count = list_ticks(ticks), constraints = in.tasks + cores_used() * count;
+    size_t count = list_ticks(ticks), constraints = in.tasks;
+    for (size_t c = 0; c < cores_used(); c++)
+        for (size_t n = 0; n < count; n++)
+            constraints += is_limited(c, ticks[n]);
     for (size_t i = 0; idle && i < in.tasks; i++)
         constraints += cores_offered(i);
     fprintf(file, "* #variable= %zu #constraint= %zu\nmin:", variables, constraints);
@@ -210,7 +235,8 @@ static void print_opb(FILE *file) {
     }
     for (size_t c = 0; c < cores_used(); c++)
         for (size_t n = 0; n < count; n++)
-            print_core(m, c, ticks[n]);
+            if (is_limited(c, ticks[n]))
+                print_core(m, c, ticks[n]);
     for (size_t i = 0; idle && i < in.tasks; i++)
         for (size_t c = 0; c < cores_offered(i); c++)
             print_runs_awake(m, i, c);

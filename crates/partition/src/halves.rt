@@ -2,6 +2,7 @@
 use crate::cores::move_keys;
 use crate::keeping::least_parted;
 use crate::keeping::refuse;
+use crate::near::note_plans;
 use values::MOST_SETS;
 use values::Worth;
 use values::sets_of;
@@ -16,7 +17,8 @@ pub struct Halves {
     pub shift: u64,
 }
 
-// The upper cores take some items, and of all others the lower cores keep what is best.
+// The upper cores take some items, and of all others the lower cores keep what is best. `near` gets the keys of plans that cost little
+// more, one for each set on the upper cores, where it has room for them.
 pub fn least_over_halves(
     halves: Halves,
     tops: &[u64],
@@ -25,6 +27,7 @@ pub fn least_over_halves(
     must: &[bool],
     costs: &mut [u64],
     keys: &mut [u64],
+    near: &mut [u64],
 ) -> Worth
     requires { ⌜ HalvesReady (halves .items) (halves .shift) (now tops) (now topkeys) (now refusal) (now must) (now costs) (now keys) ⌝ }
     ensures { λ r. ⌜ worthOf r ≡ leastOverHalves (halves .items) (halves .shift) (now (tops .entry)) (now (topkeys .entry))
@@ -34,7 +37,9 @@ pub fn least_over_halves(
     move_keys(halves.items, halves.shift, topkeys, &mut moved);
     let all = sets_of(halves.items);
     refuse(all, 0, 0, refusal, must, costs, keys);
-    least_parted(all, 0, 0, tops, &moved, costs, keys)
+    let least = least_parted(all, 0, 0, tops, &moved, costs, keys);
+    note_plans(all, least.cost, tops, &moved, costs, keys, near);
+    least
 }
 
 // The same on one core.

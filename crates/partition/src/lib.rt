@@ -3,6 +3,7 @@
 mod cores;
 mod halves;
 mod keeping;
+mod near;
 mod splits;
 
 pub use cores::fill_best;

@@ -88,3 +88,8 @@ pub record SetsRaised (found : Candidate) (timings cost costs keys left₀ left 
   pub fewer : triesLeft (found .site .items) left + raised ≤ triesLeft (found .site .items) left₀
   pub same : raised ≡ 0 → left ≡ left₀
   pub settled : raised ≡ 0 → (j : ℕ) → j < k → getD left (coreSetNumber (found .site .items) (found .site .levels) j (found .key)) 0 ≡ 0
+
+-- sets were tried, or none was
+pub record NearRaised (site : Site) (timings cost costs keys left₀ left : List ℕ) : Type 0 where
+  pub table : SiteRaised site timings cost costs keys left
+  pub not-more : triesLeft (site .items) left ≤ triesLeft (site .items) left₀

@@ -2,6 +2,7 @@
 // entries of the plan that they find are raised, until all of them are exact.
 mod dropping;
 mod lifting;
+mod near;
 mod rounds;
 mod sets;
 mod start;

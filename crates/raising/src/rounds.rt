@@ -2,6 +2,7 @@
 use crate::Site;
 use crate::lifting::MOST_CORE_COST;
 use crate::lifting::lift_all;
+use crate::near::raise_near;
 use crate::sets::core_set;
 use core_tables::charge_idle_once;
 use partition::fill_weights;
@@ -29,19 +30,24 @@ ghost use Rattle.raising.specs.TimedSites.{shapeOf, siteOptions, SiteRea
 // How often a set is tried at most.
 const TRIES: u32 = 13;
 
+// How many rounds there are before other plans than the best are looked at.
+const ROUNDS_ALONE: usize = 8;
+
 // A plan that was found, by its key.
-struct Candidate {
-    site: Site,
-    key: u64,
+pub(crate) struct Candidate {
+    pub(crate) site: Site,
+    pub(crate) key: u64,
 }
 
-// What partition and keeping find over the table as it stands, once each set owes the idle energy of a whole span once.
+// What partition and keeping find over the table as it stands, once each set owes the idle energy of a whole span once. `near` gets
+// the keys of plans that cost little more.
 fn least_charged(
     site: Site,
     refusal: &[u64],
     must: &[bool],
     mut costs: [u64; MOST_SETS],
     keys: &[u64],
+    near: &mut [u64],
 ) -> Worth
     requires { ⌜ RoundReady (shapeOf site) (site .whole) (now refusal) (now must) costs (now keys) ⌝ }
     ensures { λ r. ⌜ RoundFound (shapeOf site) (site .whole) (now (refusal .entry)) (now (must .entry)) costs (now (keys .entry)) r ⌝ }
@@ -52,7 +58,7 @@ fn least_charged(
         cores: site.cores,
         levels: site.levels,
     };
-    least_of_table(shape, refusal, must, &costs, keys)
+    least_of_table(shape, refusal, must, &costs, keys, near)
 }
 
 // Up to where a set is searched, from its entry on: each try goes above the entry twice as far as the one before it, the last as far
@@ -134,7 +140,7 @@ fn try_set(
 }
 
 // Tries the sets that the cores of a found plan run, where their entries are not exact, and answers how many these were.
-fn raise_sets(
+pub(crate) fn raise_sets(
     found: Candidate,
     timings: &[u32],
     cost: &[u64],
@@ -164,6 +170,10 @@ fn raise_sets(
     raised
 }
 
+fn one_less(n: usize) -> usize {
+    if n == 0 { 0 } else { n - 1 }
+}
+
 // The value of the best plan, from a table of lower values. Each round tries a set.
 pub(crate) fn least_in_rounds(
     site: Site,
@@ -182,9 +192,11 @@ pub(crate) fn least_in_rounds(
 {
     let mut weights = [0u64; MOST_SETS];
     let mut left = [TRIES; MOST_SETS];
+    let mut near = [0u64; MOST_SETS];
     fill_weights(site.items, &mut weights);
+    let mut waiting = ROUNDS_ALONE;
     loop {
-        let best = least_charged(site, refusal, must, *costs, keys);
+        let best = least_charged(site, refusal, must, *costs, keys, &mut near);
         if NO_COST <= best.cost {
             return best;
         }
@@ -196,5 +208,17 @@ pub(crate) fn least_in_rounds(
         if raised == 0 {
             return best;
         }
+        waiting = one_less(waiting);
+        raise_near(
+            site,
+            waiting,
+            &near,
+            timings,
+            cost,
+            &weights,
+            costs,
+            keys,
+            &mut left,
+        );
     }
 }

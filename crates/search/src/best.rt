@@ -12,13 +12,15 @@ ghost use Rattle.search.specs.Limits.{SearchReady};
 ghost use Rattle.values.specs.Worths.{worthOf};
 
 // What the best plan is worth, from the table of one core. Of an odd number of cores the lower half has one more; no half has
-// more than two, so that one table of two cores serves both.
+// more than two, so that one table of two cores serves both. `near` gets the keys of plans that cost little more, where it has room
+// for them and there is more than one core.
 pub fn least_of_table(
     shape: Shape,
     refusal: &[u64],
     must: &[bool],
     corecosts: &[u64],
     corekeys: &[u64],
+    near: &mut [u64],
 ) -> Worth
     requires { ⌜ SearchReady shape (now refusal) (now must) (now corecosts) (now corekeys) ⌝ }
     ensures { λ r. ⌜ worthOf r
@@ -52,6 +54,7 @@ pub fn least_of_table(
             must,
             &mut costs,
             &mut keys,
+            near,
         );
     }
     let tops = costs;
@@ -64,5 +67,6 @@ pub fn least_of_table(
         must,
         &mut costs,
         &mut keys,
+        near,
     )
 }

@@ -39,7 +39,8 @@ pub fn cheapest_plan(
     ensures { λ r. ⌜ Searched shape (now (refusal .entry)) (now (must .entry)) (now (corecosts .entry)) (now (corekeys .entry))
         (now (plan .entry)) (now (plan .exit)) r ⌝ }
 {
-    let best = least_of_table(shape, refusal, must, corecosts, corekeys);
+    let mut none = [0u64; 0];
+    let best = least_of_table(shape, refusal, must, corecosts, corekeys, &mut none);
     if NO_COST <= best.cost {
         return Found::NoPlan;
     }

@@ -15,13 +15,16 @@ slice-aggregate-least-of-table c = search needs
 
 least-of-table-requires : tie.Need-least-of-table-requires
 least-of-table-requires c κs =
-    let charged = c .before .before .charge-idle-once in
-    charged-ready (c .before .before .before .before .before .before .before .pre) (charged .ensures) (charged .kept .1 .1 .0)
+    let charged = c .before .before .before .charge-idle-once in
+    charged-ready (c .before .before .before .before .before .before .before .before .before .pre) (charged .ensures) (charged .kept .1 .1 .0)
+
+same-length : tie.Need-same-length
+same-length c = search needs
 
 returns : tie.Need-returns
 returns c =
-    let charged = c .before .before .before .charge-idle-once in
-    record { after = _; charged = charged .ensures; same-length = charged .kept .1 .1 .0; is = c .least-of-table .ensures }
+    let charged = c .before .before .before .before .before .before .charge-idle-once in
+    record { after = _; charged = charged .ensures; same-length = charged .kept .1 .1 .0; is = c .before .before .least-of-table .ensures }
 
 pub least-charged-spec : {M : Type 1} → statement M
 least-charged-spec =
@@ -31,4 +34,5 @@ least-charged-spec =
     charge-idle-once-requires
     slice-aggregate-least-of-table
     least-of-table-requires
+    same-length
     returns)
