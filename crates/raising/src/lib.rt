@@ -6,6 +6,7 @@ mod near;
 mod rounds;
 mod sets;
 mod start;
+mod tries;
 
 use rounds::least_in_rounds;
 use search::Found;

@@ -1,5 +1,5 @@
-// Sets of plans that cost little more than the best found. With three or four cores a round takes much longer than trying a set: after
-// some rounds sets are tried that later rounds would find one by one.
+// Sets of plans that cost little more than the best found. A round takes longer than trying a set: after some rounds sets are tried
+// that later rounds would find one by one.
 use crate::Site;
 use crate::rounds::Candidate;
 use crate::rounds::raise_sets;
@@ -78,7 +78,7 @@ fn raise_plans(
     }
 }
 
-// The same with three or four cores, once no round is to be waited for.
+// The same, once no round is to be waited for.
 pub(crate) fn raise_near(
     site: Site,
     waiting: usize,
@@ -97,9 +97,6 @@ pub(crate) fn raise_near(
         (now (left .entry)) (now (left .exit)) ⌝ }
 {
     if 0 < waiting {
-        return;
-    }
-    if site.cores <= 2 {
         return;
     }
     raise_plans(site, near, timings, cost, weights, costs, keys, left);

@@ -1,23 +1,18 @@
 // The rounds of the search.
 use crate::Site;
-use crate::lifting::MOST_CORE_COST;
-use crate::lifting::lift_all;
 use crate::near::raise_near;
 use crate::sets::core_set;
+use crate::tries::TRIES;
+use crate::tries::try_set;
 use core_tables::charge_idle_once;
 use partition::fill_weights;
 use search::Shape;
 use search::least_of_table;
-use timed_sets::Bounded;
-use timed_sets::Timed;
-use timed_sets::has_few_items;
-use timed_sets::least_up_to;
-use timed_sets::relaxation_of;
 use values::MOST_SETS;
 use values::NO_COST;
 use values::Worth;
 ghost use Prim.Native.Nat.{_^_, _<_};
-ghost use lib.ListN.{getD, replicate};
+ghost use lib.ListN.{replicate};
 ghost use Rattle.assignment.specs.Keys.{keyBase};
 ghost use Rattle.assignment.specs.SearchTheorem.{BestAnswers};
 ghost use Rattle.assignment.specs.Words.{noCost};
@@ -25,10 +20,7 @@ ghost use Rattle.partition.specs.Tables.{mostSets};
 ghost use Rattle.values.specs.Worths.{worthOf};
 ghost use Rattle.raising.specs.RaisedTables.{mostTries};
 ghost use Rattle.raising.specs.Rounds.{RefusalsOffered, RoundReady, RoundFound};
-ghost use Rattle.raising.specs.TimedSites.{shapeOf, siteOptions, SiteReady, SiteRaised, SetsWeighed, LimitReady, LimitOf, TriesAfter, SetTried, SetsRaised};
-
-// How often a set is tried at most.
-const TRIES: u32 = 13;
+ghost use Rattle.raising.specs.TimedSites.{shapeOf, siteOptions, SiteReady, SiteRaised, SetsWeighed, SetsRaised};
 
 // How many rounds there are before other plans than the best are looked at.
 const ROUNDS_ALONE: usize = 8;
@@ -59,84 +51,6 @@ fn least_charged(
         levels: site.levels,
     };
     least_of_table(shape, refusal, must, &costs, keys, near)
-}
-
-// Up to where a set is searched, from its entry on: each try goes above the entry twice as far as the one before it, the last as far
-// as there is.
-fn limit_of(items: usize, set: usize, left: u32, low: u64, key: u64) -> Worth
-    requires { ⌜ LimitReady items left low key ⌝ }
-    ensures { λ r. ⌜ LimitOf items left low key r ⌝ }
-{
-    let none = Worth {
-        cost: NO_COST,
-        key: 0,
-    };
-    if has_few_items(items, set) {
-        return none;
-    }
-    if left <= 1 {
-        return none;
-    }
-    let cost = low + (low >> left) + 1;
-    if MOST_CORE_COST < cost {
-        return none;
-    }
-    Worth {
-        cost: cost,
-        key: key,
-    }
-}
-
-// How often a set may still be tried, once it was searched up to a limit: not at all where its least value was found.
-fn left_after(left: u32, most: Worth, found: Worth) -> u32
-    requires { ⌜ 0 < left ⌝ }
-    requires { ⌜ (most .cost < noCost → 1 < left) ⌝ }
-    ensures { λ r. ⌜ TriesAfter left most found r ⌝ }
-{
-    if NO_COST <= most.cost {
-        return 0;
-    }
-    if found.cost < most.cost {
-        return 0;
-    }
-    if found.key < most.key {
-        return 0;
-    }
-    left - 1
-}
-
-// Searches a set up to its limit, for its least value or a higher entry; its relaxation raises the others' entries.
-fn try_set(
-    site: Site,
-    set: usize,
-    timings: &[u32],
-    cost: &[u64],
-    weights: &[u64],
-    costs: &mut [u64],
-    keys: &mut [u64],
-    left: &mut [u32],
-)
-    requires { ⌜ SiteReady site (now timings) (now cost) ⌝ }
-    requires { ⌜ SetsWeighed (site .items) (now weights) ⌝ }
-    requires { ⌜ SiteRaised site (now timings) (now cost) (now costs) (now keys) (now left) ⌝ }
-    requires { ⌜ set < 2 ^ site .items ⌝ }
-    requires { ⌜ 0 < getD (now left) set 0 ⌝ }
-    ensures { λ _. ⌜ SetTried site (now (timings .entry)) (now (cost .entry)) (now (costs .exit)) (now (keys .exit))
-        (now (left .entry)) (now (left .exit)) ⌝ }
-{
-    let timed = Timed {
-        items: site.items,
-        levels: site.levels,
-        span: site.span,
-    };
-    let relaxed = relaxation_of(timed, set, timings, cost);
-    lift_all(site.items, relaxed, weights, costs, keys);
-    let most = limit_of(site.items, set, left[set], costs[set], weights[set]);
-    let bounded = Bounded { timed, relaxed };
-    let found = least_up_to(bounded, set, most, timings, cost, costs, keys);
-    costs[set] = found.cost;
-    keys[set] = found.key;
-    left[set] = left_after(left[set], most, found);
 }
 
 // Tries the sets that the cores of a found plan run, where their entries are not exact, and answers how many these were.

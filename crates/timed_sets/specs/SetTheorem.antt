@@ -2,7 +2,7 @@
 use Prim.Native.Nat.{ℕ, zero, suc, _^_, _<_}
 use mathlib.Core.Bool.{Bool, true, false}
 use mathlib.Core.List.{List, [], _∷_, _++_}
-use mathlib.Core.Logic.{_⊎_, inl, inr, _≢_}
+use mathlib.Core.Logic.{_⊎_, inl, inr}
 use mathlib.Core.Path.{_≡_, refl, sym, ap, _∙_}
 use native.Mathlib.Omega.{arith}
 use lib.ListN.{length, replicate}
@@ -133,16 +133,6 @@ module _ {timed : Timed} {set : ℕ} {timings cost : List ℕ} {r : Worth} where
             let same = same-set (timed .items) S (its .set) of-items (its .of-items) (is ∙ sym (its .number)) in
             inr (pattern, (rw same keeps, met), worth)))
 
-    pub found-is-lower : FoundUpTo timed set timings cost most r → LowerInTime timed set timings cost r
-    unfolding timedOptions patternWorth worthOn
-    found-is-lower (is-least least) =
-        record { lower = λ S of-items is pattern keeps met. least .least 1 [] [] S of-items is .below pattern record { keeps = keeps; admitted = met } }
-    found-is-lower (is-limit e lower) = lower
-
     pub least-without-limit : FoundUpTo timed set timings cost most r → worthOf most ≡ none → SmallWorth timed r → LeastInTime timed set timings cost r
     least-without-limit (is-least least) no-limit small = least
     least-without-limit (is-limit e lower) no-limit small = lower-is-least small lower (λ S of-items is. inl (e ∙ no-limit))
-
-    pub least-before-limit : FoundUpTo timed set timings cost most r → worthOf r ≢ worthOf most → LeastInTime timed set timings cost r
-    least-before-limit (is-least least) before = least
-    least-before-limit (is-limit e lower) before = absurd (before e)

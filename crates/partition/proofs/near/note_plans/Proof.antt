@@ -7,9 +7,6 @@ use borrow.Author.Needs.{needs}
 use lib.ListN.{length, length-set}
 use Rattle.partition.proofs.near.note_plans.Statement.{statement}
 use Rattle.partition.proofs.near.note_plans.Tie as tie
-use Rattle.partition.proofs.near.note_plans.Reads as reads
-use Rattle.partition.proofs.near.note_plans.Lts as lts
-use Rattle.partition.proofs.near.near_key.Reads as near-key-reads
 
 abbrev Inv-loop : tie.InvT-loop
 Inv-loop all least tops topkeys costs keys near₀ t₀ near t = (length near ≡ length near₀) × (t ≤ all)

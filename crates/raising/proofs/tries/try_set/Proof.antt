@@ -8,8 +8,8 @@ use Rattle.raising.specs.LiftedLaws.{ready-to-lift, site-lifted}
 use Rattle.raising.specs.RaisedTables.{in-costs, in-keys, in-tries}
 use Rattle.raising.specs.SiteLaws.{lower-for-sets}
 use Rattle.raising.specs.TriedLaws.{ready-for-limit, set-tried}
-use Rattle.raising.proofs.rounds.try_set.Statement.{statement}
-use Rattle.raising.proofs.rounds.try_set.Tie as tie
+use Rattle.raising.proofs.tries.try_set.Statement.{statement}
+use Rattle.raising.proofs.tries.try_set.Tie as tie
 
 few-sets : (c : tie.Start) → c .args .set < 4096
 few-sets c = le-trans (c .pre .1 .1 .1 .0) (room-for-sets (c .pre .0 .limits .items))

@@ -1,8 +1,8 @@
 use mathlib.Core.Logic.{inl, inr}
 use native.Mathlib.Omega.{arith}
 use borrow.Author.Needs.{needs}
-use Rattle.raising.proofs.rounds.left_after.Statement.{statement}
-use Rattle.raising.proofs.rounds.left_after.Tie as tie
+use Rattle.raising.proofs.tries.left_after.Statement.{statement}
+use Rattle.raising.proofs.tries.left_after.Tie as tie
 
 returns : tie.Need-returns
 returns c = record { fewer = omega (arith, c .before .before .pre .0); settled = λ none. inl (c .if1 .taken) }

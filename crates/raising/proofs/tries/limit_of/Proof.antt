@@ -2,8 +2,8 @@ use Prim.Native.Nat.{_^_}
 use native.Mathlib.Nat.{div-le-self}
 use native.Mathlib.Omega.{arith}
 use borrow.Author.Needs.{needs}
-use Rattle.raising.proofs.rounds.limit_of.Statement.{statement}
-use Rattle.raising.proofs.rounds.limit_of.Tie as tie
+use Rattle.raising.proofs.tries.limit_of.Statement.{statement}
+use Rattle.raising.proofs.tries.limit_of.Tie as tie
 
 has-few-items-requires : tie.Need-has-few-items-requires
 has-few-items-requires c κs = search needs
