@@ -22,8 +22,8 @@ ghost use Rattle.raising.specs.RaisedTables.{mostTries};
 ghost use Rattle.raising.specs.Rounds.{RefusalsOffered, RoundReady, RoundFound};
 ghost use Rattle.raising.specs.TimedSites.{shapeOf, siteOptions, SiteReady, SiteRaised, SetsWeighed, SetsRaised};
 
-// How many rounds there are before other plans than the best are looked at.
-const ROUNDS_ALONE: usize = 8;
+// The round from which on other plans than the best are looked at too.
+const FIRST_NEAR_ROUND: usize = 8;
 
 // A plan that was found, by its key.
 pub(crate) struct Candidate {
@@ -108,7 +108,7 @@ pub(crate) fn least_in_rounds(
     let mut left = [TRIES; MOST_SETS];
     let mut near = [0u64; MOST_SETS];
     fill_weights(site.items, &mut weights);
-    let mut waiting = ROUNDS_ALONE;
+    let mut waiting = FIRST_NEAR_ROUND;
     loop {
         let best = least_charged(site, refusal, must, *costs, keys, &mut near);
         if NO_COST <= best.cost {
