@@ -7,6 +7,8 @@ use timed_sets::Timed;
 use timed_sets::has_few_items;
 use timed_sets::least_up_to;
 use timed_sets::relaxation_of;
+use timed_sets::size_of;
+use values::MOST_ITEMS;
 use values::NO_COST;
 use values::Worth;
 ghost use Prim.Native.Nat.{_^_, _<_};
@@ -17,8 +19,8 @@ ghost use Rattle.raising.specs.TimedSites.{SiteReady, SiteRaised, SetsWe
 // How often a set is tried at most.
 pub(crate) const TRIES: u32 = 13;
 
-// Up to where a set is searched, from its entry on: each try goes above the entry twice as far as the one before it, the last as far
-// as there is.
+// Up to where a set is searched, from its entry on: each try goes above the entry twice as far as the one before it, and for a set of one
+// item less twice as far too, since it takes less time; the last goes as far as there is.
 fn limit_of(items: usize, set: usize, left: u32, low: u64, key: u64) -> Worth
     requires { ⌜ LimitReady items left low key ⌝ }
     ensures { λ r. ⌜ LimitOf items left low key r ⌝ }
@@ -33,7 +35,11 @@ fn limit_of(items: usize, set: usize, left: u32, low: u64, key: u64) -> Worth
     if left <= 1 {
         return none;
     }
-    let cost = low + (low >> left) + 1;
+    let halvings = left as usize + size_of(items, set);
+    if halvings <= MOST_ITEMS {
+        return none;
+    }
+    let cost = low + (low >> (halvings - MOST_ITEMS)) + 1;
     if MOST_CORE_COST < cost {
         return none;
     }

@@ -1,13 +1,15 @@
 -- How large the numbers are by which weights of ticks are made better, so that all sums and products fit 64 bits.
-use Prim.Native.Nat.{ℕ, _*_, _≤_}
+use Prim.Native.Nat.{ℕ, _+_, _*_, _≤_}
 use mathlib.Core.List.{List}
 use mathlib.Core.Path.{_≡_}
 use lib.ListN.{length, getD}
-use Rattle.assignment.specs.Limits.{mostItems}
+use Rattle.ranges.specs.Limits.{mostPeriod}
+use Rattle.assignment.specs.Limits.{mostCoreCost, mostItems}
 use Rattle.timed_sets.specs.Lagrangians.{mostPriced}
 use Rattle.timed_sets.specs.PriceColumns.{mostTicks}
 use Rattle.timed_sets.specs.declared.ascent.Ascent.{Ascent}
 use Rattle.timed_sets.specs.declared.multipliers.Multipliers.{Multipliers}
+use Rattle.timed_sets.specs.declared.set_bounds.Part.{Part}
 use Rattle.timed_sets.specs.declared.slopes.Slope.{Slope}
 
 -- 2^16 and 2^40
@@ -21,9 +23,9 @@ mostGap = 1099511627776
 abbrev pub mostSquare : ℕ
 mostSquare = mostTicks * (2 * (mostExcess * mostExcess))
 
--- what a set costs at most at its cheapest levels, the ticks at their prices included
+-- what a part of a pattern costs at most with the open items at their cheapest levels, the ticks at their prices included
 abbrev pub mostBound : ℕ
-mostBound = mostItems * mostPriced
+mostBound = mostCoreCost + mostItems * mostPriced
 
 -- after so many steps without a gain the steps become shorter
 abbrev pub patience : ℕ
@@ -31,6 +33,12 @@ patience = 10
 
 abbrev pub Placed : Multipliers → Type 0
 Placed weighed = (length (weighed .ticks) ≡ mostTicks) × (length (weighed .weights) ≡ mostTicks)
+
+-- a part costs no more than a core, and its jobs take no longer than periods
+pub record SmallPart (part : Part) : Type 0 where
+  pub cost : part .cost ≤ mostCoreCost
+  pub places : length (part .ticks) ≡ mostItems
+  pub short : (j : ℕ) → getD (part .ticks) j 0 ≤ mostPeriod
 
 pub record SmallExcesses (excesses : List ℕ) : Type 0 where
   pub places : length excesses ≡ mostTicks

@@ -1,5 +1,12 @@
--- How large the sums are by which it is told which tick to weigh: 2^48.
-use Prim.Native.Nat.{ℕ}
+-- How large the numbers are by which the tick is found that is exceeded most.
+use Prim.Native.Nat.{ℕ, _+_, _≤_}
+use Rattle.ranges.specs.Limits.{mostSpan}
+use Rattle.timed_sets.specs.declared.exceeded.MostExceeded.{MostExceeded}
 
+-- 2^48
 abbrev pub mostDue : ℕ
 mostDue = 281474976710656
+
+pub record SmallExceeded (so-far : MostExceeded) : Type 0 where
+  pub tick : so-far .most .tick ≤ mostSpan
+  pub due : so-far .most .due ≤ mostDue + mostDue

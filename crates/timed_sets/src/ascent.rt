@@ -1,10 +1,11 @@
-// Better weights, by steps that go up along a subgradient of what the Lagrangian bounds the cost of a set by. Nothing is claimed of
+// Better weights, by steps that go up along a subgradient of what the Lagrangian bounds the cost of a part of a pattern by. Nothing is claimed of
 // them: whatever they are, the prices stay within their budget.
 use crate::Timed;
 use crate::exceeded::exceeded_tick;
 use crate::multipliers::Multipliers;
 use crate::places::with_place_for;
-use crate::set_bounds::SetBound;
+use crate::set_bounds::Part;
+use crate::set_bounds::PartBound;
 use crate::set_bounds::bound_at;
 use crate::slopes::at_most;
 use crate::slopes::less_or_none;
@@ -16,10 +17,13 @@ ghost use Prim.Native.Nat.{_≤_, _<_};
 ghost use lib.ListN.{length};
 ghost use Rattle.assignment.specs.Limits.{mostItems};
 ghost use Rattle.timed_sets.specs.Nodes.{TimedItems, TimedReady};
-ghost use Rattle.timed_sets.specs.Ascents.{mostBound, patience, Placed, SmallAscent};
+ghost use Rattle.timed_sets.specs.Ascents.{mostBound, patience, Placed, SmallAscent, SmallPart};
 
-// How many steps are taken at most, after how many without a gain they become half as long, and how often a further tick is looked for.
+// How many steps are taken at most where further ticks are weighed too, and where not; after how many without a gain they become
+// half as long, and how often a further tick is looked for.
 const STEPS: usize = 150;
+
+const FEW_STEPS: usize = 24;
 
 const PATIENCE: usize = 10;
 
@@ -33,13 +37,15 @@ const LEAST_GAIN: u64 = 16;
 // Larger gaps are cut off: 2^40.
 const MOST_GAP: u64 = 0x100_0000_0000;
 
-// The weights of the next step, the best so far and their bound; how far above it steps aim, and how many were taken without a gain.
+// The weights of the next step, the best so far and their bound; how far above it steps aim, and how many were taken without a gain;
+// whether further ticks are weighed.
 struct Ascent {
     next: Multipliers,
     best: Multipliers,
     value: u64,
     aim: u64,
     stalled: usize,
+    further: bool,
 }
 
 // The weights of the next step, now and then with the tick that is exceeded most at these ticks of a job of each item.
@@ -55,6 +61,9 @@ fn with_exceeded(
     ensures { λ r. ⌜ Placed r ⌝ }
 {
     let next = ascent.next;
+    if !ascent.further {
+        return next;
+    }
     if ascent.stalled % STEPS_PER_TICK != 0 {
         return next;
     }
@@ -105,7 +114,7 @@ fn restarted(ascent: Ascent) -> Ascent
 }
 
 // A step from the weights whose bound is known.
-fn step_from(timed: Timed, ascent: Ascent, here: SetBound, timings: &[u32]) -> Ascent
+fn step_from(timed: Timed, ascent: Ascent, here: PartBound, timings: &[u32]) -> Ascent
     requires { ⌜ TimedItems timed (now timings) ⌝ }
     requires { ⌜ SmallAscent ascent ⌝ }
     requires { ⌜ ascent .stalled < patience ⌝ }
@@ -132,15 +141,16 @@ fn step_from(timed: Timed, ascent: Ascent, here: SetBound, timings: &[u32]) -> A
     after
 }
 
-fn step(timed: Timed, set: usize, ascent: Ascent, timings: &[u32], cost: &[u64]) -> Ascent
+fn step(timed: Timed, part: Part, ascent: Ascent, timings: &[u32], cost: &[u64]) -> Ascent
     requires { ⌜ TimedReady timed (now timings) (now cost) ⌝ }
+    requires { ⌜ SmallPart part ⌝ }
     requires { ⌜ SmallAscent ascent ⌝ }
     requires { ⌜ ascent .stalled < patience ⌝ }
     ensures { λ r. ⌜ SmallAscent r ⌝ }
     ensures { λ r. ⌜ r .stalled < patience ⌝ }
 {
     let next = ascent.next;
-    let here = bound_at(timed, set, next, timings, cost);
+    let here = bound_at(timed, part, next, timings, cost);
     let after = judged(ascent, here.value);
     if PATIENCE <= after.stalled {
         return restarted(after);
@@ -148,32 +158,42 @@ fn step(timed: Timed, set: usize, ascent: Ascent, timings: &[u32], cost: &[u64])
     step_from(timed, after, here, timings)
 }
 
-// The best weights of some steps from given ones on.
+fn steps_at_most(further: bool) -> usize
+    ensures { λ r. ⌜ r ≤ 150 ⌝ }
+{
+    if further { STEPS } else { FEW_STEPS }
+}
+
+// The best weights of some steps from given ones on, for a part; `further` says whether further ticks are weighed.
 pub(crate) fn ascended(
     timed: Timed,
-    set: usize,
+    part: Part,
     first: Multipliers,
+    further: bool,
     timings: &[u32],
     cost: &[u64],
 ) -> Multipliers
     requires { ⌜ TimedReady timed (now timings) (now cost) ⌝ }
+    requires { ⌜ SmallPart part ⌝ }
     requires { ⌜ Placed first ⌝ }
     ensures { λ r. ⌜ Placed r ⌝ }
 {
-    let value = bound_at(timed, set, first, timings, cost).value;
+    let value = bound_at(timed, part, first, timings, cost).value;
     let mut ascent = Ascent {
         next: first,
         best: first,
         value,
         aim: value / FIRST_AIM,
         stalled: 0,
+        further,
     };
+    let most = steps_at_most(further);
     let mut n = 0;
-    while n < STEPS {
+    while n < most {
         if ascent.aim == 0 {
             return ascent.best;
         }
-        ascent = step(timed, set, ascent, timings, cost);
+        ascent = step(timed, part, ascent, timings, cost);
         n += 1;
     }
     ascent.best

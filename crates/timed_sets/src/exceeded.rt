@@ -8,7 +8,7 @@ ghost use Prim.Native.Nat.{_+_, _≤_, _<_};
 ghost use lib.ListN.{length};
 ghost use Rattle.ranges.specs.Limits.{mostPeriod, mostSpan};
 ghost use Rattle.assignment.specs.Limits.{mostItems};
-ghost use Rattle.timed_sets.specs.Exceeded.{mostDue};
+ghost use Rattle.timed_sets.specs.Exceeded.{mostDue, SmallExceeded};
 ghost use Rattle.timed_sets.specs.Nodes.{TimedItems};
 ghost use mathlib.Core.Path.{_≡_};
 
@@ -19,6 +19,13 @@ const MOST_DUE: u64 = 0x1_0000_0000_0000;
 struct Due {
     tick: u32,
     due: u64,
+}
+
+// What is due by the ticks so far, the one that is exceeded most, and its tick, or 0.
+struct MostExceeded {
+    sum: u64,
+    most: Due,
+    tick: u32,
 }
 
 fn sum_cut_off(a: u64, b: u64) -> u64
@@ -56,32 +63,53 @@ fn is_exceeded_more(here: Due, most: Due) -> bool
     most.due * (here.tick as u64) < here.due * (most.tick as u64)
 }
 
+// With one tick more by which something is due.
+fn with_due(known: MostExceeded, tick: u32, due: u64) -> MostExceeded
+    requires { ⌜ SmallExceeded known ⌝ }
+    requires { ⌜ tick ≤ mostSpan ⌝ }
+    ensures { λ r. ⌜ SmallExceeded r ⌝ }
+{
+    let most = known.most;
+    let sum = sum_cut_off(known.sum, due);
+    let here = Due { tick, due: sum };
+    if is_exceeded_more(here, most) {
+        return MostExceeded {
+            sum,
+            most: here,
+            tick,
+        };
+    }
+    MostExceeded {
+        sum,
+        most,
+        tick: known.tick,
+    }
+}
+
 // The tick that is exceeded most, by what is due at each tick; 0 where none is.
 fn most_exceeded(span: u32, due: &[u64]) -> u32
     requires { ⌜ (span ≤ mostSpan) × (span < length (now due)) ⌝ }
-    ensures { λ r. ⌜ r ≤ span ⌝ }
 {
-    let mut most = Due { tick: 1, due: 1 };
-    let mut found = 0;
-    let mut sum = 0;
+    let mut known = MostExceeded {
+        sum: 0,
+        most: Due { tick: 1, due: 1 },
+        tick: 0,
+    };
     let mut tick = 0;
     while tick < span {
         tick += 1;
-        sum = sum_cut_off(sum, due[tick as usize]);
-        let here = Due { tick, due: sum };
-        if is_exceeded_more(here, most) {
-            most = here;
-            found = tick;
+        let here = due[tick as usize];
+        if 0 < here {
+            known = with_due(known, tick, here);
         }
     }
-    found
+    known.tick
 }
 
 // The tick that is exceeded most where each item has the column's ticks to a job; 0 where none is.
 pub(crate) fn exceeded_tick(timed: Timed, column: [u32; MOST_ITEMS], timings: &[u32]) -> u32
     requires { ⌜ TimedItems timed (now timings) ⌝ }
     requires { ⌜ length column ≡ mostItems ⌝ }
-    ensures { λ r. ⌜ r ≤ timed .span ⌝ }
 {
     let mut due = [0u64; ENTRIES];
     let mut i = 0;

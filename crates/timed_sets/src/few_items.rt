@@ -1,13 +1,14 @@
-// Whether a set is small.
+// How many items a set has.
 use crate::choices::is_in_set;
 ghost use Prim.Native.Nat.{_≤_};
 ghost use Rattle.assignment.specs.Limits.{mostItems};
 
-const FEW_ITEMS: usize = 6;
+pub(crate) const FEW_ITEMS: usize = 6;
 
-// Whether a set has so few of the items that it is searched in less time than it takes to find good bounds for it.
-pub fn has_few_items(items: usize, set: usize) -> bool
+// How many of the items a set has.
+pub fn size_of(items: usize, set: usize) -> usize
     requires { ⌜ items ≤ mostItems ⌝ }
+    ensures { λ r. ⌜ r ≤ items ⌝ }
 {
     let mut count = 0;
     let mut i = 0;
@@ -17,5 +18,12 @@ pub fn has_few_items(items: usize, set: usize) -> bool
         }
         i += 1;
     }
-    count < FEW_ITEMS
+    count
+}
+
+// Whether a set has so few of the items that it is searched in less time than it takes to find good bounds for it.
+pub fn has_few_items(items: usize, set: usize) -> bool
+    requires { ⌜ items ≤ mostItems ⌝ }
+{
+    size_of(items, set) < FEW_ITEMS
 }

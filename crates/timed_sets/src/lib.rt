@@ -13,6 +13,7 @@ mod multipliers;
 mod nodes;
 mod places;
 mod prices;
+mod refits;
 mod relaxation;
 mod search;
 mod servable;
@@ -24,12 +25,10 @@ use choices::cheapest_key;
 use demand_rows::ROW_WORDS;
 use demand_rows::fill_rows;
 pub use few_items::has_few_items;
+pub use few_items::size_of;
 use given::worth_along;
 use multipliers::MOST_TICKS;
 use multipliers::best_multipliers;
-use multipliers::prices_of;
-use prices::free;
-use prices::with_tick;
 use relaxation::lagrangian_of;
 use search::least_from;
 pub use servable::is_servable;
@@ -63,13 +62,15 @@ struct Node {
 }
 
 // Prices of a tick of a job of each item, such that the ticks of an admitted pattern come to no more than the budget; and what each
-// item costs at least, its ticks at their price included. `ticks` are those that were weighed, or 0: parts of patterns are tested at them,
-// and nothing is claimed of them.
+// item costs at least, its ticks at their price included. `ticks` are those that were weighed, or 0, and `weights` their weights: parts of
+// patterns are tested at them, and nothing is claimed of them. They were chosen for parts of which so many items are fixed.
 pub struct Lagrangian {
     pub prices: [u64; MOST_ITEMS],
     pub least: [u64; MOST_ITEMS],
     pub budget: u64,
     pub ticks: [u32; MOST_TICKS],
+    pub weights: [u64; MOST_TICKS],
+    pub fixed: usize,
 }
 
 // What leaves parts out of a search beside the table of lower values.
@@ -89,10 +90,11 @@ pub fn relaxation_at(
     requires { ⌜ TimedReady timed (now timings) (now cost) ⌝ }
     ensures { λ r. ⌜ Relaxes timed (now (timings .entry)) (now (cost .entry)) r ⌝ }
 {
-    let known = with_tick(timed, free(), tick, weight, timings);
     let mut ticks = [0; MOST_TICKS];
     ticks[0] = tick;
-    lagrangian_of(timed, known, ticks, timings, cost)
+    let mut weights = [0; MOST_TICKS];
+    weights[0] = weight;
+    lagrangian_of(timed, 0, ticks, weights, timings, cost)
 }
 
 // A relaxation whose weighed ticks are chosen for a set.
@@ -103,8 +105,7 @@ pub fn relaxation_of(timed: Timed, set: usize, timings: &[u32], cost: &[u64]) ->
     let weighed = best_multipliers(timed, set, timings, cost);
     let ticks = weighed.ticks;
     let weights = weighed.weights;
-    let known = prices_of(timed, ticks, weights, timings);
-    lagrangian_of(timed, known, ticks, timings, cost)
+    lagrangian_of(timed, 0, ticks, weights, timings, cost)
 }
 
 // The least value of running exactly the items of a set, by its number, with every job done in time; or the limit `most`, where nothing

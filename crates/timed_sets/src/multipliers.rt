@@ -10,6 +10,7 @@ use crate::prices::Prices;
 use crate::prices::free;
 use crate::prices::jobs_by;
 use crate::prices::with_tick;
+use crate::set_bounds::part_of_set;
 use crate::weights::Fitting;
 use crate::weights::least_weight;
 ghost use mathlib.Core.Path.{_≡_};
@@ -181,5 +182,5 @@ pub(crate) fn best_multipliers(
     if has_few_items(timed.items, set) {
         return fitted;
     }
-    ascended(timed, set, fitted, timings, cost)
+    ascended(timed, part_of_set(set), fitted, true, timings, cost)
 }

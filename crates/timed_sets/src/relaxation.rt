@@ -3,14 +3,15 @@ use crate::Lagrangian;
 use crate::TIMING_WIDTH;
 use crate::Timed;
 use crate::multipliers::MOST_TICKS;
+use crate::multipliers::prices_of;
 use crate::nodes::is_within_window;
-use crate::prices::Prices;
 use values::MOST_ITEMS;
 use values::STRIDE;
+ghost use mathlib.Core.Path.{_≡_};
 ghost use Prim.Native.Nat.{_+_, _≤_, _<_};
 ghost use Rattle.timed_sets.specs.declared.Timed.{Timed};
 ghost use Rattle.timed_sets.specs.Nodes.{TimedReady};
-ghost use Rattle.timed_sets.specs.Lagrangians.{mostPrice, WithinBudget, Relaxes};
+ghost use Rattle.timed_sets.specs.Lagrangians.{mostPrice, Relaxes};
 ghost use Rattle.timed_sets.specs.PricedLevels.{Cheapest};
 
 // More than an item costs at any level at which a job has its ticks within its window, whatever the prices are: 2^57.
@@ -77,18 +78,20 @@ pub(crate) fn cheapest_level(
     best
 }
 
-// The Lagrangian of these prices, by these ticks.
+// The Lagrangian of these ticks with these weights, chosen for parts of which so many items are fixed.
 pub(crate) fn lagrangian_of(
     timed: Timed,
-    known: Prices,
+    fixed: usize,
     ticks: [u32; MOST_TICKS],
+    weights: [u64; MOST_TICKS],
     timings: &[u32],
     cost: &[u64],
 ) -> Lagrangian
     requires { ⌜ TimedReady timed (now timings) (now cost) ⌝ }
-    requires { ⌜ WithinBudget timed (now timings) (known .prices) (known .budget) ⌝ }
     ensures { λ r. ⌜ Relaxes timed (now (timings .entry)) (now (cost .entry)) r ⌝ }
+    ensures { λ r. ⌜ r .fixed ≡ fixed ⌝ }
 {
+    let known = prices_of(timed, ticks, weights, timings);
     let prices = known.prices;
     let mut least = [0; MOST_ITEMS];
     let mut i = 0;
@@ -101,5 +104,7 @@ pub(crate) fn lagrangian_of(
         least,
         budget: known.budget,
         ticks,
+        weights,
+        fixed,
     }
 }

@@ -9,6 +9,8 @@ use crate::nodes::is_within_window;
 use crate::nodes::next_level;
 use crate::nodes::passed_over;
 use crate::nodes::run_at;
+use crate::refits::is_refit_due;
+use crate::refits::refitted;
 use values::STRIDE;
 use values::Worth;
 use values::lesser;
@@ -66,6 +68,12 @@ pub(crate) fn least_from(
 {
     if !is_promising(bounded, node, best, lowcosts, lowkeys, rows) {
         return best;
+    }
+    if is_refit_due(bounded, node) {
+        let timed = bounded.timed;
+        let relaxed = refitted(timed, bounded.relaxed, node, timings, cost);
+        let refit = Bounded { timed, relaxed };
+        return least_from(refit, node, best, timings, cost, lowcosts, lowkeys, rows);
     }
     let i = node.item;
     if i == bounded.timed.items {

@@ -5,13 +5,16 @@ use Rattle.timed_sets.proofs.ascent.ascended.Statement.{statement}
 use Rattle.timed_sets.proofs.ascent.ascended.Tie as tie
 
 abbrev Inv-loop : tie.InvT-loop
-Inv-loop timed set timings cost value ascent₀ n₀ ascent n = (n ≤ 150) × SmallAscent ascent × (ascent .stalled < patience)
+Inv-loop timed part further timings cost value ascent₀ most n₀ ascent n = (n ≤ most) × (most ≤ 150) × SmallAscent ascent × (ascent .stalled < patience)
 
 abbrev μ-loop : tie.MeasureT-loop
-μ-loop timed set timings cost value ascent₀ n₀ ascent n = 150 - n
+μ-loop timed part further timings cost value ascent₀ most n₀ ascent n = most - n
 
 bound-at-requires : tie.Need-bound-at-requires Inv-loop μ-loop
 bound-at-requires c κs = search needs
+
+steps-at-most-requires : tie.Need-steps-at-most-requires Inv-loop μ-loop
+steps-at-most-requires c κs = search needs
 
 loop-holds : tie.Need-loop-holds Inv-loop μ-loop
 loop-holds c = search needs
@@ -41,6 +44,7 @@ ascended-spec =
     Inv-loop
     μ-loop
     bound-at-requires
+    steps-at-most-requires
     loop-holds
     returns
     step-requires

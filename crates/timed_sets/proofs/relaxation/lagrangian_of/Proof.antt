@@ -1,4 +1,5 @@
 use Prim.Native.Nat.{_-_, _≤_}
+use mathlib.Core.Path.{refl}
 use native.Mathlib.Omega.{arith}
 use borrow.Author.Needs.{needs}
 use Rattle.timed_sets.specs.PricedLevels.{LeastOfEach}
@@ -7,11 +8,14 @@ use Rattle.timed_sets.proofs.relaxation.lagrangian_of.Statement.{statem
 use Rattle.timed_sets.proofs.relaxation.lagrangian_of.Tie as tie
 
 abbrev Inv-loop : tie.InvT-loop
-Inv-loop timed known ticks timings cost prices least₀ i₀ least i =
+Inv-loop timed fixed ticks weights timings cost known prices least₀ i₀ least i =
     (i ≤ timed .items) × LeastOfEach (timed .levels) timings cost (known .prices) i least
 
 abbrev μ-loop : tie.MeasureT-loop
-μ-loop timed known ticks timings cost prices least₀ i₀ least i = timed .items - i
+μ-loop timed fixed ticks weights timings cost known prices least₀ i₀ least i = timed .items - i
+
+prices-of-requires : tie.Need-prices-of-requires Inv-loop μ-loop
+prices-of-requires c κs = search needs
 
 loop-holds : tie.Need-loop-holds Inv-loop μ-loop
 loop-holds c = (omega arith, no-item-yet)
@@ -21,11 +25,10 @@ mul-cheapest-level c = search needs
 
 array-read-cheapest-level : tie.Need-array-read-cheapest-level Inv-loop μ-loop
 array-read-cheapest-level c =
-    let pre = c .before .before .before .before .before .before .pre in omega (arith, c .if1 .taken, pre .0 .timed-items .few-items, pre .1 .places)
+    omega (arith, c .if1 .taken, c .before .before .before .before .before .before .before .pre .timed-items .few-items, c .before .before .before .before .prices-of .ensures .places)
 
 cheapest-level-requires : tie.Need-cheapest-level-requires Inv-loop μ-loop
-cheapest-level-requires c κs =
-    let pre = c .before .before .before .before .before .before .pre in (pre .0, (c .if1 .taken, pre .1 .low-prices _))
+cheapest-level-requires c κs = (c .before .before .before .before .before .before .before .pre, (c .if1 .taken, c .before .before .before .before .prices-of .ensures .low-prices _))
 
 mul-least : tie.Need-mul-least Inv-loop μ-loop
 mul-least c = search needs
@@ -41,13 +44,13 @@ loop-less c = search needs
 
 loop-again : tie.Need-loop-again Inv-loop μ-loop
 loop-again c =
-    let few = c .before .before .before .before .before .before .before .pre .0 .timed-items .few-items in
+    let few = c .before .before .before .before .before .before .before .before .pre .timed-items .few-items in
     let below = c .before .if1 .taken in
     (omega (arith, below), least-of-one-more (c .before .before .before .loop .inv .1) (omega (arith, below, few)) (c .cheapest-level .ensures))
 
 returns : tie.Need-returns Inv-loop μ-loop
 returns c =
-    relaxes (c .before .before .before .before .before .before .pre .1) (omega (arith, c .if1 .left)) (c .before .before .loop .inv .1)
+    (relaxes (c .before .before .before .before .prices-of .ensures) (omega (arith, c .if1 .left)) (c .before .before .loop .inv .1), refl)
 
 pub lagrangian-of-spec : {M : Type 1} → statement M
 lagrangian-of-spec =
@@ -55,6 +58,7 @@ lagrangian-of-spec =
     (tie.spec
     Inv-loop
     μ-loop
+    prices-of-requires
     loop-holds
     mul-cheapest-level
     array-read-cheapest-level

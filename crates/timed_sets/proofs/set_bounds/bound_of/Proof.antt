@@ -1,33 +1,33 @@
-use Prim.Native.Nat.{_-_, _*_, _≤_}
+use Prim.Native.Nat.{_+_, _-_, _*_, _≤_}
 use mathlib.Core.Path.{_≡_, refl, _∙_}
 use native.Mathlib.Omega.{arith}
 use borrow.Author.Needs.{needs}
 use lib.ListN.{length, length-set}
-use Rattle.assignment.specs.Limits.{mostItems}
+use Rattle.assignment.specs.Limits.{mostCoreCost, mostItems}
 use Rattle.timed_sets.specs.Lagrangians.{mostPriced}
 use Rattle.timed_sets.proofs.set_bounds.bound_of.Statement.{statement}
 use Rattle.timed_sets.proofs.set_bounds.bound_of.Tie as tie
 
 abbrev Inv-loop : tie.InvT-loop
-Inv-loop timed set known timings cost prices column₀ sum₀ i₀ column sum i =
-    (i ≤ timed .items) × (sum ≤ i * mostPriced) × (length column ≡ mostItems)
+Inv-loop timed part known timings cost prices column₀ sum₀ i₀ column sum i =
+    (i ≤ timed .items) × (sum ≤ mostCoreCost + i * mostPriced) × (length column ≡ mostItems)
 
 abbrev μ-loop : tie.MeasureT-loop
-μ-loop timed set known timings cost prices column₀ sum₀ i₀ column sum i = timed .items - i
+μ-loop timed part known timings cost prices column₀ sum₀ i₀ column sum i = timed .items - i
 
 loop-holds : tie.Need-loop-holds Inv-loop μ-loop
-loop-holds c = (omega arith, omega arith, refl)
+loop-holds c = (omega arith, omega (arith, c .before .before .before .pre .1 .0 .cost), refl)
 
-mul-cheapest-in-set : tie.Need-mul-cheapest-in-set Inv-loop μ-loop
-mul-cheapest-in-set c = search needs
+mul-cheapest-in-part : tie.Need-mul-cheapest-in-part Inv-loop μ-loop
+mul-cheapest-in-part c = search needs
 
-array-read-cheapest-in-set : tie.Need-array-read-cheapest-in-set Inv-loop μ-loop
-array-read-cheapest-in-set c =
-    let pre = c .before .before .before .before .before .before .pre in omega (arith, c .if1 .taken, pre .0 .timed-items .few-items, pre .1 .places)
+array-read-cheapest-in-part : tie.Need-array-read-cheapest-in-part Inv-loop μ-loop
+array-read-cheapest-in-part c =
+    let pre = c .before .before .before .before .before .before .pre in omega (arith, c .if1 .taken, pre .0 .timed-items .few-items, pre .1 .1 .places)
 
-cheapest-in-set-requires : tie.Need-cheapest-in-set-requires Inv-loop μ-loop
-cheapest-in-set-requires c κs =
-    let pre = c .before .before .before .before .before .before .pre in (pre .0, (c .if1 .taken, pre .1 .low-prices _))
+cheapest-in-part-requires : tie.Need-cheapest-in-part-requires Inv-loop μ-loop
+cheapest-in-part-requires c κs =
+    let pre = c .before .before .before .before .before .before .pre in (pre .0, (pre .1 .0, (c .if1 .taken, pre .1 .1 .low-prices _)))
 
 mul-column : tie.Need-mul-column Inv-loop μ-loop
 mul-column c = search needs
@@ -39,7 +39,7 @@ array-write-column c =
 add-sum : tie.Need-add-sum Inv-loop μ-loop
 add-sum c =
     let pre = c .before .before .before .before .before .before .before .before .pre in
-    omega (arith, c .before .before .if1 .taken, pre .0 .timed-items .few-items, c .before .before .before .before .loop .inv .1, c .before .cheapest-in-set .ensures)
+    omega (arith, c .before .before .if1 .taken, pre .0 .timed-items .few-items, c .before .before .before .before .loop .inv .1, c .before .cheapest-in-part .ensures)
 
 add-i : tie.Need-add-i Inv-loop μ-loop
 add-i c = search needs
@@ -51,8 +51,8 @@ loop-again : tie.Need-loop-again Inv-loop μ-loop
 loop-again c =
     let loop = c .before .before .before .before .loop in (
       omega (arith, c .before .before .if1 .taken),
-      omega (arith, loop .inv .1, c .before .cheapest-in-set .ensures),
-      length-set (loop .column) (loop .i) (c .before .cheapest-in-set .result .ticks) ∙ loop .inv .2,
+      omega (arith, loop .inv .1, c .before .cheapest-in-part .ensures),
+      length-set (loop .column) (loop .i) (c .before .cheapest-in-part .result .ticks) ∙ loop .inv .2,
     )
 
 less-or-none-requires : tie.Need-less-or-none-requires Inv-loop μ-loop
@@ -71,9 +71,9 @@ bound-of-spec =
     Inv-loop
     μ-loop
     loop-holds
-    mul-cheapest-in-set
-    array-read-cheapest-in-set
-    cheapest-in-set-requires
+    mul-cheapest-in-part
+    array-read-cheapest-in-part
+    cheapest-in-part-requires
     mul-column
     array-write-column
     add-sum

@@ -2,8 +2,8 @@ use Prim.Native.Nat.{_-_, _≤_}
 use mathlib.Core.Logic.{⊎-elim}
 use native.Mathlib.Omega.{arith}
 use borrow.Author.Needs.{needs}
-use Rattle.timed_sets.proofs.few_items.has_few_items.Statement.{statement}
-use Rattle.timed_sets.proofs.few_items.has_few_items.Tie as tie
+use Rattle.timed_sets.proofs.few_items.size_of.Statement.{statement}
+use Rattle.timed_sets.proofs.few_items.size_of.Tie as tie
 
 abbrev Inv-loop : tie.InvT-loop
 Inv-loop items set count₀ i₀ count i = (i ≤ items) × (count ≤ i)
@@ -32,8 +32,8 @@ loop-again c = ⊎-elim (λ w. omega arith) (λ w. omega arith) (c .if1 .came)
 returns : tie.Need-returns Inv-loop μ-loop
 returns c = search needs
 
-pub has-few-items-spec : {M : Type 1} → statement M
-has-few-items-spec =
+pub size-of-spec : {M : Type 1} → statement M
+size-of-spec =
     tie.close
     (tie.spec
     Inv-loop

@@ -1,0 +1,80 @@
+// A relaxation for the patterns that go on from a node: what was chosen for the whole set bounds them less and less well, the more
+// items have their level.
+use crate::Bounded;
+use crate::Lagrangian;
+use crate::Node;
+use crate::Timed;
+use crate::ascent::ascended;
+use crate::few_items::FEW_ITEMS;
+use crate::few_items::has_few_items;
+use crate::multipliers::MOST_TICKS;
+use crate::multipliers::Multipliers;
+use crate::relaxation::lagrangian_of;
+use crate::set_bounds::Part;
+ghost use mathlib.Core.Bool.{Bool, true};
+ghost use mathlib.Core.List.{List};
+ghost use mathlib.Core.Path.{_≡_};
+ghost use Prim.Native.Nat.{ℕ, _≤_, _<_};
+ghost use Rattle.assignment.specs.Limits.{mostItems};
+ghost use Rattle.timed_sets.specs.Ascents.{SmallPart};
+ghost use Rattle.timed_sets.specs.Lagrangians.{Relaxes};
+ghost use Rattle.timed_sets.specs.Nodes.{TimedReady, Stands};
+
+// Whether the weights are to be fitted to the node: once for all levels of the next item, and not where few items are open.
+pub(crate) fn is_refit_due(bounded: Bounded, node: Node) -> bool
+    requires { ⌜ (bounded .timed .items ≤ mostItems) × (node .item ≤ bounded .timed .items) ⌝ }
+    ensures { λ r. ⌜ (r ≡ true → bounded .relaxed .fixed < node .item) ⌝ }
+{
+    if 0 < node.level {
+        return false;
+    }
+    if node.item <= bounded.relaxed.fixed {
+        return false;
+    }
+    if bounded.timed.items < node.item + FEW_ITEMS {
+        return false;
+    }
+    !has_few_items(bounded.timed.items, node.rest)
+}
+
+// Better weights of the same ticks for a part.
+fn refit_weights(
+    timed: Timed,
+    part: Part,
+    ticks: [u32; MOST_TICKS],
+    weights: [u64; MOST_TICKS],
+    timings: &[u32],
+    cost: &[u64],
+) -> [u64; MOST_TICKS]
+    requires { ⌜ TimedReady timed (now timings) (now cost) ⌝ }
+    requires { ⌜ SmallPart part ⌝ }
+{
+    let first = Multipliers { ticks, weights };
+    ascended(timed, part, first, false, timings, cost).weights
+}
+
+// The relaxation of the same ticks, with weights that are better for what goes on from the node.
+pub(crate) fn refitted(
+    timed: Timed,
+    relaxed: Lagrangian,
+    node: Node,
+    timings: &[u32],
+    cost: &[u64],
+) -> Lagrangian
+    requires { ⌜ TimedReady timed (now timings) (now cost) ⌝ }
+    requires { ⌜ ((q : List ℕ) × (T : List Bool) × Stands timed (now timings) (now cost) node q T) ⌝ }
+    ensures { λ r. ⌜ Relaxes timed (now (timings .entry)) (now (cost .entry)) r ⌝ }
+    ensures { λ r. ⌜ r .fixed ≡ node .item ⌝ }
+{
+    let column = node.ticks;
+    let part = Part {
+        fixed: node.item,
+        open: node.rest,
+        cost: node.cost,
+        ticks: column,
+    };
+    let ticks = relaxed.ticks;
+    let before = relaxed.weights;
+    let weights = refit_weights(timed, part, ticks, before, timings, cost);
+    lagrangian_of(timed, node.item, ticks, weights, timings, cost)
+}
