@@ -1,8 +1,8 @@
 // Plans that cost little more than the least. Nothing is claimed of them: they tell a search what to look at next.
 ghost use Rattle.partition.specs.Splits.{SumsReady};
 
-// Plans are noted up to one part in 1,024 above the least.
-const NEAR: u64 = 1024;
+// Plans are noted up to one part in 64 of their cost above the least.
+const NEAR: u64 = 64;
 
 // The key of a plan that costs little more than the least, else 0.
 fn near_key(least: u64, cost: u64, key: u64) -> u64 {

@@ -1,5 +1,5 @@
-// Sets of plans that cost little more than the best found. A round takes longer than trying a set: after some rounds sets are tried
-// that later rounds would find one by one.
+// Sets of plans that cost little more than the best found. With three or four cores a round takes longer than trying many sets: those
+// are tried too that later rounds would find one by one.
 use crate::Site;
 use crate::rounds::Candidate;
 use crate::rounds::raise_sets;
@@ -7,7 +7,10 @@ use values::keys_of;
 ghost use Rattle.raising.specs.TimedSites.{SiteReady, SiteRaised, SetsWeighed, NearRaised};
 
 // How many of these plans are taken up in a round at most.
-const MOST_PLANS: usize = 32;
+const MOST_PLANS: usize = 8;
+
+// With so many cores at most a round takes no longer than trying a set.
+const FEW_CORES: usize = 2;
 
 // Whether a set of the plan with this key was tried; not where it is 0 or no plan's.
 fn raise_plan(
@@ -78,7 +81,7 @@ fn raise_plans(
     }
 }
 
-// The same, once no round is to be waited for.
+// The same with more than a few cores, once no round is to be waited for.
 pub(crate) fn raise_near(
     site: Site,
     waiting: usize,
@@ -96,6 +99,9 @@ pub(crate) fn raise_near(
     ensures { λ _. ⌜ NearRaised site (now (timings .entry)) (now (cost .entry)) (now (costs .exit)) (now (keys .exit))
         (now (left .entry)) (now (left .exit)) ⌝ }
 {
+    if site.cores <= FEW_CORES {
+        return;
+    }
     if 0 < waiting {
         return;
     }

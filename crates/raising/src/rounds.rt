@@ -23,7 +23,7 @@ ghost use Rattle.raising.specs.Rounds.{RefusalsOffered, RoundReady, Roun
 ghost use Rattle.raising.specs.TimedSites.{shapeOf, siteOptions, SiteReady, SiteRaised, SetsWeighed, SetsRaised};
 
 // The round from which on other plans than the best are looked at too.
-const FIRST_NEAR_ROUND: usize = 8;
+const FIRST_NEAR_ROUND: usize = 2;
 
 // A plan that was found, by its key.
 pub(crate) struct Candidate {
