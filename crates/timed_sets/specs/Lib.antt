@@ -3,6 +3,7 @@ pub mod Reached
 pub mod ReachedLaws
 pub mod PatternLaws
 pub mod DemandBounds
+pub mod Exchange
 pub mod Nodes
 pub mod Lagrangians
 pub mod PriceColumns
@@ -26,4 +27,8 @@ pub mod OverdueLaws
 pub mod PromisingLaws
 pub mod WholeLaws
 pub mod FoundLaws
+pub mod ChangedLaws
+pub mod ExchangeLaws
+pub mod PartnerLaws
+pub mod OrderLaws
 pub mod SetTheorem

@@ -15,7 +15,9 @@ use values::keys_of;
 use values::sets_of;
 ghost use mathlib.Core.Bool.{Bool};
 ghost use mathlib.Core.List.{List};
-ghost use Prim.Native.Nat.{ℕ, _≤_};
+ghost use mathlib.Core.Path.{_≡_};
+ghost use Prim.Native.Nat.{ℕ, _/_, _%_, _^_, _≤_};
+ghost use Rattle.assignment.specs.Keys.{keyBase};
 ghost use Rattle.assignment.specs.Limits.{mostItems};
 ghost use Rattle.timed_sets.specs.Nodes.{OneFrom, SmallWorth, Stands, TimedReady};
 
@@ -25,8 +27,9 @@ const NONE: Worth = Worth {
 };
 
 // The choice at a place of a key, counted from the last.
-fn choice_at(key: u64, place: usize) -> usize
+pub(crate) fn choice_at(key: u64, place: usize) -> usize
     requires { ⌜ place ≤ mostItems ⌝ }
+    ensures { λ r. ⌜ r ≡ key / keyBase ^ place % keyBase ⌝ }
 {
     (key / keys_of(place) % KEY_BASE) as usize
 }

@@ -11,6 +11,7 @@ mod few_items;
 mod given;
 mod multipliers;
 mod nodes;
+mod partners;
 mod places;
 mod prices;
 mod refits;

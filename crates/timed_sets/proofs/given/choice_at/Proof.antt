@@ -1,5 +1,7 @@
+use mathlib.Core.Path.{refl}
 use native.Mathlib.Omega.{arith}
 use borrow.Author.Needs.{needs}
+use Rattle.assignment.specs.Keys.{keyBase}
 use Rattle.timed_sets.specs.PromisingLaws.{power-above-0}
 use Rattle.timed_sets.proofs.given.choice_at.Statement.{statement}
 use Rattle.timed_sets.proofs.given.choice_at.Tie as tie
@@ -11,7 +13,8 @@ div-result : tie.Need-div-result
 div-result c = omega (arith, c .keys-of .ensures, power-above-0 (c .before .args .place))
 
 returns : tie.Need-returns
-returns c = search needs
+unfolding keyBase
+returns c = rw (← c .keys-of .ensures) refl
 
 pub choice-at-spec : {M : Type 1} → statement M
 choice-at-spec = tie.close (tie.spec keys-of-requires div-result returns)

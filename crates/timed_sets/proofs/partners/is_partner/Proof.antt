@@ -1,0 +1,99 @@
+use mathlib.Core.Path.{refl}
+use native.Mathlib.Omega.{arith}
+use borrow.Author.Needs.{needs}
+use Rattle.laws.specs.Truth.{false-not-true}
+use Rattle.timed_sets.specs.TimedCores.{timingAt}
+use Rattle.timed_sets.proofs.partners.is_partner.Statement.{statement}
+use Rattle.timed_sets.proofs.partners.is_partner.Tie as tie
+
+is-in-set-requires : tie.Need-is-in-set-requires
+is-in-set-requires c κs = search needs
+
+returns : tie.Need-returns
+returns c = λ is. absurd (false-not-true refl is)
+
+mul-if2 : tie.Need-mul-if2
+mul-if2 c = search needs
+
+mul-if2-2 : tie.Need-mul-if2-2
+mul-if2-2 c = search needs
+
+shared-slice-read-if2 : tie.Need-shared-slice-read-if2
+shared-slice-read-if2 c = search needs
+
+mul-if2-3 : tie.Need-mul-if2-3
+mul-if2-3 c = search needs
+
+mul-if2-4 : tie.Need-mul-if2-4
+mul-if2-4 c = search needs
+
+shared-slice-read-if2-2 : tie.Need-shared-slice-read-if2-2
+shared-slice-read-if2-2 c = search needs
+
+returns-2 : tie.Need-returns-2
+returns-2 c = λ is. absurd (false-not-true refl is)
+
+mul-if3 : tie.Need-mul-if3
+mul-if3 c = search needs
+
+add-if3 : tie.Need-add-if3
+add-if3 c = search needs
+
+mul-if3-2 : tie.Need-mul-if3-2
+mul-if3-2 c = search needs
+
+shared-slice-read-if3 : tie.Need-shared-slice-read-if3
+shared-slice-read-if3 c = search needs
+
+mul-if3-3 : tie.Need-mul-if3-3
+mul-if3-3 c = search needs
+
+add-if3-2 : tie.Need-add-if3-2
+add-if3-2 c = search needs
+
+mul-if3-4 : tie.Need-mul-if3-4
+mul-if3-4 c = search needs
+
+shared-slice-read-if3-2 : tie.Need-shared-slice-read-if3-2
+shared-slice-read-if3-2 c = search needs
+
+returns-3 : tie.Need-returns-3
+returns-3 c = λ is. absurd (false-not-true refl is)
+
+has-same-levels-requires : tie.Need-has-same-levels-requires
+has-same-levels-requires c κs = search needs
+
+returns-4 : tie.Need-returns-4
+unfolding timingAt
+returns-4 c = λ is.
+    record {
+      earlier = omega arith;
+      due-no-sooner = omega arith;
+      same-period = omega arith;
+      same-levels = c .has-same-levels .ensures is;
+    }
+
+pub is-partner-spec : {M : Type 1} → statement M
+is-partner-spec =
+    tie.close
+    (tie.spec
+    is-in-set-requires
+    returns
+    mul-if2
+    mul-if2-2
+    shared-slice-read-if2
+    mul-if2-3
+    mul-if2-4
+    shared-slice-read-if2-2
+    returns-2
+    mul-if3
+    add-if3
+    mul-if3-2
+    shared-slice-read-if3
+    mul-if3-3
+    add-if3-2
+    mul-if3-4
+    shared-slice-read-if3-2
+    returns-3
+    has-same-levels-requires
+    returns-4)

@@ -1,0 +1,48 @@
+-- Partners found one after the other, level by level and item by item.
+use Prim.Native.Nat.{ℕ, zero, suc, _+_, _≤_, _<_}
+use mathlib.Core.List.{List}
+use mathlib.Core.Path.{_≡_, refl, sym, _∙_}
+use native.Mathlib.Omega.{arith}
+use borrow.Author.Count.{below-more}
+use lib.ListN.{getD, set, replicate, length-set}
+use lib.Seq.{getD-set-same, getD-set-other}
+use Rattle.assignment.specs.Limits.{mostItems}
+use Rattle.knapsack.specs.Offered.{entryOf}
+use Rattle.timed_sets.specs.Exchange.{Partner, Partners, SameLevels}
+use Rattle.timed_sets.specs.TimedCores.{timingAt}
+use Rattle.timed_sets.specs.declared.Timed.{Timed}
+
+module _ {timings cost : List ℕ} {j i : ℕ} where
+  pub no-level-yet : SameLevels timings cost 0 j i
+  no-level-yet = record { ticks = λ l under. absurd (omega arith); costs = λ l under. absurd (omega arith) }
+
+  pub one-level-more : {k : ℕ} → SameLevels timings cost k j i → timingAt timings j .ticks k ≡ timingAt timings i .ticks k →
+      entryOf cost j k ≡ entryOf cost i k → SameLevels timings cost (k + 1) j i
+  one-level-more {k} so-far ticks costs =
+      record {
+        ticks = below-more (λ l. timingAt timings j .ticks l ≡ timingAt timings i .ticks l) k (so-far .ticks) ticks;
+        costs = below-more (λ l. entryOf cost j l ≡ entryOf cost i l) k (so-far .costs) costs;
+      }
+
+module _ {timed : Timed} {timings cost : List ℕ} where
+  pub no-partner-yet : Partners timed timings cost 0 (replicate mostItems 0)
+  no-partner-yet = record { places = refl; partner = λ i j under is. absurd (omega arith) }
+
+  pub one-item-named : {n r : ℕ} {partners : List ℕ} → Partners timed timings cost n partners → n < mostItems →
+      ((j : ℕ) → r ≡ suc j → Partner timed timings cost j n) → Partners timed timings cost (n + 1) (set partners n r)
+  one-item-named {n} {r} {partners} so-far room its =
+      record {
+        places = length-set partners n r ∙ so-far .places;
+        partner = λ i j under is.
+            below-more (λ i. (j : ℕ) → getD (set partners n r) i 0 ≡ suc j → Partner timed timings cost j i) n
+            (λ i l j is. so-far .partner i j l (sym (getD-set-other partners n i r 0 (λ same. omega arith)) ∙ is))
+            (λ j is. its j (sym (getD-set-same partners n r 0 (omega (arith, so-far .places))) ∙ is)) i under j is;
+      }
+
+  -- a partner comes before its item
+  pub partner-within : {n : ℕ} {partners : List ℕ} → Partners timed timings cost n partners → (i : ℕ) → i < n → getD partners i 0 ≤ i
+  partner-within {n} {partners} are i under = go (getD partners i 0) refl
+    where
+      go : (r : ℕ) → getD partners i 0 ≡ r → r ≤ i
+      go zero is = omega arith
+      go (suc j) is = are .partner i j under is .earlier
