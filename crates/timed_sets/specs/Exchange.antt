@@ -44,6 +44,11 @@ pub record LevelOutOfOrder (timings partners : List ℕ) (node : Node) : Type 0 
   pub higher : node .level + 1 < node .key / keyBase ^ (node .item - suc partner) % keyBase
   pub no-more-ticks : getD (node .ticks) partner 0 ≤ timingAt timings (node .item) .ticks (node .level)
 
+-- why a search does not run a node's item at the node's level
+pub data NotRun (timings partners : List ℕ) (node : Node) : Type 0 where
+  too-long : timingAt timings (node .item) .window < timingAt timings (node .item) .ticks (node .level) → NotRun timings partners node
+  out-of-order : LevelOutOfOrder timings partners node → NotRun timings partners node
+
 -- whether an item is so with the partner that its entry names
 unfoldable pub isOutOfOrder : List Timing → (pattern : List ℕ) → (partner i : ℕ) → Bool
 isOutOfOrder timings pattern zero i = false

@@ -15,10 +15,12 @@ use Rattle.values.specs.WorthLaws.{lesserWorth-value}
 use Rattle.values.specs.Worths.{lesserWorth, worthOf}
 use Rattle.values.specs.declared.value.Worth.{Worth}
 use Rattle.timed_sets.specs.AdmittedLaws.{too-long-is-not-reached}
-use Rattle.timed_sets.specs.Nodes.{timedCore, TimedReady, Stands, passedOver, runAt, nextLevel, FoundFrom, OneFrom}
+use Rattle.timed_sets.specs.Exchange.{NotRun, too-long, out-of-order, Partners}
+use Rattle.timed_sets.specs.Nodes.{timedCore, ordered, TimedItems, TimedReady, Stands, passedOver, runAt, nextLevel, FoundFrom, NothingBefore, OneFrom}
 use Rattle.timed_sets.specs.NodeLaws.{stands-passed, stands-run, stands-next}
-use Rattle.timed_sets.specs.Reached.{OneCore, Reached, whole, passed, runs}
-use Rattle.timed_sets.specs.ReachedLaws.{nothing-before, known-lowered, pass-over, no-level-left, level-by-level}
+use Rattle.timed_sets.specs.OrderLaws.{out-of-order-is-not-reached}
+use Rattle.timed_sets.specs.Reached.{OneCore, passing, Reached, whole, passed, runs}
+use Rattle.timed_sets.specs.ReachedLaws.{nothing-before, known-lowered, passing-reached, pass-over, no-level-left, level-by-level}
 use Rattle.timed_sets.specs.TimedCores.{timingAt}
 use Rattle.timed_sets.specs.declared.Node.{Node}
 use Rattle.timed_sets.specs.declared.Timed.{Timed}
@@ -40,13 +42,13 @@ module _ {timed : Timed} {timings cost : List ℕ} {node : Node} {half : ℕ} (m
       full : node .rest < half → (m : ℕ) → m ≡ timed .items - node .item - 1 → node .rest ≡ 2 ^ m + setNumber m T → ⊥
       full fewer m e rest = let same : half ≡ 2 ^ m = is-half ∙ ap (λ (k : ℕ). 2 ^ k) (sym e) in omega arith
 
-  pub found-passed : node .rest < half → {best r : Worth} →
-      ((q : List ℕ) (T : List Bool) → Stands timed timings cost (passedOver node) q T → FoundFrom timed timings cost (passedOver node) q T best r) →
-      (q : List ℕ) (T : List Bool) → Stands timed timings cost node q T → FoundFrom timed timings cost node q T best r
+  pub found-passed : {partners : List ℕ} → node .rest < half → {best r : Worth} →
+      ((q : List ℕ) (T : List Bool) → Stands timed timings cost (passedOver node) q T → FoundFrom timed timings cost partners (passedOver node) q T best r) →
+      (q : List ℕ) (T : List Bool) → Stands timed timings cost node q T → FoundFrom timed timings cost partners node q T best r
   unfolding setNumber
   found-passed fewer found q [] stands = absurd (omega (arith, stands .behind))
   found-passed fewer found q (false ∷ T) stands =
-      record { least = pass-over _ (found (q ++ (0 ∷ [])) T (stands-passed stands) .least) }
+      record { least = pass-over _ _ (found (q ++ (0 ∷ [])) T (stands-passed stands) .least) }
   found-passed fewer found q (true ∷ T) stands = absurd (full fewer (length T) (omega (arith, stands .behind)) (stands .rest))
     where
       full : node .rest < half → (m : ℕ) → m ≡ timed .items - node .item - 1 → node .rest ≡ 2 ^ m + setNumber m T → ⊥
@@ -78,26 +80,33 @@ module _ {timed : Timed} {timings cost : List ℕ} {node : Node} {half : ℕ} (m
       let same : half ≡ 2 ^ length T = is-half ∙ ap (λ (k : ℕ). 2 ^ k) (omega (arith, stands .behind)) in
       absurd (omega (arith, stands .rest, setNumber-below (length T) T))
 
-  pub found-none : half ≤ node .rest → node .level ≡ timed .levels → {best : Worth} →
-      (q : List ℕ) (T : List Bool) → Stands timed timings cost node q T → FoundFrom timed timings cost node q T best best
-  found-none enough all q T stands = go (is-flagged enough q T stands)
+  pub found-none : {partners : List ℕ} → half ≤ node .rest → node .level ≡ timed .levels → {best : Worth} →
+      (q : List ℕ) (T : List Bool) → Stands timed timings cost node q T → FoundFrom timed timings cost partners node q T best best
+  found-none {partners} enough all q T stands = go (is-flagged enough q T stands)
     where
-      go : {best : Worth} → Flagged half T → FoundFrom timed timings cost node q T best best
-      go (flagged T' e is) = rw e (record { least = no-level-left _ (omega arith) })
+      go : {best : Worth} → Flagged half T → FoundFrom timed timings cost partners node q T best best
+      go (flagged T' e is) = rw e (record { least = no-level-left _ _ (omega arith) })
 
-  -- at the node's level a job is longer than its window
-  pub found-later : TimedReady timed timings cost → half ≤ node .rest → node .level ≢ timed .levels →
-      timingAt timings (node .item) .window < timingAt timings (node .item) .ticks (node .level) → {best r : Worth} →
-      ((q : List ℕ) (T : List Bool) → Stands timed timings cost (nextLevel node) q T → FoundFrom timed timings cost (nextLevel node) q T best r) →
-      (q : List ℕ) (T : List Bool) → Stands timed timings cost node q T → FoundFrom timed timings cost node q T best r
-  found-later ready enough level long {best} {r} found q T stands = go (is-flagged enough q T stands)
+  -- at the node's level nothing is reached in order
+  none-run : {partners : List ℕ} → TimedItems timed timings → Partners timed timings cost (timed .items) partners → NotRun timings partners node →
+      (q : List ℕ) (T : List Bool) → Stands timed timings cost node q (true ∷ T) → {u : Value} →
+      Reached (passing (ordered timed timings partners) (timedCore timed timings cost)) (q ++ (suc (node .level) ∷ [])) T 0 u → ⊥
+  none-run {partners} ready are-partners (too-long long) q T stands reached =
+      too-long-is-not-reached ready stands long (passing-reached (ordered timed timings partners) (timedCore timed timings cost) reached)
+  none-run ready are-partners (out-of-order out) q T stands reached = out-of-order-is-not-reached ready are-partners stands out reached
+
+  pub found-later : {partners : List ℕ} → TimedReady timed timings cost → Partners timed timings cost (timed .items) partners →
+      half ≤ node .rest → node .level ≢ timed .levels → NotRun timings partners node → {best r : Worth} →
+      ((q : List ℕ) (T : List Bool) → Stands timed timings cost (nextLevel node) q T → FoundFrom timed timings cost partners (nextLevel node) q T best r) →
+      (q : List ℕ) (T : List Bool) → Stands timed timings cost node q T → FoundFrom timed timings cost partners node q T best r
+  found-later {partners} ready are-partners enough level not-run {best} {r} found q T stands = go (is-flagged enough q T stands)
     where
-      go : Flagged half T → FoundFrom timed timings cost node q T best r
+      go : Flagged half T → FoundFrom timed timings cost partners node q T best r
       go (flagged T' e is) =
           rw e (record {
             least =
-                level-by-level _ (omega (arith, stands .level))
-                (nothing-before (λ u reached. absurd (too-long-is-not-reached (ready .timed-items) (rw e at stands) long reached)))
+                level-by-level _ _ (omega (arith, stands .level))
+                (nothing-before (λ u reached. absurd (none-run (ready .timed-items) are-partners not-run q T' (rw e at stands) reached)))
                 (rw (e, add-one (node .level)) at (found q T (stands-next ready stands level) .least));
           })
 
@@ -112,19 +121,19 @@ module _ {timed : Timed} {timings cost : List ℕ} {node : Node} {half : ℕ} (m
         go (flagged T' e is) =
             (q ++ (suc (node .level) ∷ []), T', stands-run ready (rw e at stands) half ticks its is (omega (arith, stands .level)) are-ticks is-cost within)
 
-    pub found-both : {best here r : Worth} →
+    pub found-both : {partners : List ℕ} {best here r : Worth} →
         ((q : List ℕ) (T : List Bool) → Stands timed timings cost (runAt node half ticks its) q T →
-        FoundFrom timed timings cost (runAt node half ticks its) q T best here) →
-        ((q : List ℕ) (T : List Bool) → Stands timed timings cost (nextLevel node) q T → FoundFrom timed timings cost (nextLevel node) q T here r) →
-        (q : List ℕ) (T : List Bool) → Stands timed timings cost node q T → FoundFrom timed timings cost node q T best r
-    found-both {best} {here} {r} this others q T stands = go (is-flagged enough q T stands)
+        FoundFrom timed timings cost partners (runAt node half ticks its) q T best here) →
+        ((q : List ℕ) (T : List Bool) → Stands timed timings cost (nextLevel node) q T → FoundFrom timed timings cost partners (nextLevel node) q T here r) →
+        (q : List ℕ) (T : List Bool) → Stands timed timings cost node q T → FoundFrom timed timings cost partners node q T best r
+    found-both {partners} {best} {here} {r} this others q T stands = go (is-flagged enough q T stands)
       where
-        go : Flagged half T → FoundFrom timed timings cost node q T best r
+        go : Flagged half T → FoundFrom timed timings cost partners node q T best r
         go (flagged T' e is) =
             let child = stands-run ready (rw e at stands) half ticks its is (omega (arith, stands .level)) are-ticks is-cost within in
             rw e (record {
               least =
-                  level-by-level _ (omega (arith, stands .level))
+                  level-by-level _ _ (omega (arith, stands .level))
                   (this (q ++ (suc (node .level) ∷ [])) T' child .least)
                   (rw (e, add-one (node .level)) at (others q T (stands-next ready stands level) .least));
             })
@@ -150,10 +159,20 @@ from-any-level (whole met) = whole met
 from-any-level (passed reached) = passed reached
 from-any-level (runs l from within reached) = runs {level = 0} l (omega arith) within reached
 
+-- nothing that is reached comes before the best so far
+pub found-nothing : {timed : Timed} {timings cost partners q : List ℕ} {T : List Bool} {node : Node} {best : Worth} →
+    NothingBefore timed timings cost node q T best → FoundFrom timed timings cost partners node q T best best
+found-nothing {timed} {timings} {cost} {partners} none-before =
+    record {
+      least =
+          nothing-before
+          (λ u reached. none-before .after u (passing-reached (ordered timed timings partners) (timedCore timed timings cost) reached));
+    }
+
 -- what a whole pattern is worth
-pub one-whole : {timed : Timed} {timings cost q : List ℕ} {T : List Bool} {node : Node} {known r : Worth} → worthOf known ≡ none →
-    FoundFrom timed timings cost node q T known r → OneFrom timed timings cost q T r
-one-whole {timed} {timings} {cost} {q} {T} {node} {known} {r} is-none found = record { one = go (found .least .attained) }
+pub one-whole : {timed : Timed} {timings cost partners q : List ℕ} {T : List Bool} {node : Node} {known r : Worth} → worthOf known ≡ none →
+    FoundFrom timed timings cost partners node q T known r → OneFrom timed timings cost q T r
+one-whole {timed} {timings} {cost} {partners} {q} {T} {node} {known} {r} is-none found = record { one = go (found .least .attained) }
   where
     go : (worthOf r ≡ worthOf known) ⊎ Reached (timedCore timed timings cost) q T (node .level) (worthOf r) →
         (worthOf r ≡ none) ⊎ Reached (timedCore timed timings cost) q T 0 (worthOf r)
@@ -161,9 +180,9 @@ one-whole {timed} {timings} {cost} {q} {T} {node} {known} {r} is-none found = re
     go (inr reached) = inr (from-any-level reached)
 
 -- from the lesser of a value and of what one pattern is worth the search goes on as from the value
-pub found-from-one : {timed : Timed} {timings cost q : List ℕ} {T : List Bool} {node : Node} {most one best r : Worth} → node .level ≡ 0 →
-    best ≡ lesserWorth most one → OneFrom timed timings cost q T one → FoundFrom timed timings cost node q T best r →
-    FoundFrom timed timings cost node q T most r
+pub found-from-one : {timed : Timed} {timings cost partners q : List ℕ} {T : List Bool} {node : Node} {most one best r : Worth} → node .level ≡ 0 →
+    best ≡ lesserWorth most one → OneFrom timed timings cost q T one → FoundFrom timed timings cost partners node q T best r →
+    FoundFrom timed timings cost partners node q T most r
 found-from-one {most} {one} at-first is its found =
     let lowered = ap worthOf is ∙ lesserWorth-value most one in
     record { least = known-lowered (rw at-first (its .one)) (rw lowered at (found .least)) }

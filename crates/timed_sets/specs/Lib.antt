@@ -26,9 +26,9 @@ pub mod DemandRowLaws
 pub mod OverdueLaws
 pub mod PromisingLaws
 pub mod WholeLaws
-pub mod FoundLaws
 pub mod ChangedLaws
 pub mod ExchangeLaws
 pub mod PartnerLaws
 pub mod OrderLaws
+pub mod FoundLaws
 pub mod SetTheorem

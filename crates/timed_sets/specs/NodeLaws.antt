@@ -12,13 +12,13 @@ use lib.ListN.{length, getD, set, length-append, length-set, replicate}
 use lib.Seq.{getD-set-same, getD-set-other}
 use borrow.Author.Tests.{eqb-true, eqb-false}
 use Rattle.ranges.specs.Limits.{mostPeriod}
-use Rattle.assignment.specs.KeyLaws.{keys-fit}
+use Rattle.assignment.specs.KeyLaws.{InBase, keys-fit}
 use Rattle.assignment.specs.Keys.{keyBase, planKey}
 use Rattle.assignment.specs.Limits.{mostCost, mostItems}
 use Rattle.assignment.specs.Sets.{setNumber}
 use Rattle.knapsack.specs.Offered.{entryOf}
 use Rattle.timed_sets.specs.Nodes.{TimedReady, Stands, SmallNode, passedOver, runAt, nextLevel, atLevel}
-use Rattle.timed_sets.specs.PatternLaws.{cost-of-none, cost-of-run, key-of-next, entry-of-none, entry-elsewhere, timing-of, entry-there, no-entry, no-front-no-cost}
+use Rattle.timed_sets.specs.PatternLaws.{cost-of-none, cost-of-run, key-of-next, one-digit-more, entry-of-none, entry-elsewhere, timing-of, entry-there, no-entry, no-front-no-cost}
 use Rattle.timed_sets.specs.TimedCores.{timingAt, timingIn, timingsOf, entryTicks}
 use Rattle.timed_sets.specs.declared.Node.{Node}
 use Rattle.timed_sets.specs.declared.Timed.{Timed}
@@ -52,6 +52,7 @@ module _ {timed : Timed} {timings cost : List ℕ} {node : Node} {q : List ℕ} 
         key-below = stands .key-below;
         places = stands .places;
         short = stands .short;
+        choices = stands .choices;
       }
 
   pub stands-at-level : (level : ℕ) → level ≤ timed .levels → Stands timed timings cost (atLevel node level) q T
@@ -68,6 +69,7 @@ module _ {timed : Timed} {timings cost : List ℕ} {node : Node} {q : List ℕ} 
         key-below = stands .key-below;
         places = stands .places;
         short = stands .short;
+        choices = stands .choices;
       }
 
 -- a key with one digit more
@@ -109,6 +111,7 @@ module _ {timed : Timed} {timings cost : List ℕ} {node : Node} {q : List ℕ} 
         key-below = omega (arith, key-grows (node .key) 0 (node .item) (stands .key-below) (omega arith));
         places = stands .places;
         short = stands .short;
+        choices = one-digit-more (stands .choices) 0 (omega arith);
       }
 
   module _ (ready : TimedReady timed timings cost) (stands : Stands timed timings cost node q (true ∷ T)) (half ticks its : ℕ)
@@ -161,6 +164,7 @@ module _ {timed : Timed} {timings cost : List ℕ} {node : Node} {q : List ℕ} 
           key-below = key-grows (node .key) (node .level + 1) (node .item) (stands .key-below) (omega (arith, ready .timed-items .few-levels));
           places = length-set (node .ticks) (node .item) ticks ∙ stands .places;
           short = λ j. its-short j (same-or-other j (node .item));
+          choices = one-digit-more (stands .choices) (suc (node .level)) (omega (arith, ready .timed-items .few-levels));
         }
 
 -- the node of the whole set
@@ -181,4 +185,5 @@ stands-at-start timed timings cost S of-items =
       key-below = rw pow-zero (omega arith);
       places = refl;
       short = λ j. rw (no-entry mostItems j) (omega arith);
+      choices = InBase.nothing;
     }

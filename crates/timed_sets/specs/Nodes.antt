@@ -9,6 +9,7 @@ use Rattle.ranges.specs.Limits.{mostPeriod, mostSpan}
 use Rattle.edf.specs.Demand.{meetsDemand}
 use Rattle.assignment.specs.Assignment.{Item}
 use Rattle.assignment.specs.CoreTables.{Admitted, patternWorth}
+use Rattle.assignment.specs.KeyLaws.{InBase}
 use Rattle.assignment.specs.Keys.{keyBase, planKey}
 use Rattle.assignment.specs.Limits.{mostCoreCost, mostCost, mostItems, mostLevels}
 use Rattle.assignment.specs.Sets.{setNumber, tableAt}
@@ -20,6 +21,7 @@ use Rattle.knapsack.specs.Offered.{entryOf, offersOf}
 use Rattle.knapsack.specs.Offers.{patternCost}
 use Rattle.values.specs.Worths.{worthOf}
 use Rattle.values.specs.declared.value.Worth.{Worth}
+use Rattle.timed_sets.specs.Exchange.{isInOrder}
 use Rattle.timed_sets.specs.Reached.{OneCore, worthOn, Reached, LeastFrom}
 use Rattle.timed_sets.specs.TimedCores.{timingWidth, timingAt, timingIn, timingsOf, patternTasks, entryTicks, timedOptions}
 use Rattle.timed_sets.specs.declared.Node.{Node}
@@ -33,6 +35,10 @@ timedCore timed timings cost =
       admits = λ pattern. meetsDemand (patternTasks (timingsOf timings (timed .items)) pattern) (timed .span);
       cost = patternCost (offersOf [] cost (timed .items));
     }
+
+-- whether a pattern has the items and their partners in order
+abbrev pub ordered : Timed → (timings partners pattern : List ℕ) → Bool
+ordered timed timings partners = isInOrder (timingsOf timings (timed .items)) partners
 
 -- windows that are not empty and end by the next release, and periods that divide the span
 pub record TimedItem (span : ℕ) (timings : List ℕ) (i : ℕ) : Type 0 where
@@ -77,6 +83,7 @@ pub record Stands (timed : Timed) (timings cost : List ℕ) (node : Node) (q : L
   pub key-below : node .key < keyBase ^ node .item
   pub places : length (node .ticks) ≡ mostItems
   pub short : (j : ℕ) → getD (node .ticks) j 0 ≤ mostPeriod
+  pub choices : InBase q
 
 abbrev pub passedOver : Node → Node
 passedOver node =
@@ -114,9 +121,9 @@ worthAt node = record { cost = node .cost; key = node .key }
 abbrev pub noneYet : Worth
 noneYet = record { cost = noCost; key = 0 }
 
--- the least of the best so far and of what is reached from the node
-pub record FoundFrom (timed : Timed) (timings cost : List ℕ) (node : Node) (q : List ℕ) (T : List Bool) (best r : Worth) : Type 0 where
-  pub least : LeastFrom (Reached (timedCore timed timings cost) q T (node .level)) (worthOf best) (worthOf r)
+-- the least of the best so far and of what is reached from the node in order; it may be what is reached out of order
+pub record FoundFrom (timed : Timed) (timings cost partners : List ℕ) (node : Node) (q : List ℕ) (T : List Bool) (best r : Worth) : Type 0 where
+  pub least : LeastFrom (ordered timed timings partners) (timedCore timed timings cost) q T (node .level) (worthOf best) (worthOf r)
 
 -- none, or the value of one admitted pattern that goes on from the node
 pub record OneFrom (timed : Timed) (timings cost : List ℕ) (q : List ℕ) (T : List Bool) (r : Worth) : Type 0 where

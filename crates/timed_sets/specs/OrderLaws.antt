@@ -1,24 +1,29 @@
 -- Every admitted pattern has one of its set that is in order and comes no later: items out of order are exchanged as long as there are such.
-use Prim.Native.Nat.{ℕ, zero, suc, _<_}
+use Prim.Native.Nat.{ℕ, zero, suc, _-_, _<_}
 use mathlib.Core.Bool.{Bool, true, false, not}
-use mathlib.Core.List.{List}
-use mathlib.Core.Path.{_≡_, refl}
+use mathlib.Core.List.{List, [], _∷_, _++_, append-assoc}
+use mathlib.Core.Path.{_≡_, refl, ap, _∙_}
 use native.Mathlib.Nat.{le-refl, le-step}
 use native.Mathlib.Omega.{arith}
-use borrow.Author.Tests.{ltb-true, leb-true, lt-ltb, le-leb, not-false}
-use lib.ListN.{length, getD}
+use borrow.Author.Tests.{ltb-true, leb-true, lt-ltb, le-leb, not-true, not-false}
+use lib.ListN.{length, getD, List·getD-append}
 use Rattle.laws.specs.Search.{every}
+use Rattle.laws.specs.SearchFacts.{every-iff}
 use Rattle.laws.specs.Truth.{and-is-true, false-not-true}
 use Rattle.assignment.specs.Keeping.{Keeps}
 use Rattle.assignment.specs.Keys.{planKey}
-use Rattle.assignment.specs.Values.{AtMost, tied}
+use Rattle.assignment.specs.Values.{Value, AtMost, tied}
 use Rattle.assignment.specs.ValueLaws.{atMost-refl, atMost-trans}
 use Rattle.timed_sets.specs.AdmittedLaws.{counted}
-use Rattle.timed_sets.specs.Exchange.{Partners, OutOfOrder, isOutOfOrder, isInOrder, exchanged}
+use Rattle.timed_sets.specs.Exchange.{Partners, OutOfOrder, LevelOutOfOrder, isOutOfOrder, isInOrder, exchanged}
 use Rattle.timed_sets.specs.ExchangeLaws.{exchanged-keeps, exchanged-cost, exchanged-key, exchanged-admitted}
-use Rattle.timed_sets.specs.Nodes.{timedCore, TimedItems}
-use Rattle.timed_sets.specs.Reached.{worthOn}
-use Rattle.timed_sets.specs.TimedCores.{Timing, timingsOf}
+use Rattle.timed_sets.specs.Nodes.{timedCore, ordered, TimedItems, Stands}
+use Rattle.timed_sets.specs.PartnerLaws.{digit-of-key}
+use Rattle.timed_sets.specs.PatternLaws.{entry-between, timing-of}
+use Rattle.timed_sets.specs.Reached.{worthOn, passing, Reached}
+use Rattle.timed_sets.specs.ReachedLaws.{reached-pattern}
+use Rattle.timed_sets.specs.TimedCores.{Timing, entryTicks, timingsOf}
+use Rattle.timed_sets.specs.declared.Node.{Node}
 use Rattle.timed_sets.specs.declared.Timed.{Timed}
 
 -- the test and what it says
@@ -98,3 +103,45 @@ module _ {timed : Timed} {timings cost partners : List ℕ} {S : List Bool} (rea
   pub some-in-order : (pattern : List ℕ) → Keeps (timed .levels) S pattern → timedCore timed timings cost .admits pattern ≡ true →
       OrderedNoLater timed timings cost partners S pattern
   some-in-order pattern = by-key (suc (planKey pattern)) pattern (omega arith)
+
+-- at a level that puts the next item and its partner out of order nothing is reached in order
+module _ {timed : Timed} {timings cost partners : List ℕ} {node : Node} {q : List ℕ} {T : List Bool} (ready : TimedItems timed timings)
+    (are-partners : Partners timed timings cost (timed .items) partners) (stands : Stands timed timings cost node q (true ∷ T))
+    (out : LevelOutOfOrder timings partners node) where
+  within : node .item < timed .items
+  within = omega (arith, stands .behind)
+
+  earlier : out .partner < node .item
+  earlier = are-partners .partner (node .item) (out .partner) within (out .is-partner) .earlier
+
+  -- the two in a pattern that goes on from there
+  front-out-of-order : (r : List ℕ) →
+      OutOfOrder (timingsOf timings (timed .items)) (q ++ (suc (node .level) ∷ []) ++ r) (out .partner) (node .item)
+  unfolding entryTicks
+  front-out-of-order r =
+      let pattern = q ++ (suc (node .level) ∷ []) ++ r in
+      let its : getD pattern (node .item) 0 ≡ suc (node .level) = rw (← stands .front) (entry-between q (suc (node .level)) r) in
+      let partners : getD pattern (out .partner) 0 ≡ getD q (out .partner) 0 =
+      ap (λ (p : List ℕ). getD p (out .partner) 0) (append-assoc q (suc (node .level) ∷ []) r)
+      ∙ List·getD-append q ((suc (node .level) ∷ []) ++ r) 0 (out .partner) (omega (arith, stands .front, earlier)) in
+      let chosen = digit-of-key (stands .choices) (out .partner) (node .item - suc (out .partner)) (omega (arith, stands .front, earlier)) in
+      record {
+        runs = rw its (omega arith);
+        higher = rw (its, partners) (omega (arith, out .higher, rw (← stands .key) at chosen));
+        no-more-ticks =
+            rw (its, partners, ← stands .ticks (out .partner), timing-of timings (timed .items) (node .item) within) (out .no-more-ticks);
+      }
+
+  pub out-of-order-is-not-reached : {u : Value} →
+      Reached (passing (ordered timed timings partners) (timedCore timed timings cost)) (q ++ (suc (node .level) ∷ [])) T 0 u → ⊥
+  unfolding isInOrder
+  out-of-order-is-not-reached reached =
+      let (r, keeps, met, worth) = reached-pattern _ reached in
+      let pattern = q ++ (suc (node .level) ∷ []) ++ r in
+      let in-order = and-is-true (timedCore timed timings cost .admits pattern) (ordered timed timings partners pattern) .0 met .1 in
+      let turned : ℕ → Bool = λ i.
+      isOutOfOrder (timingsOf timings (timed .items)) pattern (getD partners i 0) i in
+      let kept : turned (node .item) ≡ false =
+      not-true (turned (node .item))
+      (every-iff (λ i. not (turned i)) (length (timingsOf timings (timed .items))) .0 in-order (node .item) (rw (counted ready) within)) in
+      false-not-true (rw (out .is-partner) at kept) (out-of-order-found (front-out-of-order r))

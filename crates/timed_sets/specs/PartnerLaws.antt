@@ -1,14 +1,20 @@
--- Partners found one after the other, level by level and item by item.
-use Prim.Native.Nat.{ℕ, zero, suc, _+_, _≤_, _<_}
+-- Partners found one after the other, level by level and item by item; and the choice of an item read off a key.
+use Prim.Native.Nat.{ℕ, zero, suc, _+_, _*_, _/_, _%_, _^_, _≤_, _<_}
 use mathlib.Core.List.{List}
 use mathlib.Core.Path.{_≡_, refl, sym, _∙_}
+use native.Mathlib.Nat.{mod-eq-of-lt, mul-add-div-right, mul-add-mod-self-right, pow-suc}
 use native.Mathlib.Omega.{arith}
 use borrow.Author.Count.{below-more}
-use lib.ListN.{getD, set, replicate, length-set}
+use lib.Arith.{digits-div}
+use lib.ListN.{length, getD, set, replicate, length-set}
+use lib.Pow.{pow-add}
 use lib.Seq.{getD-set-same, getD-set-other}
+use Rattle.assignment.specs.KeyLaws.{InBase, digit, key-below}
+use Rattle.assignment.specs.Keys.{keyBase, planKey}
 use Rattle.assignment.specs.Limits.{mostItems}
 use Rattle.knapsack.specs.Offered.{entryOf}
 use Rattle.timed_sets.specs.Exchange.{Partner, Partners, SameLevels}
+use Rattle.timed_sets.specs.PromisingLaws.{power-above-0}
 use Rattle.timed_sets.specs.TimedCores.{timingAt}
 use Rattle.timed_sets.specs.declared.Timed.{Timed}
 
@@ -46,3 +52,17 @@ module _ {timed : Timed} {timings cost : List ℕ} where
       go : (r : ℕ) → getD partners i 0 ≡ r → r ≤ i
       go zero is = omega arith
       go (suc j) is = are .partner i j under is .earlier
+
+-- the digit of item j, with k items after it
+pub digit-of-key : {q : List ℕ} → InBase q → (j k : ℕ) → length q ≡ suc (j + k) → planKey q / keyBase ^ k % keyBase ≡ getD q j 0
+unfolding planKey
+digit-of-key InBase.nothing j k long = absurd (omega arith)
+digit-of-key (digit {plan = q} c l others) zero k long =
+    let all : length q ≡ k = omega (arith, long) in
+    rw (all, digits-div c (rw all at (key-below others))) (mod-eq-of-lt l)
+digit-of-key (digit {plan = q} c l others) (suc j) k long =
+    let all : length q ≡ suc j + k = omega (arith, long) in
+    let power : c * keyBase ^ length q ≡ c * keyBase ^ j * keyBase * keyBase ^ k =
+    rw (all, pow-add keyBase (suc j) k, pow-suc keyBase j) (omega arith) in
+    rw (power, mul-add-div-right (power-above-0 k) (c * keyBase ^ j * keyBase) (planKey q), mul-add-mod-self-right (c * keyBase ^ j) keyBase (planKey q / keyBase ^ k))
+    (digit-of-key others j k (omega arith))

@@ -8,6 +8,7 @@ use native.Mathlib.Omega.{arith}
 use lib.ListN.{length, getD, length-append, replicate}
 use Rattle.laws.specs.Lists.{listOf}
 use Rattle.laws.specs.JoinedLaws.{length-listOf, getD-listOf}
+use Rattle.assignment.specs.KeyLaws.{InBase, digit}
 use Rattle.assignment.specs.Keys.{keyBase, planKey}
 use Rattle.knapsack.specs.Offered.{entryOf, offerAt, offersOf}
 use Rattle.knapsack.specs.Offers.{Offer, entryCost, patternCost}
@@ -32,6 +33,10 @@ key-of-next (d ∷ q) c =
     let longer : length (q ++ (c ∷ [])) ≡ suc (length q) = length-append q (c ∷ []) ∙ omega arith in
     rw (longer, pow-succ', key-of-next q c)
     (omega (arith, mul-assoc d (keyBase ^ length q) keyBase, add-mul (d * keyBase ^ length q) (planKey q) keyBase))
+
+pub one-digit-more : {q : List ℕ} → InBase q → (c : ℕ) → c < keyBase → InBase (q ++ (c ∷ []))
+one-digit-more InBase.nothing c small = digit c small InBase.nothing
+one-digit-more (digit d l others) c small = digit d l (one-digit-more others c small)
 
 -- the entries of a front with one item more
 

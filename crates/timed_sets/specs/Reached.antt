@@ -1,7 +1,7 @@
 -- What is reached from the front of a pattern: the values of the admitted patterns that go on from there, one for each item that is
 -- still open. A core is any `admits` and any cost of a pattern.
 use Prim.Native.Nat.{ℕ, suc, _≤_, _<_}
-use mathlib.Core.Bool.{Bool, true, false}
+use mathlib.Core.Bool.{Bool, true, false, _&&_}
 use mathlib.Core.List.{List, [], _∷_, _++_}
 use mathlib.Core.Logic.{_⊎_}
 use mathlib.Core.Path.{_≡_}
@@ -17,6 +17,10 @@ pub record OneCore : Type 0 where
 unfoldable pub worthOn : OneCore → List ℕ → Value
 worthOn core pattern = pair (core .cost pattern) (planKey pattern)
 
+-- the core that admits only those of a core's patterns that pass a further test
+abbrev pub passing : (List ℕ → Bool) → OneCore → OneCore
+passing passes core = record { levels = core .levels; admits = λ pattern. core .admits pattern && passes pattern; cost = core .cost }
+
 -- from the front q, with the flags T of the items after it, the first of them from a level on
 pub data Reached (core : OneCore) : (q : List ℕ) → (T : List Bool) → (level : ℕ) → Value → Type 0 where
   whole : {q : List ℕ} {level : ℕ} → core .admits q ≡ true → Reached core q [] level (worthOn core q)
@@ -24,8 +28,8 @@ pub data Reached (core : OneCore) : (q : List ℕ) → (T : List Bool) → (leve
   runs : {q : List ℕ} {T : List Bool} {level : ℕ} {v : Value} (l : ℕ) → level ≤ l → l < core .levels →
       Reached core (q ++ (suc l ∷ [])) T 0 v → Reached core q (true ∷ T) level v
 
--- the least of what has the property and of a value that is known
-pub record LeastFrom (Has : Value → Type 0) (known v : Value) : Type 0 where
+-- the least of a value that is known and of what is reached by patterns that pass a test; it may be what another pattern reaches
+pub record LeastFrom (passes : List ℕ → Bool) (core : OneCore) (q : List ℕ) (T : List Bool) (level : ℕ) (known v : Value) : Type 0 where
   pub no-later : AtMost v known
-  pub below : (u : Value) → Has u → AtMost v u
-  pub attained : (v ≡ known) ⊎ Has v
+  pub below : (u : Value) → Reached (passing passes core) q T level u → AtMost v u
+  pub attained : (v ≡ known) ⊎ Reached core q T level v

@@ -7,21 +7,25 @@ use mathlib.Core.Path.{_≡_, refl, sym, ap, _∙_}
 use native.Mathlib.Omega.{arith}
 use lib.ListN.{length, replicate}
 use Rattle.laws.specs.Lists.{listOf}
+use Rattle.laws.specs.Truth.{and-is-true}
 use Rattle.assignment.specs.Assignment.{Item}
 use Rattle.assignment.specs.CoreTables.{Admitted, patternWorth}
 use Rattle.assignment.specs.Keeping.{Keeps}
 use Rattle.assignment.specs.Limits.{mostItems}
 use Rattle.assignment.specs.SetLaws.{Numbered, numbered, setNumber-below}
 use Rattle.assignment.specs.Sets.{setNumber}
-use Rattle.assignment.specs.Values.{none, Attained}
+use Rattle.assignment.specs.Values.{none, AtMost, Attained}
+use Rattle.assignment.specs.ValueLaws.{atMost-trans}
 use Rattle.knapsack.specs.Offered.{offerAt, offersOf}
 use Rattle.knapsack.specs.Offers.{Offer, entryCost, patternCost}
 use Rattle.values.specs.Worths.{worthOf}
 use Rattle.values.specs.declared.value.Worth.{Worth}
-use Rattle.timed_sets.specs.Nodes.{timedCore, Stands, FoundFrom, SmallWorth, LeastInTime, LowerInTime, FoundUpTo, is-least, is-limit, noneYet}
+use Rattle.timed_sets.specs.Exchange.{Partners}
+use Rattle.timed_sets.specs.Nodes.{timedCore, ordered, TimedItems, Stands, FoundFrom, SmallWorth, LeastInTime, LowerInTime, FoundUpTo, is-least, is-limit, noneYet}
 use Rattle.timed_sets.specs.NodeLaws.{stands-at-start}
+use Rattle.timed_sets.specs.OrderLaws.{OrderedNoLater, some-in-order}
 use Rattle.timed_sets.specs.PromisingLaws.{power-above-0}
-use Rattle.timed_sets.specs.Reached.{worthOn, LeastFrom, Reached}
+use Rattle.timed_sets.specs.Reached.{worthOn, passing, LeastFrom, Reached}
 use Rattle.timed_sets.specs.ReachedLaws.{reached-pattern, pattern-reached}
 use Rattle.timed_sets.specs.TimedCores.{timedOptions, timingsOf}
 use Rattle.timed_sets.specs.declared.Node.{Node}
@@ -110,19 +114,31 @@ module _ {timed : Timed} {set : ℕ} {timings cost : List ℕ} {r : Worth} where
 
   module _ {most : Worth} where
     -- what is found from the start
-    pub found-up-to : set < 2 ^ timed .items → SmallWorth timed r →
-        ((q : List ℕ) (T : List Bool) → Stands timed timings cost (startAt set) q T → FoundFrom timed timings cost (startAt set) q T most r) →
+    pub found-up-to : {partners : List ℕ} → TimedItems timed timings → Partners timed timings cost (timed .items) partners →
+        set < 2 ^ timed .items → SmallWorth timed r →
+        ((q : List ℕ) (T : List Bool) → Stands timed timings cost (startAt set) q T → FoundFrom timed timings cost partners (startAt set) q T most r) →
         FoundUpTo timed set timings cost most r
-    found-up-to under small found =
+    unfolding worthOn
+    found-up-to {partners} ready are-partners under small found =
         let its = numbered (timed .items) set under in go its (from (its .set) (its .of-items) (its .number) .attained)
       where
         from : (S : List Bool) → length S ≡ timed .items → setNumber (timed .items) S ≡ set →
-            LeastFrom (Reached (timedCore timed timings cost) [] S 0) (worthOf most) (worthOf r)
+            LeastFrom (ordered timed timings partners) (timedCore timed timings cost) [] S 0 (worthOf most) (worthOf r)
         from S of-items is = found [] S (rw is at (stands-at-start timed timings cost S of-items)) .least
+
+        -- a pattern in order comes no later than each
+        below : (S : List Bool) → length S ≡ timed .items → setNumber (timed .items) S ≡ set → {pattern : List ℕ} →
+            OrderedNoLater timed timings cost partners S pattern → AtMost (worthOf r) (worthOn (timedCore timed timings cost) pattern)
+        below S of-items is one =
+            atMost-trans
+            (from S of-items is .below _
+            (pattern-reached (passing (ordered timed timings partners) (timedCore timed timings cost)) [] (one .keeps)
+            (and-is-true _ _ .1 (one .admitted, one .in-order))))
+            (one .no-later)
 
         lower : LowerInTime timed set timings cost r
         lower =
-            record { lower = λ S of-items is pattern keeps met. from S of-items is .below _ (pattern-reached (timedCore timed timings cost) [] keeps met) }
+            record { lower = λ S of-items is pattern keeps met. below S of-items is (some-in-order ready are-partners of-items pattern keeps met) }
 
         go : (its : Numbered (timed .items) set) → (worthOf r ≡ worthOf most) ⊎ Reached (timedCore timed timings cost) [] (its .set) 0 (worthOf r) →
             FoundUpTo timed set timings cost most r

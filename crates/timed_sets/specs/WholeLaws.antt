@@ -22,17 +22,17 @@ module _ {timed : Timed} {timings cost : List ℕ} {node : Node} (few : timed .i
   unfolding worthOn
   its-worth stands = words-pair (node .cost) (node .key) (omega (arith, stands .cheap)) ∙ ap₂ pair (stands .costs) (stands .key)
 
-  pub found-met : {best r : Worth} → r ≡ lesserWorth best (worthAt node) → (q : List ℕ) (T : List Bool) → Stands timed timings cost node q T →
-      true ≡ timedCore timed timings cost .admits q → FoundFrom timed timings cost node q T best r
-  found-met {best} {r} is q [] stands met =
+  pub found-met : {partners : List ℕ} {best r : Worth} → r ≡ lesserWorth best (worthAt node) → (q : List ℕ) (T : List Bool) → Stands timed timings cost node q T →
+      true ≡ timedCore timed timings cost .admits q → FoundFrom timed timings cost partners node q T best r
+  found-met {partners} {best} {r} is q [] stands met =
       let value : worthOf r ≡ lesser (worthOf best) (worthOn (timedCore timed timings cost) q) =
       ap worthOf is ∙ lesserWorth-value best (worthAt node) ∙ ap (lesser (worthOf best)) (its-worth stands) in
-      record { least = rw value (whole-met _ (sym met)) }
+      record { least = rw value (whole-met _ _ (sym met)) }
   found-met is q (b ∷ T) stands met = absurd (omega (arith, stands .behind))
 
-  pub found-unmet : {best : Worth} (q : List ℕ) (T : List Bool) → Stands timed timings cost node q T → false ≡ timedCore timed timings cost .admits q →
-      FoundFrom timed timings cost node q T best best
-  found-unmet q [] stands unmet = record { least = whole-unmet _ (sym unmet) }
+  pub found-unmet : {partners : List ℕ} {best : Worth} (q : List ℕ) (T : List Bool) → Stands timed timings cost node q T → false ≡ timedCore timed timings cost .admits q →
+      FoundFrom timed timings cost partners node q T best best
+  found-unmet q [] stands unmet = record { least = whole-unmet _ _ (sym unmet) }
   found-unmet q (b ∷ T) stands unmet = absurd (omega (arith, stands .behind))
 
 pub lesser-small : (timed : Timed) (a b r : Worth) → r ≡ lesserWorth a b → SmallWorth timed b → SmallWorth timed a → SmallWorth timed r

@@ -30,6 +30,7 @@ pub use few_items::size_of;
 use given::worth_along;
 use multipliers::MOST_TICKS;
 use multipliers::best_multipliers;
+use partners::partners_in;
 use relaxation::lagrangian_of;
 use search::least_from;
 pub use servable::is_servable;
@@ -142,6 +143,7 @@ pub fn least_up_to(
     let ticks = bounded.relaxed.ticks;
     let mut rows = [0; ROW_WORDS];
     fill_rows(bounded.timed, ticks, timings, &mut rows);
+    let partners = partners_in(bounded.timed, set, timings, cost);
     least_from(
         bounded,
         start,
@@ -151,5 +153,6 @@ pub fn least_up_to(
         lowcosts,
         lowkeys,
         &rows,
+        &partners,
     )
 }

@@ -1,9 +1,10 @@
-// Items that are alike but for their windows: the later one is passed over at levels that a smaller key would exchange.
+// Items that are alike but for their windows: levels of two of them that could be exchanged for a smaller key are not tried.
 use crate::Node;
 use crate::TIMING_WIDTH;
 use crate::Timed;
 use crate::choices::is_in_set;
 use crate::given::choice_at;
+use crate::nodes::is_within_window;
 use values::MOST_ITEMS;
 use values::STRIDE;
 ghost use mathlib.Core.Bool.{true, false};
@@ -12,7 +13,7 @@ ghost use Prim.Native.Nat.{ℕ, suc, _+_, _*_, _≤_, _<_};
 ghost use lib.ListN.{length, getD};
 ghost use Rattle.assignment.specs.Limits.{mostItems};
 ghost use Rattle.knapsack.specs.Offered.{entryOf};
-ghost use Rattle.timed_sets.specs.Exchange.{LevelOutOfOrder, Partner, Partners, SameLevels};
+ghost use Rattle.timed_sets.specs.Exchange.{LevelOutOfOrder, NotRun, Partner, Partners, SameLevels};
 ghost use Rattle.timed_sets.specs.Nodes.{SmallNode, TimedReady};
 ghost use Rattle.timed_sets.specs.TimedCores.{timingAt, timingWidth};
 
@@ -63,7 +64,7 @@ fn is_partner(timed: Timed, set: usize, j: usize, i: usize, timings: &[u32], cos
     has_same_levels(timed, j, i, timings, cost)
 }
 
-// 1 + the last such item before item i, or 0.
+// 1 + the index of the last such item before item i, its partner; or 0.
 fn partner_of(timed: Timed, set: usize, i: usize, timings: &[u32], cost: &[u64]) -> usize
     requires { ⌜ TimedReady timed (now timings) (now cost) ⌝ }
     requires { ⌜ i < timed .items ⌝ }
@@ -79,7 +80,7 @@ fn partner_of(timed: Timed, set: usize, i: usize, timings: &[u32], cost: &[u64])
     0
 }
 
-// That of each item.
+// The same of each item.
 pub(crate) fn partners_in(
     timed: Timed,
     set: usize,
@@ -99,7 +100,7 @@ pub(crate) fn partners_in(
 }
 
 // Whether the node's level keeps its item and the item's partner in order: not where the partner has a higher level and no more ticks.
-pub(crate) fn is_in_order(node: Node, timings: &[u32], partners: &[usize]) -> bool
+fn is_in_order(node: Node, timings: &[u32], partners: &[usize]) -> bool
     requires { ⌜ SmallNode node ⌝ }
     requires { ⌜ node .item * timingWidth + 2 + node .level < length (now timings) ⌝ }
     requires { ⌜ (length (now partners) ≡ mostItems) × (getD (now partners) (node .item) 0 ≤ node .item) ⌝ }
@@ -117,4 +118,20 @@ pub(crate) fn is_in_order(node: Node, timings: &[u32], partners: &[usize]) -> bo
         return true;
     }
     choice_at(node.key, i - partner) <= level + 1
+}
+
+// Whether the node's item may run at the node's level: a job has its ticks within its window there, and the item and its partner are in
+// order.
+pub(crate) fn may_run(node: Node, timings: &[u32], partners: &[usize]) -> bool
+    requires { ⌜ SmallNode node ⌝ }
+    requires { ⌜ node .item * timingWidth + 2 + node .level < length (now timings) ⌝ }
+    requires { ⌜ (length (now partners) ≡ mostItems) × (getD (now partners) (node .item) 0 ≤ node .item) ⌝ }
+    ensures { λ r. ⌜ (r ≡ true →
+        timingAt (now (timings .entry)) (node .item) .ticks (node .level) ≤ timingAt (now (timings .entry)) (node .item) .window) ⌝ }
+    ensures { λ r. ⌜ (r ≡ false → NotRun (now (timings .entry)) (now (partners .entry)) node) ⌝ }
+{
+    if !is_within_window(node.item, node.level, timings) {
+        return false;
+    }
+    is_in_order(node, timings, partners)
 }

@@ -5,10 +5,10 @@ use crate::TIMING_WIDTH;
 use crate::Timed;
 use crate::bounds::is_promising;
 use crate::columns::is_admitted;
-use crate::nodes::is_within_window;
 use crate::nodes::next_level;
 use crate::nodes::passed_over;
 use crate::nodes::run_at;
+use crate::partners::may_run;
 use crate::refits::is_refit_due;
 use crate::refits::refitted;
 use values::STRIDE;
@@ -19,6 +19,7 @@ ghost use mathlib.Core.Bool.{Bool};
 ghost use mathlib.Core.List.{List};
 ghost use Prim.Native.Nat.{ℕ};
 ghost use Rattle.timed_sets.specs.DemandRows.{DemandRows};
+ghost use Rattle.timed_sets.specs.Exchange.{Partners};
 ghost use Rattle.timed_sets.specs.Lagrangians.{BoundsHold};
 ghost use Rattle.timed_sets.specs.PriceColumns.{mostTicks};
 ghost use Rattle.timed_sets.specs.Nodes.{TimedItems, TimedReady, Stands, SmallWorth, FoundFrom, worthAt};
@@ -30,8 +31,8 @@ ghost use Rattle.assignment.specs.Limits.{mostItems};
 pub(crate) fn with_whole(timed: Timed, node: Node, best: Worth, timings: &[u32]) -> Worth
     requires { ⌜ TimedItems timed (now timings) ⌝ }
     requires { ⌜ length (node .ticks) ≡ mostItems ⌝ }
-    ensures { λ r. ⌜ ((cost q : List ℕ) (T : List Bool) → node .item ≡ timed .items → Stands timed (now (timings .entry)) cost node q T →
-        FoundFrom timed (now (timings .entry)) cost node q T best r) ⌝ }
+    ensures { λ r. ⌜ ((cost partners q : List ℕ) (T : List Bool) → node .item ≡ timed .items → Stands timed (now (timings .entry)) cost node q T →
+        FoundFrom timed (now (timings .entry)) cost partners node q T best r) ⌝ }
     ensures { λ r. ⌜ (SmallWorth timed (worthAt node) → SmallWorth timed best → SmallWorth timed r) ⌝ }
 {
     if is_admitted(timed, node, timings) {
@@ -46,7 +47,8 @@ pub(crate) fn with_whole(timed: Timed, node: Node, best: Worth, timings: &[u32])
     best
 }
 
-// The least of the best so far and of the values of all admitted patterns that go on from the node.
+// The least of the best so far and of the values of all admitted patterns that go on from the node with the items in order; it may be the
+// value of another one.
 pub(crate) fn least_from(
     bounded: Bounded,
     node: Node,
@@ -56,14 +58,16 @@ pub(crate) fn least_from(
     lowcosts: &[u64],
     lowkeys: &[u64],
     rows: &[u32],
+    partners: &[usize],
 ) -> Worth
     requires { ⌜ TimedReady (bounded .timed) (now timings) (now cost) ⌝ }
     requires { ⌜ BoundsHold bounded (now timings) (now cost) (now lowcosts) (now lowkeys) ⌝ }
     requires { ⌜ ((q : List ℕ) × (T : List Bool) × Stands (bounded .timed) (now timings) (now cost) node q T) ⌝ }
     requires { ⌜ SmallWorth (bounded .timed) best ⌝ }
     requires { ⌜ DemandRows (bounded .timed) (now timings) mostTicks (now rows) ⌝ }
+    requires { ⌜ Partners (bounded .timed) (now timings) (now cost) (bounded .timed .items) (now partners) ⌝ }
     ensures { λ r. ⌜ ((q : List ℕ) (T : List Bool) → Stands (bounded .timed) (now (timings .entry)) (now (cost .entry)) node q T →
-        FoundFrom (bounded .timed) (now (timings .entry)) (now (cost .entry)) node q T best r) ⌝ }
+        FoundFrom (bounded .timed) (now (timings .entry)) (now (cost .entry)) (now (partners .entry)) node q T best r) ⌝ }
     ensures { λ r. ⌜ SmallWorth (bounded .timed) r ⌝ }
 {
     if !is_promising(bounded, node, best, lowcosts, lowkeys, rows) {
@@ -73,7 +77,17 @@ pub(crate) fn least_from(
         let timed = bounded.timed;
         let relaxed = refitted(timed, bounded.relaxed, node, timings, cost);
         let refit = Bounded { timed, relaxed };
-        return least_from(refit, node, best, timings, cost, lowcosts, lowkeys, rows);
+        return least_from(
+            refit,
+            node,
+            best,
+            timings,
+            cost,
+            lowcosts,
+            lowkeys,
+            rows,
+            partners,
+        );
     }
     let i = node.item;
     if i == bounded.timed.items {
@@ -90,13 +104,14 @@ pub(crate) fn least_from(
             lowcosts,
             lowkeys,
             rows,
+            partners,
         );
     }
     let l = node.level;
     if l == bounded.timed.levels {
         return best;
     }
-    if !is_within_window(i, l, timings) {
+    if !may_run(node, timings, partners) {
         return least_from(
             bounded,
             next_level(node),
@@ -106,6 +121,7 @@ pub(crate) fn least_from(
             lowcosts,
             lowkeys,
             rows,
+            partners,
         );
     }
     let child = run_at(
@@ -114,7 +130,17 @@ pub(crate) fn least_from(
         timings[i * TIMING_WIDTH + 2 + l],
         cost[i * STRIDE + l],
     );
-    let here = least_from(bounded, child, best, timings, cost, lowcosts, lowkeys, rows);
+    let here = least_from(
+        bounded,
+        child,
+        best,
+        timings,
+        cost,
+        lowcosts,
+        lowkeys,
+        rows,
+        partners,
+    );
     least_from(
         bounded,
         next_level(node),
@@ -124,5 +150,6 @@ pub(crate) fn least_from(
         lowcosts,
         lowkeys,
         rows,
+        partners,
     )
 }

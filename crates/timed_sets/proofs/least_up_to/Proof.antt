@@ -22,22 +22,28 @@ slice-aggregate-fill-rows c = search needs
 fill-rows-requires : tie.Need-fill-rows-requires
 fill-rows-requires c κs = (c .before .before .before .before .before .before .before .before .before .before .pre .0 .timed-items, refl)
 
+partners-in-requires : tie.Need-partners-in-requires
+partners-in-requires c κs = c .before .before .before .before .before .before .before .before .before .before .before .before .pre .0
+
 slice-aggregate-least-from : tie.Need-slice-aggregate-least-from
 slice-aggregate-least-from c = search needs
 
+slice-aggregate-least-from-2 : tie.Need-slice-aggregate-least-from-2
+slice-aggregate-least-from-2 c = search needs
+
 least-from-requires : tie.Need-least-from-requires
 least-from-requires c κs =
-    let pre = c .before .before .before .before .before .before .before .before .before .before .before .before .before .pre in
-    let timed = c .before .before .before .before .before .before .before .before .before .before .before .before .before .args .bounded .timed in
-    let small = lesser-small timed _ _ _ (c .before .before .before .before .before .lesser .ensures) (c .before .before .before .before .before .before .worth-along .ensures .1) (pre .1 .1 .1) in
-    (pre .0, (pre .1 .0, (start-stands _ _ _ _ (pre .1 .1 .0), (small, c .before .before .fill-rows .ensures))))
+    let pre = c .before .before .before .before .before .before .before .before .before .before .before .before .before .before .before .pre in
+    let timed = c .before .before .before .before .before .before .before .before .before .before .before .before .before .before .before .args .bounded .timed in
+    let small = lesser-small timed _ _ _ (c .before .before .before .before .before .before .before .lesser .ensures) (c .before .before .before .before .before .before .before .before .worth-along .ensures .1) (pre .1 .1 .1) in
+    (pre .0, (pre .1 .0, (start-stands _ _ _ _ (pre .1 .1 .0), (small, (c .before .before .before .before .fill-rows .ensures, c .before .before .partners-in .ensures)))))
 
 returns : tie.Need-returns
 returns c =
-    let pre = c .before .before .before .before .before .before .before .before .before .before .before .before .before .before .pre in
+    let pre = c .before .before .before .before .before .before .before .before .before .before .before .before .before .before .before .before .pre in
     let found = c .least-from .ensures in (
-      found-up-to (pre .1 .1 .0) (found .1)
-          (λ q T stands. found-from-one refl (c .before .before .before .before .before .before .lesser .ensures) (c .before .before .before .before .before .before .before .worth-along .ensures .0 q T stands) (found .0 q T stands)),
+      found-up-to (pre .0 .timed-items) (c .before .before .before .partners-in .ensures) (pre .1 .1 .0) (found .1)
+          (λ q T stands. found-from-one refl (c .before .before .before .before .before .before .before .before .lesser .ensures) (c .before .before .before .before .before .before .before .before .before .worth-along .ensures .0 q T stands) (found .0 q T stands)),
       found .1,
     )
 
@@ -50,6 +56,8 @@ least-up-to-spec =
     lesser-requires
     slice-aggregate-fill-rows
     fill-rows-requires
+    partners-in-requires
     slice-aggregate-least-from
+    slice-aggregate-least-from-2
     least-from-requires
     returns)

@@ -1,4 +1,5 @@
 use Prim.Native.Nat.{ℕ, _-_, _<_}
+use mathlib.Core.List.{[]}
 use mathlib.Core.Path.{refl}
 use native.Mathlib.Omega.{arith}
 use borrow.Author.Needs.{needs}
@@ -48,7 +49,7 @@ worth-along-returns : (t : ℕ) → worth-along-lts.Need-returns (known t) (wort
 worth-along-returns t c =
     let pre = c .before .before .before .before .before .pre .1 in let its = pre .1 .2 in
     let end = c .before .if1 .taken in (
-      λ q T stands. one-whole (words-none _ 0 (omega arith)) (c .with-whole .ensures .0 _ q T end stands),
+      λ q T stands. one-whole (words-none _ 0 (omega arith)) (c .with-whole .ensures .0 _ [] q T end stands),
       c .with-whole .ensures .1 (small-at (pre .0 .timed-items .few-items) end its) (none-is-small (c .before .before .before .before .before .args .timed)),
     )
 

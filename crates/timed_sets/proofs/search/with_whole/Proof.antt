@@ -14,14 +14,14 @@ lesser-requires c κs = search needs
 returns : tie.Need-returns
 returns c =
     let few = c .before .before .before .before .pre .0 .few-items in (
-      λ cost q T whole stands. found-met few whole (c .lesser .ensures) q T stands (sym (c .before .if1 .taken) ∙ c .before .before .is-admitted .ensures cost q T stands),
+      λ cost partners q T whole stands. found-met few whole (c .lesser .ensures) q T stands (sym (c .before .if1 .taken) ∙ c .before .before .is-admitted .ensures cost q T stands),
       λ small best. lesser-small (c .before .before .before .before .args .timed) _ _ _ (c .lesser .ensures) small best,
     )
 
 returns-2 : tie.Need-returns-2
 returns-2 c =
     let few = c .before .before .before .pre .0 .few-items in (
-      λ cost q T whole stands. found-unmet few whole q T stands (sym (c .if1 .left) ∙ c .before .is-admitted .ensures cost q T stands),
+      λ cost partners q T whole stands. found-unmet few whole q T stands (sym (c .if1 .left) ∙ c .before .is-admitted .ensures cost q T stands),
       λ small best. best,
     )
 
