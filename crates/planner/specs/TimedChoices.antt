@@ -29,7 +29,7 @@ use Rattle.raising.specs.declared.Site.{Site}
 use Rattle.search.specs.Found.{BestFound}
 use Rattle.search.specs.declared.Found.{Found}
 use Rattle.search.specs.declared.Found.the-variants as Found
-use Rattle.timed_sets.specs.TimedCores.{timedOptions, timingAt, timingWidth}
+use Rattle.lagrangian.specs.TimedCores.{timedOptions, timingAt, timingWidth}
 use Rattle.planner.specs.BestChoiceLaws.{Chosen, found-is-chosen}
 use Rattle.planner.specs.OfferedBounds.{idle-span-at-most, offered-affordable, offered-refusal-at-most}
 use Rattle.planner.specs.OfferedLaws.{awake-cost, offered-alone, offered-items, offers-beside-items, tasks-load}

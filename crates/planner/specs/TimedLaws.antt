@@ -19,11 +19,11 @@ use Rattle.plan_rules.specs.Quantities
 use Rattle.plan_rules.specs.Quantities.{choiceAt, jobTicks, ticks, ticksOn}
 use Rattle.plan_rules.specs.Windows.{window}
 use Rattle.assignment.specs.Keeping.{Keeps}
-use Rattle.timed_sets.specs.DemandBounds.{SameTasks, same-tasks-meet}
-use Rattle.timed_sets.specs.Nodes.{TimedItems}
-use Rattle.timed_sets.specs.PatternLaws.{timing-of}
-use Rattle.timed_sets.specs.TimedCores.{entryTicks, patternTasks, timingAt, timingsOf, timingWidth}
-use Rattle.timed_sets.specs.declared.Timed.{Timed}
+use Rattle.lagrangian.specs.DemandBounds.{SameTasks, same-tasks-meet}
+use Rattle.lagrangian.specs.TimedItems.{TimedItems}
+use Rattle.lagrangian.specs.PatternLaws.{timing-of}
+use Rattle.lagrangian.specs.TimedCores.{entryTicks, patternTasks, timingAt, timingsOf, timingWidth}
+use Rattle.lagrangian.specs.declared.Timed.{Timed}
 use Rattle.planner.specs.OfferedLaws.{keeps-choice}
 use Rattle.planner.specs.TimedOptions.{TimingsOffered, wordOf}
 

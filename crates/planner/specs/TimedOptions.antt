@@ -15,7 +15,7 @@ use Rattle.instance.specs.declared.Level.{Level}
 use Rattle.instance.specs.declared.Task.{Task}
 use Rattle.plan_rules.specs.Quantities.{ticks}
 use Rattle.plan_rules.specs.Windows.{window}
-use Rattle.timed_sets.specs.TimedCores.{timingWidth}
+use Rattle.lagrangian.specs.TimedCores.{timingWidth}
 
 -- the period, the window, and the ticks of a job at each level
 unfoldable pub wordOf : Problem → Task → ℕ → ℕ

@@ -1,16 +1,16 @@
 // What the search is told of when jobs are due: for each task its period, its window, and the ticks of a job at each level.
 use instance::Instance;
 use instance::Task;
+use lagrangian::TIMING_WIDTH;
 use plan_rules::ticks_of;
 use plan_rules::window_of;
 use ranges::MOST_TASKS;
-use timed_sets::TIMING_WIDTH;
 ghost use mathlib.Core.Path.{_≡_};
 ghost use Prim.Native.Nat.{_+_, _*_, _≤_, _<_};
 ghost use Rattle.instance.specs.Held.{Sound, problemIn};
 ghost use Rattle.instance.specs.Node.{levelCount, taskAt, taskCount};
 ghost use Rattle.ranges.specs.Limits.{mostCycles};
-ghost use Rattle.timed_sets.specs.TimedCores.{timingWidth};
+ghost use Rattle.lagrangian.specs.TimedCores.{timingWidth};
 ghost use Rattle.planner.specs.TimedOptions.{TimingsOffered, wordOf};
 
 pub(crate) const TIMINGS: usize = MOST_TASKS as usize * TIMING_WIDTH;

@@ -11,12 +11,12 @@ use Rattle.assignment.specs.Limits.{mostCost, mostCoreCost}
 use Rattle.assignment.specs.Values.{Value, pair}
 use Rattle.knapsack.specs.Offered.{offersOf}
 use Rattle.knapsack.specs.Offers.{patternCost}
-use Rattle.timed_sets.specs.AdmittedLaws.{reached-within-window}
-use Rattle.timed_sets.specs.Nodes.{timedCore, TimedReady}
-use Rattle.timed_sets.specs.PatternLaws.{cost-of-none, cost-of-run, no-front-no-cost}
-use Rattle.timed_sets.specs.Reached.{worthOn, Reached, whole, passed, runs}
-use Rattle.timed_sets.specs.ReachedLaws.{pattern-reached}
-use Rattle.timed_sets.specs.declared.Timed.{Timed}
+use Rattle.lagrangian.specs.AdmittedLaws.{reached-within-window}
+use Rattle.lagrangian.specs.TimedItems.{timedCore, TimedReady}
+use Rattle.lagrangian.specs.PatternLaws.{cost-of-none, cost-of-run, no-front-no-cost}
+use Rattle.lagrangian.specs.Reached.{worthOn, Reached, whole, passed, runs}
+use Rattle.lagrangian.specs.ReachedPatterns.{pattern-reached}
+use Rattle.lagrangian.specs.declared.Timed.{Timed}
 
 module _ {timed : Timed} {timings cost : List ℕ} (ready : TimedReady timed timings cost) where
   abbrev costOf : List ℕ → ℕ

@@ -11,9 +11,9 @@ use Rattle.assignment.specs.CoreTables.{Admitted, patternWorth, Keyed}
 use Rattle.assignment.specs.Sets.{setNumber, tableAt}
 use Rattle.assignment.specs.Values.{Value, none, AtMost, Least}
 use Rattle.assignment.specs.Words.{noCost, valueOf, words-none}
+use Rattle.lagrangian.specs.TimedCores.{timedOptions}
+use Rattle.lagrangian.specs.declared.Timed.{Timed}
 use Rattle.timed_sets.specs.TickColumns.{NoneServes}
-use Rattle.timed_sets.specs.TimedCores.{timedOptions}
-use Rattle.timed_sets.specs.declared.Timed.{Timed}
 use Rattle.raising.specs.DroppedTables.{DroppedTo, stays, dropped, Dropped}
 use Rattle.raising.specs.TimedSites.{timedOf, coreOf, SiteRaised}
 use Rattle.raising.specs.declared.Site.{Site}

@@ -17,10 +17,10 @@ use Rattle.assignment.specs.Words.{noCost, valueOf, words-pair}
 use Rattle.core_tables.specs.AwakeCores.{surplus}
 use Rattle.core_tables.specs.SetSizes.{itemsIn}
 use Rattle.partition.specs.Tables.{SmallTable}
-use Rattle.timed_sets.specs.LagrangianLaws.{lagrangian-bound}
-use Rattle.timed_sets.specs.Lagrangians.{leastPriced, Relaxes}
-use Rattle.timed_sets.specs.TimedCores.{timedOptions}
-use Rattle.timed_sets.specs.declared.Lagrangian.{Lagrangian}
+use Rattle.lagrangian.specs.LagrangianLaws.{lagrangian-bound}
+use Rattle.lagrangian.specs.Lagrangians.{leastPriced, Relaxes}
+use Rattle.lagrangian.specs.TimedCores.{timedOptions}
+use Rattle.lagrangian.specs.declared.Lagrangian.{Lagrangian}
 use Rattle.raising.specs.LeastKeys.{weight-digits, weight-keyed, weight-first}
 use Rattle.raising.specs.LiftedTables.{LiftedTo, stays, lifted, LiftReady, LiftedBelow}
 use Rattle.raising.specs.RaisedTables.{Raised}

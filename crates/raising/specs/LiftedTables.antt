@@ -9,8 +9,8 @@ use Rattle.assignment.specs.Keys.{weight}
 use Rattle.assignment.specs.Limits.{mostCoreCost, mostItems}
 use Rattle.assignment.specs.Sets.{setNumber}
 use Rattle.partition.specs.Tables.{SmallTable}
-use Rattle.timed_sets.specs.Lagrangians.{leastPriced, mostBudget, mostPriced}
-use Rattle.timed_sets.specs.declared.Lagrangian.{Lagrangian}
+use Rattle.lagrangian.specs.Lagrangians.{leastPriced, mostBudget, mostPriced}
+use Rattle.lagrangian.specs.declared.Lagrangian.{Lagrangian}
 
 -- the second half of the sets of one item more: the first x of them have what those without the item have, and the amount
 pub record AddedBelow (half amount x : ℕ) (before after : List ℕ) : Type 0 where

@@ -15,8 +15,8 @@ use Rattle.assignment.specs.Limits.{mostItems}
 use Rattle.assignment.specs.SetLaws.{setNumber-below, numbered}
 use Rattle.assignment.specs.Sets.{setNumber}
 use Rattle.partition.specs.Moves.{WeightsBelow}
-use Rattle.timed_sets.specs.Lagrangians.{leastPriced, mostPriced}
-use Rattle.timed_sets.specs.declared.Lagrangian.{Lagrangian}
+use Rattle.lagrangian.specs.Lagrangians.{leastPriced, mostPriced}
+use Rattle.lagrangian.specs.declared.Lagrangian.{Lagrangian}
 use Rattle.raising.specs.LiftedTables.{AddedBelow, RoomToAdd, SumsReady, NumberedBy, LiftedTo, LiftedBelow}
 
 module _ {half amount : ℕ} {before : List ℕ} where

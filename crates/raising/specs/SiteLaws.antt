@@ -15,9 +15,9 @@ use Rattle.assignment.specs.Words.{noCost, words-none, words-pair}
 use Rattle.search.specs.Found.{BestFound}
 use Rattle.search.specs.FoundLaws.{items-counted, told-is-best}
 use Rattle.search.specs.declared.Found.the-variants.{Cheapest, NoPlan}
-use Rattle.timed_sets.specs.TimedCores.{timedOptions}
+use Rattle.lagrangian.specs.TimedCores.{timedOptions}
+use Rattle.lagrangian.specs.Reached.{worthOn}
 use Rattle.timed_sets.specs.Nodes.{LowerTimed}
-use Rattle.timed_sets.specs.Reached.{worthOn}
 use Rattle.values.specs.Worths.{worthOf}
 use Rattle.values.specs.declared.value.Worth.{Worth}
 use Rattle.raising.specs.ChargedOptions.{chargedOnce}

@@ -13,8 +13,8 @@ use Rattle.assignment.specs.SetLaws.{setNumber-below}
 use Rattle.core_tables.specs.AwakeCores.{size, surplus}
 use Rattle.partition.specs.Tables.{mostSets, room-for-sets}
 use Rattle.search.specs.Limits.{ShapeLimited}
-use Rattle.timed_sets.specs.Nodes.{TimedReady}
-use Rattle.timed_sets.specs.TimedCores.{timedOptions}
+use Rattle.lagrangian.specs.TimedItems.{TimedReady}
+use Rattle.lagrangian.specs.TimedCores.{timedOptions}
 use Rattle.raising.specs.AdmittedCosts.{admitted-cost-at-most}
 use Rattle.raising.specs.LowestTables.{LowestTable, lowest-small, lowest-keyed, lowest-lower, lowest-counted}
 use Rattle.raising.specs.RaisedTables.{mostTries}

@@ -13,9 +13,9 @@ use Rattle.knapsack.specs.Offered.{offersOf}
 use Rattle.partition.specs.Moves.{WeightsBelow}
 use Rattle.search.specs.Limits.{ShapeLimited}
 use Rattle.search.specs.declared.Shape.{Shape}
-use Rattle.timed_sets.specs.Nodes.{TimedReady}
-use Rattle.timed_sets.specs.TimedCores.{timedOptions, timingsOf}
-use Rattle.timed_sets.specs.declared.Timed.{Timed}
+use Rattle.lagrangian.specs.TimedItems.{TimedReady}
+use Rattle.lagrangian.specs.TimedCores.{timedOptions, timingsOf}
+use Rattle.lagrangian.specs.declared.Timed.{Timed}
 use Rattle.values.specs.Items.{itemsOf}
 use Rattle.values.specs.declared.value.Worth.{Worth}
 use Rattle.raising.specs.ChargedOptions.{withItems, chargedOnce, CostsCounted}

@@ -15,10 +15,10 @@ use Rattle.assignment.specs.Sets.{setNumber}
 use Rattle.assignment.specs.Values.{pair}
 use Rattle.assignment.specs.Words.{noCost, valueOf, words-none, words-pair}
 use Rattle.partition.specs.MoveLaws.{weight-below}
+use Rattle.lagrangian.specs.Reached.{worthOn}
+use Rattle.lagrangian.specs.TimedCores.{timedOptions}
 use Rattle.timed_sets.specs.Nodes.{SmallWorth, LeastInTime, LowerInTime, FoundUpTo, is-least, is-limit}
-use Rattle.timed_sets.specs.Reached.{worthOn}
 use Rattle.timed_sets.specs.SetTheorem.{least-without-limit}
-use Rattle.timed_sets.specs.TimedCores.{timedOptions}
 use Rattle.values.specs.Worths.{worthOf}
 use Rattle.values.specs.declared.value.Worth.{Worth}
 use Rattle.raising.specs.LeastKeys.{weight-keyed}

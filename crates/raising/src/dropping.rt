@@ -1,11 +1,11 @@
 // The entries of sets that cannot be served become none.
-use timed_sets::Timed;
+use lagrangian::Timed;
 use timed_sets::is_servable;
 use values::NO_COST;
 use values::sets_of;
 ghost use Prim.Native.Nat.{_+_, _≤_};
 ghost use lib.ListN.{length};
-ghost use Rattle.timed_sets.specs.Nodes.{TimedItems};
+ghost use Rattle.lagrangian.specs.TimedItems.{TimedItems};
 ghost use Rattle.raising.specs.DroppedTables.{Dropped, NoneFrom, SetsFrom};
 
 // From this entry on so many become none.

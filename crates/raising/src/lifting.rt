@@ -1,5 +1,5 @@
 // The table of lower values, raised by what is known of all sets at once.
-use timed_sets::Lagrangian;
+use lagrangian::Lagrangian;
 use values::MOST_COST;
 use values::MOST_ITEMS;
 use values::MOST_SETS;
@@ -9,7 +9,7 @@ ghost use Prim.Native.Nat.{_^_, _≤_};
 ghost use lib.ListN.{length};
 ghost use Rattle.assignment.specs.Words.{noCost};
 ghost use Rattle.partition.specs.Moves.{WeightsBelow};
-ghost use Rattle.timed_sets.specs.Lagrangians.{leastPriced, mostBudget};
+ghost use Rattle.lagrangian.specs.Lagrangians.{leastPriced, mostBudget};
 ghost use Rattle.raising.specs.LiftedTables.{AddedBelow, RoomToAdd, SumsReady, NumberedBy, LiftedTo, LiftReady, LiftedBelow};
 
 // The most that a core may cost.

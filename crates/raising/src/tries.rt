@@ -2,12 +2,12 @@
 use crate::Site;
 use crate::lifting::MOST_CORE_COST;
 use crate::lifting::lift_all;
+use lagrangian::Timed;
+use lagrangian::has_few_items;
+use lagrangian::relaxation_of;
+use lagrangian::size_of;
 use timed_sets::Bounded;
-use timed_sets::Timed;
-use timed_sets::has_few_items;
 use timed_sets::least_up_to;
-use timed_sets::relaxation_of;
-use timed_sets::size_of;
 use values::MOST_ITEMS;
 use values::NO_COST;
 use values::Worth;

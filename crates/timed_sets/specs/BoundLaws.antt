@@ -19,10 +19,10 @@ use Rattle.assignment.specs.Sets.{setNumber, tableAt}
 use Rattle.assignment.specs.Values.{Value, pair, add, AtMost}
 use Rattle.assignment.specs.ValueLaws.{atMost-refl, add-mono}
 use Rattle.knapsack.specs.Offers.{Offer, entryCost, patternCost}
-use Rattle.timed_sets.specs.PatternLaws.{no-front-no-cost}
-use Rattle.timed_sets.specs.Reached.{OneCore, worthOn, Reached}
-use Rattle.timed_sets.specs.ReachedLaws.{reached-pattern}
-use Rattle.timed_sets.specs.TimedCores.{Timing, timingIn, entryTicks, patternTasks}
+use Rattle.lagrangian.specs.PatternLaws.{no-front-no-cost}
+use Rattle.lagrangian.specs.Reached.{OneCore, worthOn, Reached}
+use Rattle.lagrangian.specs.ReachedPatterns.{reached-pattern}
+use Rattle.lagrangian.specs.TimedCores.{Timing, timingIn, entryTicks, patternTasks}
 
 -- the front with every item left out
 abbrev zeros : List ℕ → List ℕ

@@ -15,7 +15,7 @@ use Rattle.edf.specs.Demand.{demandAt, jobsDue, ticksDue}
 use Rattle.assignment.specs.Keeping.{Keeps, done, refused, kept}
 use Rattle.assignment.specs.Keys.{keyBase, planKey}
 use Rattle.knapsack.specs.Offers.{Offer, entryCost, patternCost}
-use Rattle.timed_sets.specs.TimedCores.{Timing, entryTicks, patternTasks, timingIn}
+use Rattle.lagrangian.specs.TimedCores.{Timing, entryTicks, patternTasks, timingIn}
 
 -- an item that runs may run at any level
 pub changed-keeps : {levels : ℕ} {S : List Bool} {pattern : List ℕ} → Keeps levels S pattern → (i c : ℕ) → 0 < getD pattern i 0 → 0 < c →

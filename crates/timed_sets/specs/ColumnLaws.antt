@@ -13,14 +13,15 @@ use Rattle.dispatch.specs.Rows.{CoreTasks}
 use Rattle.demand.specs.UnmetTicks.{SpanColumns, UnmetTick}
 use Rattle.demand.specs.UnmetTickLaws.{unmet-tick-decides, unmet-tick-of-same-demand}
 use Rattle.assignment.specs.Limits.{mostItems}
-use Rattle.timed_sets.specs.AdmittedLaws.{counted}
-use Rattle.timed_sets.specs.DemandBounds.{SameTasks, same-demand}
-use Rattle.timed_sets.specs.Nodes.{timedCore, TimedItems, Stands, WordColumn}
-use Rattle.timed_sets.specs.PatternLaws.{timing-of}
+use Rattle.lagrangian.specs.AdmittedLaws.{counted}
+use Rattle.lagrangian.specs.DemandBounds.{SameTasks, same-demand}
+use Rattle.lagrangian.specs.TimedItems.{timedCore, TimedItems}
+use Rattle.lagrangian.specs.PatternLaws.{timing-of}
+use Rattle.lagrangian.specs.TimedCores.{timingAt, timingWidth, timingsOf, patternTasks}
+use Rattle.lagrangian.specs.declared.Timed.{Timed}
+use Rattle.timed_sets.specs.Nodes.{Stands, WordColumn}
 use Rattle.timed_sets.specs.TickColumns.{columnJobs}
-use Rattle.timed_sets.specs.TimedCores.{timingAt, timingWidth, timingsOf, patternTasks}
 use Rattle.timed_sets.specs.declared.Node.{Node}
-use Rattle.timed_sets.specs.declared.Timed.{Timed}
 
 module _ {items word : ℕ} {timings : List ℕ} where
   pub no-word-yet : WordColumn items word timings 0 (replicate mostItems 0)

@@ -7,11 +7,11 @@ use borrow.Author.Count.{below-more}
 use lib.ListN.{length, getD, set, length-set}
 use lib.Seq.{getD-set-same, getD-set-other}
 use Rattle.assignment.specs.Limits.{mostItems}
+use Rattle.lagrangian.specs.PriceColumns.{JobsBy, mostTicks}
+use Rattle.lagrangian.specs.declared.Timed.{Timed}
 use Rattle.timed_sets.specs.DemandRows.{rowWidth, rowWords, rowEntry, DueRow, DemandRows, EntriesSet, RowSet, LowestColumn}
-use Rattle.timed_sets.specs.PriceColumns.{JobsBy, mostTicks}
 use Rattle.timed_sets.specs.TickColumns.{FewestTicks, inSet}
 use Rattle.timed_sets.specs.declared.Node.{Node}
-use Rattle.timed_sets.specs.declared.Timed.{Timed}
 
 module _ {row : ℕ} {entries before : List ℕ} where
   pub no-entry-yet : EntriesSet row entries before 0 before

@@ -5,11 +5,11 @@ use mathlib.Core.List.{List}
 use mathlib.Core.Path.{_≡_}
 use lib.ListN.{length, getD}
 use Rattle.assignment.specs.Limits.{mostItems}
-use Rattle.timed_sets.specs.PriceColumns.{jobsOf, mostTicks}
+use Rattle.lagrangian.specs.PriceColumns.{jobsOf, mostTicks}
+use Rattle.lagrangian.specs.TimedCores.{timingAt}
+use Rattle.lagrangian.specs.declared.Timed.{Timed}
 use Rattle.timed_sets.specs.TickColumns.{FewestTicks, inSet}
-use Rattle.timed_sets.specs.TimedCores.{timingAt}
 use Rattle.timed_sets.specs.declared.Node.{Node}
-use Rattle.timed_sets.specs.declared.Timed.{Timed}
 
 abbrev pub rowWidth : ℕ
 rowWidth = mostItems + 1

@@ -15,14 +15,15 @@ use Rattle.assignment.specs.Sets.{setNumber}
 use Rattle.assignment.specs.Values.{cheaper}
 use Rattle.assignment.specs.Words.{noCost, words-pair}
 use Rattle.values.specs.declared.value.Worth.{Worth}
-use Rattle.timed_sets.specs.LagrangianLaws.{bound-from}
-use Rattle.timed_sets.specs.Lagrangians.{priceOf, leastPriced, mostPrice, mostPriced, Relaxes}
-use Rattle.timed_sets.specs.Nodes.{timedCore, NothingBefore, Stands, TimedReady}
-use Rattle.timed_sets.specs.Reached.{worthOn}
-use Rattle.timed_sets.specs.ReachedLaws.{reached-pattern}
-use Rattle.timed_sets.specs.declared.Lagrangian.{Lagrangian}
+use Rattle.lagrangian.specs.LagrangianLaws.{bound-from}
+use Rattle.lagrangian.specs.Lagrangians.{priceOf, leastPriced, mostPrice, mostPriced, Relaxes}
+use Rattle.lagrangian.specs.TimedItems.{timedCore, TimedReady}
+use Rattle.lagrangian.specs.Reached.{worthOn}
+use Rattle.lagrangian.specs.ReachedPatterns.{reached-pattern}
+use Rattle.lagrangian.specs.declared.Lagrangian.{Lagrangian}
+use Rattle.lagrangian.specs.declared.Timed.{Timed}
+use Rattle.timed_sets.specs.Nodes.{NothingBefore, Stands}
 use Rattle.timed_sets.specs.declared.Node.{Node}
-use Rattle.timed_sets.specs.declared.Timed.{Timed}
 
 pub product-low : {price ticks : ℕ} → price ≤ mostPrice → ticks ≤ mostPeriod → price * ticks ≤ mostPrice * mostPeriod
 product-low low short = mul-le-mul low short

@@ -17,15 +17,15 @@ use Rattle.assignment.specs.Keeping.{Keeps}
 use Rattle.assignment.specs.Keys.{keyBase, planKey}
 use Rattle.knapsack.specs.Offered.{offerAt, offersOf}
 use Rattle.knapsack.specs.Offers.{entryCost, patternCost}
-use Rattle.timed_sets.specs.AdmittedLaws.{counted}
+use Rattle.lagrangian.specs.AdmittedLaws.{counted}
+use Rattle.lagrangian.specs.TimedItems.{timedCore, TimedItems}
+use Rattle.lagrangian.specs.PatternLaws.{timing-of}
+use Rattle.lagrangian.specs.FrontKeyLaws.{power-above-0}
+use Rattle.lagrangian.specs.TimedCores.{entryTicks, patternTasks, timingAt, timingIn, timingsOf}
+use Rattle.lagrangian.specs.declared.Timed.{Timed}
 use Rattle.timed_sets.specs.ChangedLaws.{changed-keeps, changed-key, changed-cost, changed-demand}
 use Rattle.timed_sets.specs.Exchange.{Partner, OutOfOrder, exchanged}
-use Rattle.timed_sets.specs.Nodes.{timedCore, TimedItems}
-use Rattle.timed_sets.specs.PatternLaws.{timing-of}
-use Rattle.timed_sets.specs.PromisingLaws.{power-above-0}
 use Rattle.timed_sets.specs.ServableLaws.{run-level-below}
-use Rattle.timed_sets.specs.TimedCores.{entryTicks, patternTasks, timingAt, timingIn, timingsOf}
-use Rattle.timed_sets.specs.declared.Timed.{Timed}
 
 -- products of two pairs, each in order, are least crosswise
 

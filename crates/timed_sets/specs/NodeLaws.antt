@@ -4,24 +4,25 @@ use mathlib.Core.Bool.{Bool, true, false}
 use mathlib.Core.List.{List, [], _∷_, _++_}
 use mathlib.Core.Logic.{_⊎_, inl, inr, _≢_}
 use mathlib.Core.Path.{_≡_, refl, sym, ap, _∙_}
-use native.Mathlib.Nat.{mul-comm, suc-mul, pow-le-pow-right, pow-zero, pow-succ'}
+use native.Mathlib.Nat.{suc-mul, pow-zero}
 use native.Mathlib.Omega.{arith}
-use lib.Arith.{digits-lt}
 use lib.Dec.{eqb}
 use lib.ListN.{length, getD, set, length-append, length-set, replicate}
 use lib.Seq.{getD-set-same, getD-set-other}
 use borrow.Author.Tests.{eqb-true, eqb-false}
 use Rattle.ranges.specs.Limits.{mostPeriod}
-use Rattle.assignment.specs.KeyLaws.{InBase, keys-fit}
+use Rattle.assignment.specs.KeyLaws.{InBase}
 use Rattle.assignment.specs.Keys.{keyBase, planKey}
 use Rattle.assignment.specs.Limits.{mostCost, mostItems}
 use Rattle.assignment.specs.Sets.{setNumber}
 use Rattle.knapsack.specs.Offered.{entryOf}
-use Rattle.timed_sets.specs.Nodes.{TimedReady, Stands, SmallNode, passedOver, runAt, nextLevel, atLevel}
-use Rattle.timed_sets.specs.PatternLaws.{cost-of-none, cost-of-run, key-of-next, one-digit-more, entry-of-none, entry-elsewhere, timing-of, entry-there, no-entry, no-front-no-cost}
-use Rattle.timed_sets.specs.TimedCores.{timingAt, timingIn, timingsOf, entryTicks}
+use Rattle.lagrangian.specs.TimedItems.{TimedReady}
+use Rattle.lagrangian.specs.PatternLaws.{cost-of-none, cost-of-run, key-of-next, one-digit-more, entry-of-none, entry-elsewhere, timing-of, entry-there, no-entry, no-front-no-cost}
+use Rattle.lagrangian.specs.TimedCores.{timingAt, timingIn, timingsOf, entryTicks}
+use Rattle.lagrangian.specs.declared.Timed.{Timed}
+use Rattle.lagrangian.specs.FrontKeyLaws.{key-fits, key-grows}
+use Rattle.timed_sets.specs.Nodes.{Stands, SmallNode, passedOver, runAt, nextLevel, atLevel}
 use Rattle.timed_sets.specs.declared.Node.{Node}
-use Rattle.timed_sets.specs.declared.Timed.{Timed}
 
 module _ {timed : Timed} {timings cost : List ℕ} {node : Node} {q : List ℕ} {T : List Bool}
     (ready : TimedReady timed timings cost) (stands : Stands timed timings cost node q T) where
@@ -71,21 +72,6 @@ module _ {timed : Timed} {timings cost : List ℕ} {node : Node} {q : List ℕ} 
         short = stands .short;
         choices = stands .choices;
       }
-
--- a key with one digit more
-pub key-grows : (key c n : ℕ) → key < keyBase ^ n → c < keyBase → key * keyBase + c < keyBase ^ (n + 1)
-key-grows key c n below digit =
-    let one-more : n + 1 ≡ suc n = omega arith in
-    rw (one-more, pow-succ' keyBase n, mul-comm keyBase (keyBase ^ n)) (digits-lt below digit)
-
--- it fits 64 bits
-pub key-fits : (key c n : ℕ) → key < keyBase ^ n → n < mostItems → c < keyBase → key * keyBase + c < 2 ^ 64
-unfolding keyBase
-key-fits key c n below few digit =
-    let some : 0 < 33 = omega arith in
-    let under : n + 1 ≤ mostItems = omega arith in
-    let most : keyBase ^ (n + 1) ≤ keyBase ^ mostItems = pow-le-pow-right some under in
-    omega (arith, key-grows key c n below digit, keys-fit {n = mostItems} (omega arith))
 
 pub next-key-fits : {node : Node} → SmallNode node → (c : ℕ) → c < keyBase → node .key * keyBase + c < 2 ^ 64
 next-key-fits {node} small c digit = key-fits (node .key) c (node .item) (small .key) (small .item) digit

@@ -1,12 +1,11 @@
--- What the search asks of timings and costs, what a node of it holds of the front of a pattern, and what it finds.
-use Prim.Native.Nat.{ℕ, _+_, _-_, _*_, _^_, _≤_, _<_, _∣_}
+-- What a node of the search holds of the front of a pattern, and what the search finds.
+use Prim.Native.Nat.{ℕ, _+_, _-_, _*_, _^_, _≤_, _<_}
 use mathlib.Core.Bool.{Bool, true}
 use mathlib.Core.List.{List, []}
 use mathlib.Core.Logic.{_⊎_}
 use mathlib.Core.Path.{_≡_}
 use lib.ListN.{length, getD, set}
-use Rattle.ranges.specs.Limits.{mostPeriod, mostSpan}
-use Rattle.edf.specs.Demand.{meetsDemand}
+use Rattle.ranges.specs.Limits.{mostPeriod}
 use Rattle.assignment.specs.Assignment.{Item}
 use Rattle.assignment.specs.CoreTables.{Admitted, patternWorth}
 use Rattle.assignment.specs.KeyLaws.{InBase}
@@ -17,50 +16,21 @@ use Rattle.assignment.specs.Keeping.{Keeps}
 use Rattle.partition.specs.Tables.{SmallTable}
 use Rattle.assignment.specs.Values.{Value, none, AtMost, Least}
 use Rattle.assignment.specs.Words.{noCost}
-use Rattle.knapsack.specs.Offered.{entryOf, offersOf}
+use Rattle.knapsack.specs.Offered.{offersOf}
 use Rattle.knapsack.specs.Offers.{patternCost}
 use Rattle.values.specs.Worths.{worthOf}
 use Rattle.values.specs.declared.value.Worth.{Worth}
+use Rattle.lagrangian.specs.Reached.{worthOn, Reached}
+use Rattle.lagrangian.specs.TimedCores.{timingWidth, timingIn, timingsOf, entryTicks, timedOptions}
+use Rattle.lagrangian.specs.declared.Timed.{Timed}
+use Rattle.lagrangian.specs.TimedItems.{timedCore}
 use Rattle.timed_sets.specs.Exchange.{isInOrder}
-use Rattle.timed_sets.specs.Reached.{OneCore, worthOn, Reached, LeastFrom}
-use Rattle.timed_sets.specs.TimedCores.{timingWidth, timingAt, timingIn, timingsOf, patternTasks, entryTicks, timedOptions}
+use Rattle.timed_sets.specs.LeastReached.{LeastFrom}
 use Rattle.timed_sets.specs.declared.Node.{Node}
-use Rattle.timed_sets.specs.declared.Timed.{Timed}
-
--- the core that timings and costs speak of
-abbrev pub timedCore : Timed → (timings cost : List ℕ) → OneCore
-timedCore timed timings cost =
-    record {
-      levels = timed .levels;
-      admits = λ pattern. meetsDemand (patternTasks (timingsOf timings (timed .items)) pattern) (timed .span);
-      cost = patternCost (offersOf [] cost (timed .items));
-    }
 
 -- whether a pattern has the items and their partners in order
 abbrev pub ordered : Timed → (timings partners pattern : List ℕ) → Bool
 ordered timed timings partners = isInOrder (timingsOf timings (timed .items)) partners
-
--- windows that are not empty and end by the next release, and periods that divide the span
-pub record TimedItem (span : ℕ) (timings : List ℕ) (i : ℕ) : Type 0 where
-  pub period-at-most : timingAt timings i .period ≤ mostPeriod
-  pub period-divides : timingAt timings i .period ∣ span
-  pub window-above-0 : 1 ≤ timingAt timings i .window
-  pub window-within-period : timingAt timings i .window ≤ timingAt timings i .period
-
-pub record TimedItems (timed : Timed) (timings : List ℕ) : Type 0 where
-  pub few-items : timed .items ≤ mostItems
-  pub few-levels : timed .levels ≤ mostLevels
-  pub span-above-0 : 0 < timed .span
-  pub span-at-most : timed .span ≤ mostSpan
-  pub timings-for-all : timed .items * timingWidth ≤ length timings
-  pub item : (i : ℕ) → i < timed .items → TimedItem (timed .span) timings i
-
-pub record TimedReady (timed : Timed) (timings cost : List ℕ) : Type 0 where
-  pub timed-items : TimedItems timed timings
-  pub costs-for-all : timed .items * mostLevels ≤ length cost
-  -- no level at which a job has its ticks within its window costs more
-  pub cheap : (i l : ℕ) → i < timed .items → l < timed .levels → timingAt timings i .ticks l ≤ timingAt timings i .window →
-      entryOf cost i l ≤ mostCost
 
 -- a node with an item to come, small enough for the steps from it
 pub record SmallNode (node : Node) : Type 0 where

@@ -14,17 +14,18 @@ use Rattle.assignment.specs.Keeping.{Keeps}
 use Rattle.assignment.specs.Keys.{planKey}
 use Rattle.assignment.specs.Values.{Value, AtMost, tied}
 use Rattle.assignment.specs.ValueLaws.{atMost-refl, atMost-trans}
-use Rattle.timed_sets.specs.AdmittedLaws.{counted}
+use Rattle.lagrangian.specs.AdmittedLaws.{counted}
+use Rattle.lagrangian.specs.TimedItems.{timedCore, TimedItems}
+use Rattle.lagrangian.specs.PatternLaws.{entry-between, timing-of}
+use Rattle.lagrangian.specs.Reached.{worthOn, passing, Reached}
+use Rattle.lagrangian.specs.ReachedPatterns.{reached-pattern}
+use Rattle.lagrangian.specs.TimedCores.{Timing, entryTicks, timingsOf}
+use Rattle.lagrangian.specs.declared.Timed.{Timed}
 use Rattle.timed_sets.specs.Exchange.{Partners, OutOfOrder, LevelOutOfOrder, isOutOfOrder, isInOrder, exchanged}
 use Rattle.timed_sets.specs.ExchangeLaws.{exchanged-keeps, exchanged-cost, exchanged-key, exchanged-admitted}
-use Rattle.timed_sets.specs.Nodes.{timedCore, ordered, TimedItems, Stands}
+use Rattle.timed_sets.specs.Nodes.{ordered, Stands}
 use Rattle.timed_sets.specs.PartnerLaws.{digit-of-key}
-use Rattle.timed_sets.specs.PatternLaws.{entry-between, timing-of}
-use Rattle.timed_sets.specs.Reached.{worthOn, passing, Reached}
-use Rattle.timed_sets.specs.ReachedLaws.{reached-pattern}
-use Rattle.timed_sets.specs.TimedCores.{Timing, entryTicks, timingsOf}
 use Rattle.timed_sets.specs.declared.Node.{Node}
-use Rattle.timed_sets.specs.declared.Timed.{Timed}
 
 -- the test and what it says
 

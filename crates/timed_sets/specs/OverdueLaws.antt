@@ -17,17 +17,18 @@ use Rattle.edf.specs.Demand.{demandAt, jobsDue, meetsDemand, ticksDue}
 use Rattle.edf.specs.DemandLaws.{meets-demand-within}
 use Rattle.assignment.specs.Keeping.{Keeps}
 use Rattle.values.specs.declared.value.Worth.{Worth}
-use Rattle.timed_sets.specs.AdmittedLaws.{counted}
+use Rattle.lagrangian.specs.AdmittedLaws.{counted}
+use Rattle.lagrangian.specs.TimedItems.{TimedItems, timedCore}
+use Rattle.lagrangian.specs.PatternLaws.{timing-of}
+use Rattle.lagrangian.specs.PriceColumns.{mostTicks}
+use Rattle.lagrangian.specs.PriceLaws.{jobs-at-most}
+use Rattle.lagrangian.specs.ReachedPatterns.{reached-pattern}
+use Rattle.lagrangian.specs.TimedCores.{Timing, entryTicks, patternTasks, timingIn, timingsOf}
+use Rattle.lagrangian.specs.declared.Timed.{Timed}
 use Rattle.timed_sets.specs.DemandRows.{rowTick, rowEntry, DemandRows, LowestColumn}
-use Rattle.timed_sets.specs.Nodes.{NothingBefore, Stands, TimedItems, timedCore}
-use Rattle.timed_sets.specs.PatternLaws.{timing-of}
-use Rattle.timed_sets.specs.PriceColumns.{mostTicks}
-use Rattle.timed_sets.specs.PriceLaws.{jobs-at-most}
-use Rattle.timed_sets.specs.ReachedLaws.{reached-pattern}
+use Rattle.timed_sets.specs.Nodes.{NothingBefore, Stands}
 use Rattle.timed_sets.specs.ServableLaws.{not-run-not-in-set, run-level-below}
-use Rattle.timed_sets.specs.TimedCores.{Timing, entryTicks, patternTasks, timingIn, timingsOf}
 use Rattle.timed_sets.specs.declared.Node.{Node}
-use Rattle.timed_sets.specs.declared.Timed.{Timed}
 
 module _ {timed : Timed} {timings rows : List ℕ} (ready : TimedItems timed timings) (holds : DemandRows timed timings mostTicks rows) where
   pub few-due : (n : ℕ) → n < mostTicks → (i : ℕ) → i < timed .items → rowEntry rows n i ≤ mostSpan

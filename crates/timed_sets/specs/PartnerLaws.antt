@@ -13,10 +13,10 @@ use Rattle.assignment.specs.KeyLaws.{InBase, digit, key-below}
 use Rattle.assignment.specs.Keys.{keyBase, planKey}
 use Rattle.assignment.specs.Limits.{mostItems}
 use Rattle.knapsack.specs.Offered.{entryOf}
+use Rattle.lagrangian.specs.FrontKeyLaws.{power-above-0}
+use Rattle.lagrangian.specs.TimedCores.{timingAt}
+use Rattle.lagrangian.specs.declared.Timed.{Timed}
 use Rattle.timed_sets.specs.Exchange.{Partner, Partners, SameLevels}
-use Rattle.timed_sets.specs.PromisingLaws.{power-above-0}
-use Rattle.timed_sets.specs.TimedCores.{timingAt}
-use Rattle.timed_sets.specs.declared.Timed.{Timed}
 
 module _ {timings cost : List ℕ} {j i : ℕ} where
   pub no-level-yet : SameLevels timings cost 0 j i

@@ -4,7 +4,7 @@ use mathlib.Core.Bool.{Bool, false}
 use mathlib.Core.List.{List}
 use mathlib.Core.Logic.{_⊎_}
 use mathlib.Core.Path.{_≡_, refl, sym, ap, _∙_}
-use native.Mathlib.Nat.{lt-of-lt-of-le, pow-le-pow-right, pow-zero}
+use native.Mathlib.Nat.{lt-of-lt-of-le}
 use native.Mathlib.Omega.{arith}
 use lib.Arith.{digits-lt}
 use lib.ListN.{length, getD, length-append, length-replicate, replicate}
@@ -19,20 +19,14 @@ use Rattle.assignment.specs.LeastLaws.{add-none}
 use Rattle.assignment.specs.Words.{noCost, valueOf, words-add, words-atMost, words-none, words-pair}
 use Rattle.knapsack.specs.Offered.{offersOf}
 use Rattle.values.specs.declared.value.Worth.{Worth}
+use Rattle.lagrangian.specs.TimedItems.{timedCore}
+use Rattle.lagrangian.specs.Reached.{Reached}
+use Rattle.lagrangian.specs.TimedCores.{timingsOf}
+use Rattle.lagrangian.specs.declared.Timed.{Timed}
+use Rattle.lagrangian.specs.FrontKeyLaws.{power-above-0}
 use Rattle.timed_sets.specs.BoundLaws.{unflagged, left-out-number, left-out-admitted, bound-below}
-use Rattle.timed_sets.specs.Nodes.{timedCore, LowerTimed, NothingBefore, Stands}
-use Rattle.timed_sets.specs.Reached.{Reached}
-use Rattle.timed_sets.specs.TimedCores.{timingsOf}
+use Rattle.timed_sets.specs.Nodes.{LowerTimed, NothingBefore, Stands}
 use Rattle.timed_sets.specs.declared.Node.{Node}
-use Rattle.timed_sets.specs.declared.Timed.{Timed}
-
-pub power-above-0 : (n : ℕ) → 0 < keyBase ^ n
-unfolding keyBase
-power-above-0 n =
-    let some : 0 < 33 = omega arith in
-    let from : 0 ≤ n = omega arith in
-    let grows : keyBase ^ 0 ≤ keyBase ^ n = pow-le-pow-right some from in
-    rw pow-zero at grows
 
 module _ {timed : Timed} {timings cost lowCosts lowKeys q : List ℕ} {T : List Bool} {node : Node}
     (table : LowerTimed timed timings cost lowCosts lowKeys) (stands : Stands timed timings cost node q T) where

@@ -2,16 +2,16 @@
 -- a test.
 use Prim.Native.Nat.{ℕ, suc, _≤_, _<_}
 use mathlib.Core.Bool.{Bool, true, false}
-use mathlib.Core.List.{List, [], _∷_, _++_, append-assoc, append-nil}
+use mathlib.Core.List.{List, [], _∷_, _++_}
 use mathlib.Core.Logic.{_⊎_, inl, inr}
-use mathlib.Core.Path.{_≡_, refl, sym, ap, _∙_}
+use mathlib.Core.Path.{_≡_, refl, _∙_}
 use native.Mathlib.Nat.{eq-or-lt-of-le}
 use native.Mathlib.Omega.{arith}
 use Rattle.laws.specs.Truth.{and-is-true, false-not-true}
-use Rattle.assignment.specs.Keeping.{Keeps, done, refused, kept}
 use Rattle.assignment.specs.Values.{Value, none, AtMost, to-none, lesser}
 use Rattle.assignment.specs.ValueLaws.{atMost-refl, atMost-trans, atMost-antisym, lesser-first, lesser-second, lesser-either}
-use Rattle.timed_sets.specs.Reached.{OneCore, worthOn, passing, Reached, whole, passed, runs, LeastFrom}
+use Rattle.lagrangian.specs.Reached.{OneCore, worthOn, passing, Reached, whole, passed, runs}
+use Rattle.timed_sets.specs.LeastReached.{LeastFrom}
 
 module _ {passes : List ℕ → Bool} {core : OneCore} {q : List ℕ} {T : List Bool} {level : ℕ} where
   -- nothing that is looked for comes before the known value
@@ -119,25 +119,3 @@ module _ (passes : List ℕ → Bool) (core : OneCore) where
           (v ≡ known) ⊎ Reached core q (true ∷ T) level v
       attained (inl same) before = first-level before same
       attained (inr (runs l from within reached)) before = inr (runs {level = level} l (omega arith) within reached)
-
--- What is reached is what the admitted patterns are worth that begin so and keep exactly the flagged items.
-module _ (core : OneCore) where
-  pub reached-pattern : {q : List ℕ} {T : List Bool} {level : ℕ} {v : Value} → Reached core q T level v →
-      (r : List ℕ) × Keeps (core .levels) T r × (core .admits (q ++ r) ≡ true) × (v ≡ worthOn core (q ++ r))
-  reached-pattern {q} (whole met) = ([], done, rw (append-nil q) met, rw (append-nil q) refl)
-  reached-pattern {q} (passed reached) =
-      let (r, keeps, met, worth) = reached-pattern reached in
-      (0 ∷ r, refused keeps, rw (append-assoc q (0 ∷ []) r) at met, worth ∙ ap (worthOn core) (append-assoc q (0 ∷ []) r))
-  reached-pattern {q} (runs l from within reached) =
-      let (r, keeps, met, worth) = reached-pattern reached in
-      (suc l ∷ r, kept l within keeps, rw (append-assoc q (suc l ∷ []) r) at met, worth ∙ ap (worthOn core) (append-assoc q (suc l ∷ []) r))
-
-  pub pattern-reached : {T : List Bool} {r : List ℕ} (q : List ℕ) → Keeps (core .levels) T r → core .admits (q ++ r) ≡ true →
-      Reached core q T 0 (worthOn core (q ++ r))
-  pattern-reached q done met = rw (append-nil q) (whole (rw (append-nil q) at met))
-  pattern-reached q (refused {plan = r} keeps) met =
-      let e = append-assoc q (0 ∷ []) r in
-      passed (rw e at (pattern-reached (q ++ (0 ∷ [])) keeps (rw (sym e) at met)))
-  pattern-reached q (kept {plan = r} l within keeps) met =
-      let e = append-assoc q (suc l ∷ []) r in
-      runs {level = 0} l (omega arith) within (rw e at (pattern-reached (q ++ (suc l ∷ [])) keeps (rw (sym e) at met)))

@@ -18,14 +18,14 @@ use Rattle.assignment.specs.Keeping.{Keeps, done, refused, kept}
 use Rattle.assignment.specs.Limits.{mostItems}
 use Rattle.assignment.specs.SetLaws.{setNumber-below}
 use Rattle.assignment.specs.Sets.{setNumber}
-use Rattle.timed_sets.specs.AdmittedLaws.{counted}
+use Rattle.lagrangian.specs.AdmittedLaws.{counted}
+use Rattle.lagrangian.specs.DemandBounds.{SameTasks, same-tasks-meet}
+use Rattle.lagrangian.specs.TimedItems.{TimedItems, timedCore}
+use Rattle.lagrangian.specs.PatternLaws.{timing-of}
+use Rattle.lagrangian.specs.TimedCores.{entryTicks, patternTasks, timingAt, timingIn, timingsOf, timingWidth}
+use Rattle.lagrangian.specs.declared.Timed.{Timed}
 use Rattle.timed_sets.specs.BoundLaws.{fewer-ticks-meet}
-use Rattle.timed_sets.specs.DemandBounds.{SameTasks, same-tasks-meet}
-use Rattle.timed_sets.specs.Nodes.{TimedItems, timedCore}
-use Rattle.timed_sets.specs.PatternLaws.{timing-of}
 use Rattle.timed_sets.specs.TickColumns.{columnJobs, FewestTicks, inSet, FewestColumn, Includes, NoneServes}
-use Rattle.timed_sets.specs.TimedCores.{entryTicks, patternTasks, timingAt, timingIn, timingsOf, timingWidth}
-use Rattle.timed_sets.specs.declared.Timed.{Timed}
 
 -- the first item's bit does not show in those of the others
 first-bit-off : (b : Bool) (n i r : ℕ) → i < n → (cond b (2 ^ n) 0 + r) / 2 ^ (n - 1 - i) % 2 ≡ r / 2 ^ (n - 1 - i) % 2

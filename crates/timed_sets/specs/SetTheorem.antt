@@ -20,16 +20,18 @@ use Rattle.knapsack.specs.Offered.{offerAt, offersOf}
 use Rattle.knapsack.specs.Offers.{Offer, entryCost, patternCost}
 use Rattle.values.specs.Worths.{worthOf}
 use Rattle.values.specs.declared.value.Worth.{Worth}
+use Rattle.lagrangian.specs.TimedItems.{timedCore, TimedItems}
+use Rattle.lagrangian.specs.FrontKeyLaws.{power-above-0}
+use Rattle.lagrangian.specs.Reached.{worthOn, passing, Reached}
+use Rattle.lagrangian.specs.ReachedPatterns.{reached-pattern, pattern-reached}
+use Rattle.lagrangian.specs.TimedCores.{timedOptions, timingsOf}
+use Rattle.lagrangian.specs.declared.Timed.{Timed}
 use Rattle.timed_sets.specs.Exchange.{Partners}
-use Rattle.timed_sets.specs.Nodes.{timedCore, ordered, TimedItems, Stands, FoundFrom, SmallWorth, LeastInTime, LowerInTime, FoundUpTo, is-least, is-limit, noneYet}
+use Rattle.timed_sets.specs.Nodes.{ordered, Stands, FoundFrom, SmallWorth, LeastInTime, LowerInTime, FoundUpTo, is-least, is-limit, noneYet}
 use Rattle.timed_sets.specs.NodeLaws.{stands-at-start}
 use Rattle.timed_sets.specs.OrderLaws.{OrderedNoLater, some-in-order}
-use Rattle.timed_sets.specs.PromisingLaws.{power-above-0}
-use Rattle.timed_sets.specs.Reached.{worthOn, passing, LeastFrom, Reached}
-use Rattle.timed_sets.specs.ReachedLaws.{reached-pattern, pattern-reached}
-use Rattle.timed_sets.specs.TimedCores.{timedOptions, timingsOf}
+use Rattle.timed_sets.specs.LeastReached.{LeastFrom}
 use Rattle.timed_sets.specs.declared.Node.{Node}
-use Rattle.timed_sets.specs.declared.Timed.{Timed}
 
 -- offers of the same costs
 data SameCosts : List Offer → List Offer → Type 0 where

@@ -8,9 +8,9 @@ use Rattle.dispatch.specs.Rows.{CoreTasks}
 use Rattle.assignment.specs.Keeping.{Keeps}
 use Rattle.assignment.specs.Limits.{mostItems}
 use Rattle.assignment.specs.Sets.{setNumber}
-use Rattle.timed_sets.specs.Nodes.{timedCore}
-use Rattle.timed_sets.specs.TimedCores.{timingAt}
-use Rattle.timed_sets.specs.declared.Timed.{Timed}
+use Rattle.lagrangian.specs.TimedItems.{timedCore}
+use Rattle.lagrangian.specs.TimedCores.{timingAt}
+use Rattle.lagrangian.specs.declared.Timed.{Timed}
 
 -- what a core runs with the ticks of a job of each item that stand in the column
 unfoldable pub columnJobs : Timed → (timings column : List ℕ) → CoreTasks

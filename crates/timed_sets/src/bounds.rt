@@ -1,9 +1,9 @@
 // What leaves a part of a pattern out of the search.
 use crate::Bounded;
 use crate::Node;
-use crate::Timed;
 use crate::demand_rows::is_overdue;
 use crate::dual_bound::relaxed_is_cheaper;
+use lagrangian::Timed;
 use values::NO_COST;
 use values::Worth;
 use values::keys_of;
@@ -13,10 +13,11 @@ ghost use mathlib.Core.Path.{_≡_};
 ghost use Prim.Native.Nat.{ℕ, _<_, _≤_};
 ghost use mathlib.Core.Logic.{_⊎_};
 ghost use Rattle.assignment.specs.Words.{noCost};
+ghost use Rattle.lagrangian.specs.TimedItems.{TimedReady};
+ghost use Rattle.lagrangian.specs.PriceColumns.{mostTicks};
 ghost use Rattle.timed_sets.specs.DemandRows.{DemandRows};
-ghost use Rattle.timed_sets.specs.Lagrangians.{BoundsHold};
-ghost use Rattle.timed_sets.specs.Nodes.{LowerTimed, NothingBefore, Stands, TimedReady};
-ghost use Rattle.timed_sets.specs.PriceColumns.{mostTicks};
+ghost use Rattle.timed_sets.specs.SearchBounds.{BoundsHold};
+ghost use Rattle.timed_sets.specs.Nodes.{LowerTimed, NothingBefore, Stands};
 
 // Whether a comes before b.
 fn comes_first(a: Worth, b: Worth) -> bool

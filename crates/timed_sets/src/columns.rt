@@ -1,8 +1,8 @@
 // The test of a whole pattern.
 use crate::Node;
-use crate::TIMING_WIDTH;
-use crate::Timed;
 use demand::unmet_tick;
+use lagrangian::TIMING_WIDTH;
+use lagrangian::Timed;
 use values::MOST_ITEMS;
 ghost use mathlib.Core.Path.{_≡_};
 ghost use Prim.Native.Nat.{_*_, _≤_, _<_};
@@ -12,9 +12,10 @@ ghost use mathlib.Core.Bool.{Bool};
 ghost use Prim.Native.Nat.{ℕ};
 ghost use Rattle.assignment.specs.Limits.{mostItems};
 ghost use Rattle.demand.specs.UnmetTicks.{UnmetTick};
+ghost use Rattle.lagrangian.specs.TimedCores.{timingWidth};
+ghost use Rattle.lagrangian.specs.TimedItems.{TimedItems, timedCore};
 ghost use Rattle.timed_sets.specs.TickColumns.{columnJobs};
-ghost use Rattle.timed_sets.specs.TimedCores.{timingWidth};
-ghost use Rattle.timed_sets.specs.Nodes.{TimedItems, Stands, WordColumn, timedCore};
+ghost use Rattle.timed_sets.specs.Nodes.{Stands, WordColumn};
 
 // One word of each item's timing: its period for 0, its window for 1.
 fn word_column(items: usize, word: usize, timings: &[u32]) -> [u32; MOST_ITEMS]

@@ -1,10 +1,10 @@
 // The test of a part of a pattern at a few ticks: whether by one of them more is due than there are ticks up to it, even where the
 // items still to come have their fewest ticks.
 use crate::Node;
-use crate::Timed;
-use crate::multipliers::MOST_TICKS;
-use crate::prices::jobs_by;
 use crate::servable::fewest_column;
+use lagrangian::MOST_TICKS;
+use lagrangian::Timed;
+use lagrangian::jobs_by;
 use values::MOST_ITEMS;
 use values::sets_of;
 ghost use mathlib.Core.Bool.{Bool, true};
@@ -16,9 +16,10 @@ ghost use Rattle.laws.specs.Sums.{sum};
 ghost use Rattle.ranges.specs.Limits.{mostSpan};
 ghost use Rattle.assignment.specs.Limits.{mostItems};
 ghost use Rattle.values.specs.declared.value.Worth.{Worth};
+ghost use Rattle.lagrangian.specs.TimedItems.{TimedItems};
+ghost use Rattle.lagrangian.specs.PriceColumns.{mostTicks};
 ghost use Rattle.timed_sets.specs.DemandRows.{rowWords, rowTick, rowEntry, DemandRows, RowSet, LowestColumn};
-ghost use Rattle.timed_sets.specs.Nodes.{NothingBefore, Stands, TimedItems};
-ghost use Rattle.timed_sets.specs.PriceColumns.{mostTicks};
+ghost use Rattle.timed_sets.specs.Nodes.{NothingBefore, Stands};
 ghost use Rattle.timed_sets.specs.TickColumns.{inSet};
 
 // A row's words: a tick, then an entry for each item.

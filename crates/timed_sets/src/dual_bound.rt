@@ -13,8 +13,9 @@ ghost use Rattle.ranges.specs.Limits.{mostPeriod};
 ghost use Rattle.assignment.specs.Limits.{mostItems};
 ghost use Rattle.assignment.specs.Sets.{setNumber};
 ghost use Rattle.assignment.specs.Words.{noCost};
-ghost use Rattle.timed_sets.specs.Lagrangians.{leastPriced, mostPrice, mostPriced, Relaxes};
-ghost use Rattle.timed_sets.specs.Nodes.{NothingBefore, Stands, TimedReady};
+ghost use Rattle.lagrangian.specs.Lagrangians.{leastPriced, mostPrice, mostPriced, Relaxes};
+ghost use Rattle.lagrangian.specs.TimedItems.{TimedReady};
+ghost use Rattle.timed_sets.specs.Nodes.{NothingBefore, Stands};
 
 // What the ticks of a job of each of the first items come to.
 fn priced_front(items: usize, prices: &[u64], ticks: &[u32]) -> u64

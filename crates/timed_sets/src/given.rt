@@ -1,12 +1,12 @@
 // What a given pattern is worth.
 use crate::Node;
-use crate::TIMING_WIDTH;
-use crate::Timed;
 use crate::nodes::at_level;
-use crate::nodes::is_within_window;
 use crate::nodes::passed_over;
 use crate::nodes::run_at;
 use crate::search::with_whole;
+use lagrangian::TIMING_WIDTH;
+use lagrangian::Timed;
+use lagrangian::is_within_window;
 use values::KEY_BASE;
 use values::NO_COST;
 use values::STRIDE;
@@ -19,7 +19,8 @@ ghost use mathlib.Core.Path.{_≡_};
 ghost use Prim.Native.Nat.{ℕ, _/_, _%_, _^_, _≤_};
 ghost use Rattle.assignment.specs.Keys.{keyBase};
 ghost use Rattle.assignment.specs.Limits.{mostItems};
-ghost use Rattle.timed_sets.specs.Nodes.{OneFrom, SmallWorth, Stands, TimedReady};
+ghost use Rattle.lagrangian.specs.TimedItems.{TimedReady};
+ghost use Rattle.timed_sets.specs.Nodes.{OneFrom, SmallWorth, Stands};
 
 const NONE: Worth = Worth {
     cost: NO_COST,

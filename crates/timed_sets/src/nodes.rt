@@ -1,22 +1,10 @@
 // The steps from one part of a pattern to the next.
 use crate::Node;
-use crate::TIMING_WIDTH;
 use values::KEY_BASE;
 ghost use mathlib.Core.Path.{_≡_};
-ghost use Prim.Native.Nat.{_+_, _*_, _≤_, _<_};
-ghost use lib.Dec.{leb};
-ghost use lib.ListN.{length, getD};
-ghost use Rattle.assignment.specs.Limits.{mostItems, mostCost};
-ghost use Rattle.timed_sets.specs.TimedCores.{timingWidth};
+ghost use Prim.Native.Nat.{_+_, _*_, _≤_};
+ghost use Rattle.assignment.specs.Limits.{mostCost};
 ghost use Rattle.timed_sets.specs.Nodes.{passedOver, runAt, nextLevel, atLevel, SmallNode};
-
-// Whether a job has its ticks within its window at a level.
-pub(crate) fn is_within_window(item: usize, level: usize, timings: &[u32]) -> bool
-    requires { ⌜ (item < mostItems) × (item * timingWidth + 2 + level < length (now timings)) ⌝ }
-    ensures { λ r. ⌜ r ≡ leb (getD (now (timings .entry)) (item * timingWidth + 2 + level) 0) (getD (now (timings .entry)) (item * timingWidth + 1) 0) ⌝ }
-{
-    timings[item * TIMING_WIDTH + 2 + level] <= timings[item * TIMING_WIDTH + 1]
-}
 
 // The core does not run the item.
 pub(crate) fn passed_over(node: Node) -> Node

@@ -1,10 +1,10 @@
 // Items that are alike but for their windows: levels of two of them that could be exchanged for a smaller key are not tried.
 use crate::Node;
-use crate::TIMING_WIDTH;
-use crate::Timed;
-use crate::choices::is_in_set;
 use crate::given::choice_at;
-use crate::nodes::is_within_window;
+use lagrangian::TIMING_WIDTH;
+use lagrangian::Timed;
+use lagrangian::is_in_set;
+use lagrangian::is_within_window;
 use values::MOST_ITEMS;
 use values::STRIDE;
 ghost use mathlib.Core.Bool.{true, false};
@@ -13,9 +13,10 @@ ghost use Prim.Native.Nat.{ℕ, suc, _+_, _*_, _≤_, _<_};
 ghost use lib.ListN.{length, getD};
 ghost use Rattle.assignment.specs.Limits.{mostItems};
 ghost use Rattle.knapsack.specs.Offered.{entryOf};
+ghost use Rattle.lagrangian.specs.TimedItems.{TimedReady};
+ghost use Rattle.lagrangian.specs.TimedCores.{timingAt, timingWidth};
 ghost use Rattle.timed_sets.specs.Exchange.{LevelOutOfOrder, NotRun, Partner, Partners, SameLevels};
-ghost use Rattle.timed_sets.specs.Nodes.{SmallNode, TimedReady};
-ghost use Rattle.timed_sets.specs.TimedCores.{timingAt, timingWidth};
+ghost use Rattle.timed_sets.specs.Nodes.{SmallNode};
 
 // Whether two items have the same ticks of a job and the same cost at a level.
 fn is_same_at(timed: Timed, j: usize, i: usize, level: usize, timings: &[u32], cost: &[u64]) -> bool

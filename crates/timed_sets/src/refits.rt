@@ -1,24 +1,25 @@
 // A relaxation for the patterns that go on from a node: what was chosen for the whole set bounds them less and less well, the more
 // items have their level.
 use crate::Bounded;
-use crate::Lagrangian;
 use crate::Node;
-use crate::Timed;
-use crate::ascent::ascended;
-use crate::few_items::FEW_ITEMS;
-use crate::few_items::has_few_items;
-use crate::multipliers::MOST_TICKS;
-use crate::multipliers::Multipliers;
-use crate::relaxation::lagrangian_of;
-use crate::set_bounds::Part;
+use lagrangian::FEW_ITEMS;
+use lagrangian::Lagrangian;
+use lagrangian::MOST_TICKS;
+use lagrangian::Multipliers;
+use lagrangian::Part;
+use lagrangian::Timed;
+use lagrangian::ascended;
+use lagrangian::has_few_items;
+use lagrangian::lagrangian_of;
 ghost use mathlib.Core.Bool.{Bool, true};
 ghost use mathlib.Core.List.{List};
 ghost use mathlib.Core.Path.{_≡_};
 ghost use Prim.Native.Nat.{ℕ, _≤_, _<_};
 ghost use Rattle.assignment.specs.Limits.{mostItems};
-ghost use Rattle.timed_sets.specs.Ascents.{SmallPart};
-ghost use Rattle.timed_sets.specs.Lagrangians.{Relaxes};
-ghost use Rattle.timed_sets.specs.Nodes.{TimedReady, Stands};
+ghost use Rattle.lagrangian.specs.Ascents.{SmallPart};
+ghost use Rattle.lagrangian.specs.Lagrangians.{Relaxes};
+ghost use Rattle.lagrangian.specs.TimedItems.{TimedReady};
+ghost use Rattle.timed_sets.specs.Nodes.{Stands};
 
 // Whether the weights are to be fitted to the node: once for all levels of the next item, and not where few items are open.
 pub(crate) fn is_refit_due(bounded: Bounded, node: Node) -> bool

@@ -1,7 +1,7 @@
 // Whether a set of items can be served at all.
-use crate::TIMING_WIDTH;
-use crate::Timed;
 use crate::columns::unmet_of;
+use lagrangian::TIMING_WIDTH;
+use lagrangian::Timed;
 use values::MOST_ITEMS;
 use values::sets_of;
 ghost use mathlib.Core.Bool.{false};
@@ -9,9 +9,9 @@ ghost use mathlib.Core.Path.{_≡_};
 ghost use Prim.Native.Nat.{_+_, _*_, _≤_, _<_};
 ghost use lib.ListN.{length};
 ghost use Rattle.assignment.specs.Limits.{mostItems, mostLevels};
-ghost use Rattle.timed_sets.specs.Nodes.{TimedItems};
+ghost use Rattle.lagrangian.specs.TimedItems.{TimedItems};
+ghost use Rattle.lagrangian.specs.TimedCores.{timingWidth};
 ghost use Rattle.timed_sets.specs.TickColumns.{inSet, FewestTicks, FewestColumn, NoneServes};
-ghost use Rattle.timed_sets.specs.TimedCores.{timingWidth};
 
 fn fewer(a: u32, b: u32) -> u32
     ensures { λ r. ⌜ (r ≤ a) × (r ≤ b) ⌝ }

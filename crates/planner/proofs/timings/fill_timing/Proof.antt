@@ -4,7 +4,7 @@ use native.Mathlib.Omega.{arith}
 use native.Mathlib.Nat.{add-zero}
 use Rattle.instance.specs.Held.{problemIn, held-levelcount}
 use Rattle.instance.specs.Node.{levelCount}
-use Rattle.timed_sets.specs.TimedCores.{timingWidth}
+use Rattle.lagrangian.specs.TimedCores.{timingWidth}
 use Rattle.planner.specs.TimedOptions.{TimingsOffered, word-offered, timing-offered}
 use Rattle.planner.proofs.timings.fill_timing.Statement.{statement}
 use Rattle.planner.proofs.timings.fill_timing.Tie as tie

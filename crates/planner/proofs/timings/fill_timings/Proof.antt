@@ -3,7 +3,7 @@ use mathlib.Core.Path.{_≡_}
 use native.Mathlib.Omega.{arith}
 use Rattle.instance.specs.Held.{problemIn, held-task, held-taskcount}
 use Rattle.instance.specs.Node.{taskCount}
-use Rattle.timed_sets.specs.TimedCores.{timingWidth}
+use Rattle.lagrangian.specs.TimedCores.{timingWidth}
 use Rattle.planner.specs.TimedOptions.{TimingsOffered, next-place}
 use Rattle.planner.proofs.timings.fill_timings.Statement.{statement}
 use Rattle.planner.proofs.timings.fill_timings.Tie as tie

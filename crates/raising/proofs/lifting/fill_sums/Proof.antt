@@ -6,7 +6,7 @@ use borrow.Author.Needs.{needs}
 use lib.ListN.{length}
 use Rattle.raising.specs.LiftingLaws.{no-item-yet, room-for-item, one-item-more}
 use Rattle.raising.specs.LiftedTables.{NumberedBy}
-use Rattle.timed_sets.specs.Lagrangians.{leastPriced}
+use Rattle.lagrangian.specs.Lagrangians.{leastPriced}
 use lib.Pow.{pow-mono}
 use Rattle.raising.proofs.lifting.fill_sums.Statement.{statement}
 use Rattle.raising.proofs.lifting.fill_sums.Tie as tie

@@ -1,6 +1,7 @@
 use native.Mathlib.Omega.{arith}
 use borrow.Author.Needs.{needs}
-use Rattle.timed_sets.specs.PromisingLaws.{power-above-0, rest-below, bound-cost-fits, bound-key-fits, none-to-come, bound-not-first}
+use Rattle.lagrangian.specs.FrontKeyLaws.{power-above-0}
+use Rattle.timed_sets.specs.PromisingLaws.{rest-below, bound-cost-fits, bound-key-fits, none-to-come, bound-not-first}
 use Rattle.timed_sets.proofs.bounds.bound_comes_first.Statement.{statement}
 use Rattle.timed_sets.proofs.bounds.bound_comes_first.Tie as tie
 

@@ -4,9 +4,9 @@ use mathlib.Core.Path.{_≡_, sym, _∙_}
 use native.Mathlib.Omega.{arith}
 use borrow.Author.Needs.{needs}
 use lib.Pow.{pow-pos}
+use Rattle.lagrangian.specs.PriceColumns.{mostTicks}
 use Rattle.timed_sets.specs.DemandRowLaws.{no-ticks-yet, one-tick-more}
 use Rattle.timed_sets.specs.DemandRows.{DemandRows}
-use Rattle.timed_sets.specs.PriceColumns.{mostTicks}
 use Rattle.timed_sets.proofs.demand_rows.fill_rows.Statement.{statement}
 use Rattle.timed_sets.proofs.demand_rows.fill_rows.Tie as tie
 

@@ -3,8 +3,8 @@ use Prim.Native.Nat.{_-_, _≤_}
 use mathlib.Core.Path.{refl}
 use borrow.Author.Needs.{needs}
 use Rattle.laws.specs.Truth.{false-not-true}
+use Rattle.lagrangian.specs.PriceColumns.{mostTicks}
 use Rattle.timed_sets.specs.OverdueLaws.{few-due, overdue-nothing-before}
-use Rattle.timed_sets.specs.PriceColumns.{mostTicks}
 use Rattle.timed_sets.proofs.demand_rows.is_overdue.Statement.{statement}
 use Rattle.timed_sets.proofs.demand_rows.is_overdue.Tie as tie
 

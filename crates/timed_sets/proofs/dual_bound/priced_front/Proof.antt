@@ -6,7 +6,7 @@ use lib.ListN.{getD}
 use native.Mathlib.Numerals.{add-one}
 use Rattle.laws.specs.Sums.{sum as sumOf}
 use Rattle.ranges.specs.Limits.{mostPeriod}
-use Rattle.timed_sets.specs.Lagrangians.{mostPrice}
+use Rattle.lagrangian.specs.Lagrangians.{mostPrice}
 use Rattle.timed_sets.specs.DualBoundLaws.{product-low, one-more-bounded}
 use Rattle.timed_sets.proofs.dual_bound.priced_front.Statement.{statement}
 use Rattle.timed_sets.proofs.dual_bound.priced_front.Tie as tie

@@ -6,10 +6,10 @@ use borrow.Author.Needs.{needs}
 use mathlib.Core.Logic.{inl}
 use borrow.Author.Tests.{leb-true, not-false}
 use Rattle.assignment.specs.Words.{words-none}
+use Rattle.lagrangian.specs.TimedCores.{timingAt}
 use Rattle.timed_sets.specs.FoundLaws.{passed-stands, one-passed, one-whole, run-stands, one-run}
 use Rattle.timed_sets.specs.NodeLaws.{item-below, small-node, stands-at-level}
 use Rattle.timed_sets.specs.SetTheorem.{none-is-small}
-use Rattle.timed_sets.specs.TimedCores.{timingAt}
 use Rattle.timed_sets.specs.WholeLaws.{small-at}
 use borrow.Fn.Kinds.{In}
 use borrow.Fn.PlainCycle.{Measures, is, falls, and}
@@ -18,7 +18,7 @@ use Rattle.timed_sets.proofs.given.worth_along.Kinds as worth-along-kin
 use Rattle.timed_sets.proofs.given.+worth_along.Lts-worth_along as worth-along-lts
 use Rattle.timed_sets.proofs.given.choice_at.Reads as choice-at-reads
 use Rattle.timed_sets.proofs.nodes.at_level.Reads as at-level-reads
-use Rattle.timed_sets.proofs.nodes.is_within_window.Reads as is-within-window-reads
+use Rattle.lagrangian.proofs.is_within_window.Reads as is-within-window-reads
 use Rattle.timed_sets.proofs.nodes.passed_over.Reads as passed-over-reads
 use Rattle.timed_sets.proofs.nodes.run_at.Reads as run-at-reads
 use Rattle.timed_sets.proofs.search.with_whole.Reads as with-whole-reads

@@ -2,7 +2,7 @@ use mathlib.Core.Path.{refl}
 use native.Mathlib.Omega.{arith}
 use borrow.Author.Needs.{needs}
 use Rattle.assignment.specs.Keys.{keyBase}
-use Rattle.timed_sets.specs.PromisingLaws.{power-above-0}
+use Rattle.lagrangian.specs.FrontKeyLaws.{power-above-0}
 use Rattle.timed_sets.proofs.given.choice_at.Statement.{statement}
 use Rattle.timed_sets.proofs.given.choice_at.Tie as tie
 

@@ -5,7 +5,7 @@ use borrow.Author.Needs.{needs}
 use borrow.Author.Tests.{leb-false}
 use lib.ListN.{getD}
 use Rattle.laws.specs.Truth.{false-not-true}
-use Rattle.timed_sets.specs.TimedCores.{timingAt}
+use Rattle.lagrangian.specs.TimedCores.{timingAt}
 use Rattle.timed_sets.proofs.partners.is_in_order.Statement.{statement}
 use Rattle.timed_sets.proofs.partners.is_in_order.Tie as tie
 

@@ -2,7 +2,7 @@ use mathlib.Core.Path.{refl}
 use native.Mathlib.Omega.{arith}
 use borrow.Author.Needs.{needs}
 use Rattle.laws.specs.Truth.{false-not-true}
-use Rattle.timed_sets.specs.TimedCores.{timingAt}
+use Rattle.lagrangian.specs.TimedCores.{timingAt}
 use Rattle.timed_sets.proofs.partners.is_partner.Statement.{statement}
 use Rattle.timed_sets.proofs.partners.is_partner.Tie as tie
 

@@ -2,8 +2,8 @@ use mathlib.Core.Path.{refl}
 use borrow.Author.Needs.{needs}
 use borrow.Author.Tests.{leb-true, leb-false, not-true, not-false}
 use Rattle.laws.specs.Truth.{false-not-true}
+use Rattle.lagrangian.specs.TimedCores.{timingAt}
 use Rattle.timed_sets.specs.Exchange.{too-long, out-of-order}
-use Rattle.timed_sets.specs.TimedCores.{timingAt}
 use Rattle.timed_sets.proofs.partners.may_run.Statement.{statement}
 use Rattle.timed_sets.proofs.partners.may_run.Tie as tie
 

@@ -2,10 +2,10 @@ use Prim.Native.Nat.{ℕ, _+_, _-_, _*_, _<_}
 use mathlib.Core.Path.{refl}
 use native.Mathlib.Omega.{arith}
 use borrow.Author.Tests.{not-true, not-false}
+use Rattle.lagrangian.specs.TimedCores.{timingAt}
 use Rattle.timed_sets.specs.FoundLaws.{found-nothing, passed-stands, found-passed, found-none, found-later, run-stands, found-both}
 use Rattle.timed_sets.specs.NodeLaws.{item-below, small-node, stands-next}
 use Rattle.timed_sets.specs.PartnerLaws.{partner-within}
-use Rattle.timed_sets.specs.TimedCores.{timingAt}
 use Rattle.timed_sets.specs.WholeLaws.{small-at}
 use borrow.Fn.Kinds.{In}
 use borrow.Fn.PlainCycle.{Measures, is, falls, and}

@@ -1,0 +1,17 @@
+pub mod TimedCores
+pub mod Reached
+pub mod ReachedPatterns
+pub mod PatternLaws
+pub mod DemandBounds
+pub mod TimedItems
+pub mod Lagrangians
+pub mod PriceColumns
+pub mod PricedLevels
+pub mod Exceeded
+pub mod Ascents
+pub mod FrontKeyLaws
+pub mod AdmittedLaws
+pub mod LagrangianLaws
+pub mod PriceLaws
+pub mod AscentLaws
+pub mod PricedLevelLaws
