@@ -29,16 +29,16 @@ use Rattle.timed_sets.specs.declared.Node.{Node}
 
 -- the test and what it says
 
-pub out-of-order : {timings : List Timing} {pattern : List ℕ} {j i : ℕ} → isOutOfOrder timings pattern (suc j) i ≡ true → OutOfOrder timings pattern j i
+by-test : {timings : List Timing} {pattern : List ℕ} {j i : ℕ} → isOutOfOrder timings pattern (suc j) i ≡ true → OutOfOrder timings pattern j i
 unfolding isOutOfOrder
-out-of-order {timings} {pattern} {j} {i} is =
+by-test {timings} {pattern} {j} {i} is =
     let both = and-is-true _ _ .0 is in
     let others = and-is-true _ _ .0 (both .1) in
     record { runs = ltb-true _ _ (both .0); higher = ltb-true _ _ (others .0); no-more-ticks = leb-true _ _ (others .1) }
 
-pub out-of-order-found : {timings : List Timing} {pattern : List ℕ} {j i : ℕ} → OutOfOrder timings pattern j i → isOutOfOrder timings pattern (suc j) i ≡ true
+to-test : {timings : List Timing} {pattern : List ℕ} {j i : ℕ} → OutOfOrder timings pattern j i → isOutOfOrder timings pattern (suc j) i ≡ true
 unfolding isOutOfOrder
-out-of-order-found {timings} {pattern} {j} {i} out =
+to-test {timings} {pattern} {j} {i} out =
     and-is-true _ _ .1 (lt-ltb _ _ (out .runs), and-is-true _ _ .1 (lt-ltb _ _ (out .higher), le-leb _ _ (out .no-more-ticks)))
 
 -- a test that some number below n passes
@@ -72,7 +72,7 @@ module _ {timed : Timed} {timings cost partners : List ℕ} {S : List Bool} (rea
   one-exchange pattern keeps met zero i within is turned smaller = absurd (false-not-true refl turned)
   one-exchange pattern keeps met (suc j) i within is turned smaller =
       let its = are-partners .partner i j within is in
-      let out = out-of-order turned in
+      let out = by-test turned in
       let key = exchanged-key ready within of-items keeps its out in
       let found = smaller (exchanged pattern j i) key (exchanged-keeps ready within of-items keeps its out)
       (exchanged-admitted ready within of-items keeps its out met) in
@@ -145,4 +145,4 @@ module _ {timed : Timed} {timings cost partners : List ℕ} {node : Node} {q : L
       let kept : turned (node .item) ≡ false =
       not-true (turned (node .item))
       (every-iff (λ i. not (turned i)) (length (timingsOf timings (timed .items))) .0 in-order (node .item) (rw (counted ready) within)) in
-      false-not-true (rw (out .is-partner) at kept) (out-of-order-found (front-out-of-order r))
+      false-not-true (rw (out .is-partner) at kept) (to-test (front-out-of-order r))
