@@ -9,7 +9,7 @@ use Rattle.lagrangian.specs.Lagrangians.{mostPriced}
 use Rattle.lagrangian.specs.PriceColumns.{mostTicks}
 use Rattle.lagrangian.specs.declared.ascent.Ascent.{Ascent}
 use Rattle.lagrangian.specs.declared.multipliers.Multipliers.{Multipliers}
-use Rattle.lagrangian.specs.declared.set_bounds.Part.{Part}
+use Rattle.lagrangian.specs.declared.part_bounds.Part.{Part}
 use Rattle.lagrangian.specs.declared.slopes.Slope.{Slope}
 
 -- 2^16 and 2^40

@@ -3,10 +3,10 @@
 use crate::Timed;
 use crate::exceeded::exceeded_tick;
 use crate::multipliers::Multipliers;
+use crate::part_bounds::Part;
+use crate::part_bounds::PartBound;
+use crate::part_bounds::bound_at;
 use crate::places::with_place_for;
-use crate::set_bounds::Part;
-use crate::set_bounds::PartBound;
-use crate::set_bounds::bound_at;
 use crate::slopes::at_most;
 use crate::slopes::less_or_none;
 use crate::slopes::slope_at;

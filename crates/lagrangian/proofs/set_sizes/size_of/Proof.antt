@@ -2,8 +2,8 @@ use Prim.Native.Nat.{_-_, _≤_}
 use mathlib.Core.Logic.{⊎-elim}
 use native.Mathlib.Omega.{arith}
 use borrow.Author.Needs.{needs}
-use Rattle.lagrangian.proofs.few_items.size_of.Statement.{statement}
-use Rattle.lagrangian.proofs.few_items.size_of.Tie as tie
+use Rattle.lagrangian.proofs.set_sizes.size_of.Statement.{statement}
+use Rattle.lagrangian.proofs.set_sizes.size_of.Tie as tie
 
 abbrev Inv-loop : tie.InvT-loop
 Inv-loop items set count₀ i₀ count i = (i ≤ items) × (count ≤ i)

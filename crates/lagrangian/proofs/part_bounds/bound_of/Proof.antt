@@ -5,8 +5,8 @@ use borrow.Author.Needs.{needs}
 use lib.ListN.{length, length-set}
 use Rattle.assignment.specs.Limits.{mostCoreCost, mostItems}
 use Rattle.lagrangian.specs.Lagrangians.{mostPriced}
-use Rattle.lagrangian.proofs.set_bounds.bound_of.Statement.{statement}
-use Rattle.lagrangian.proofs.set_bounds.bound_of.Tie as tie
+use Rattle.lagrangian.proofs.part_bounds.bound_of.Statement.{statement}
+use Rattle.lagrangian.proofs.part_bounds.bound_of.Tie as tie
 
 abbrev Inv-loop : tie.InvT-loop
 Inv-loop timed part known timings cost prices column₀ sum₀ i₀ column sum i =

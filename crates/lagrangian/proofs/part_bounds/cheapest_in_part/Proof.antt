@@ -1,8 +1,8 @@
 use native.Mathlib.Nat.{mul-le-mul}
 use native.Mathlib.Omega.{arith}
 use borrow.Author.Needs.{needs}
-use Rattle.lagrangian.proofs.set_bounds.cheapest_in_part.Statement.{statement}
-use Rattle.lagrangian.proofs.set_bounds.cheapest_in_part.Tie as tie
+use Rattle.lagrangian.proofs.part_bounds.cheapest_in_part.Statement.{statement}
+use Rattle.lagrangian.proofs.part_bounds.cheapest_in_part.Tie as tie
 
 mul-ticks : tie.Need-mul-ticks
 mul-ticks c = search needs
