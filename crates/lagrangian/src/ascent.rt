@@ -165,7 +165,7 @@ fn steps_at_most(further: bool) -> usize
 }
 
 // The best weights of some steps from given ones on, for a part; `further` says whether further ticks are weighed.
-pub fn ascended(
+pub(crate) fn ascended(
     timed: Timed,
     part: Part,
     first: Multipliers,

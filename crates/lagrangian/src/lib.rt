@@ -13,21 +13,23 @@ mod slopes;
 mod weights;
 mod windows;
 
-pub use ascent::ascended;
+use ascent::ascended;
 pub use choices::cheapest_key;
 pub use choices::is_in_set;
 pub use multipliers::MOST_TICKS;
-pub use multipliers::Multipliers;
+use multipliers::Multipliers;
 use multipliers::best_multipliers;
 pub use part_bounds::Part;
 pub use prices::jobs_by;
-pub use relaxation::lagrangian_of;
+use relaxation::lagrangian_of;
 pub use set_sizes::FEW_ITEMS;
 pub use set_sizes::has_few_items;
 pub use set_sizes::size_of;
 use values::MOST_ITEMS;
 use values::MOST_LEVELS;
 pub use windows::is_within_window;
+ghost use mathlib.Core.Path.{_≡_};
+ghost use Rattle.lagrangian.specs.Ascents.{SmallPart};
 ghost use Rattle.lagrangian.specs.Lagrangians.{Relaxes};
 ghost use Rattle.lagrangian.specs.TimedItems.{TimedReady};
 
@@ -80,4 +82,39 @@ pub fn relaxation_of(timed: Timed, set: usize, timings: &[u32], cost: &[u64]) ->
     let ticks = weighed.ticks;
     let weights = weighed.weights;
     lagrangian_of(timed, 0, ticks, weights, timings, cost)
+}
+
+// Better weights of the same ticks for a part.
+fn refit_weights(
+    timed: Timed,
+    part: Part,
+    ticks: [u32; MOST_TICKS],
+    weights: [u64; MOST_TICKS],
+    timings: &[u32],
+    cost: &[u64],
+) -> [u64; MOST_TICKS]
+    requires { ⌜ TimedReady timed (now timings) (now cost) ⌝ }
+    requires { ⌜ SmallPart part ⌝ }
+{
+    let first = Multipliers { ticks, weights };
+    ascended(timed, part, first, false, timings, cost).weights
+}
+
+// The relaxation of the same ticks as another's, with weights that are better for a part.
+pub fn relaxation_from(
+    timed: Timed,
+    relaxed: Lagrangian,
+    part: Part,
+    timings: &[u32],
+    cost: &[u64],
+) -> Lagrangian
+    requires { ⌜ TimedReady timed (now timings) (now cost) ⌝ }
+    requires { ⌜ SmallPart part ⌝ }
+    ensures { λ r. ⌜ Relaxes timed (now (timings .entry)) (now (cost .entry)) r ⌝ }
+    ensures { λ r. ⌜ r .fixed ≡ part .fixed ⌝ }
+{
+    let ticks = relaxed.ticks;
+    let before = relaxed.weights;
+    let weights = refit_weights(timed, part, ticks, before, timings, cost);
+    lagrangian_of(timed, part.fixed, ticks, weights, timings, cost)
 }

@@ -28,9 +28,9 @@ pub const MOST_TICKS: usize = 8;
 const ROUNDS: usize = 24;
 
 // The ticks that are weighed, and their weights.
-pub struct Multipliers {
-    pub ticks: [u32; MOST_TICKS],
-    pub weights: [u64; MOST_TICKS],
+pub(crate) struct Multipliers {
+    pub(crate) ticks: [u32; MOST_TICKS],
+    pub(crate) weights: [u64; MOST_TICKS],
 }
 
 // The prices of ticks with weights.

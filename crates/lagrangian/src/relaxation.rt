@@ -79,7 +79,7 @@ pub(crate) fn cheapest_level(
 }
 
 // The Lagrangian of these ticks with these weights, chosen for parts of which so many items are fixed.
-pub fn lagrangian_of(
+pub(crate) fn lagrangian_of(
     timed: Timed,
     fixed: usize,
     ticks: [u32; MOST_TICKS],

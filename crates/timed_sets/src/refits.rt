@@ -4,19 +4,15 @@ use crate::Bounded;
 use crate::Node;
 use lagrangian::FEW_ITEMS;
 use lagrangian::Lagrangian;
-use lagrangian::MOST_TICKS;
-use lagrangian::Multipliers;
 use lagrangian::Part;
 use lagrangian::Timed;
-use lagrangian::ascended;
 use lagrangian::has_few_items;
-use lagrangian::lagrangian_of;
+use lagrangian::relaxation_from;
 ghost use mathlib.Core.Bool.{Bool, true};
 ghost use mathlib.Core.List.{List};
 ghost use mathlib.Core.Path.{_≡_};
 ghost use Prim.Native.Nat.{ℕ, _≤_, _<_};
 ghost use Rattle.assignment.specs.Limits.{mostItems};
-ghost use Rattle.lagrangian.specs.Ascents.{SmallPart};
 ghost use Rattle.lagrangian.specs.Lagrangians.{Relaxes};
 ghost use Rattle.lagrangian.specs.TimedItems.{TimedReady};
 ghost use Rattle.timed_sets.specs.Nodes.{Stands};
@@ -38,22 +34,6 @@ pub(crate) fn is_refit_due(bounded: Bounded, node: Node) -> bool
     !has_few_items(bounded.timed.items, node.rest)
 }
 
-// Better weights of the same ticks for a part.
-fn refit_weights(
-    timed: Timed,
-    part: Part,
-    ticks: [u32; MOST_TICKS],
-    weights: [u64; MOST_TICKS],
-    timings: &[u32],
-    cost: &[u64],
-) -> [u64; MOST_TICKS]
-    requires { ⌜ TimedReady timed (now timings) (now cost) ⌝ }
-    requires { ⌜ SmallPart part ⌝ }
-{
-    let first = Multipliers { ticks, weights };
-    ascended(timed, part, first, false, timings, cost).weights
-}
-
 // The relaxation of the same ticks, with weights that are better for what goes on from the node.
 pub(crate) fn refitted(
     timed: Timed,
@@ -67,15 +47,12 @@ pub(crate) fn refitted(
     ensures { λ r. ⌜ Relaxes timed (now (timings .entry)) (now (cost .entry)) r ⌝ }
     ensures { λ r. ⌜ r .fixed ≡ node .item ⌝ }
 {
-    let column = node.ticks;
+    let ticks = node.ticks;
     let part = Part {
         fixed: node.item,
         open: node.rest,
         cost: node.cost,
-        ticks: column,
+        ticks,
     };
-    let ticks = relaxed.ticks;
-    let before = relaxed.weights;
-    let weights = refit_weights(timed, part, ticks, before, timings, cost);
-    lagrangian_of(timed, node.item, ticks, weights, timings, cost)
+    relaxation_from(timed, relaxed, part, timings, cost)
 }
