@@ -30,8 +30,8 @@ use Rattle.planner.specs.CostLaws.{cost-is-total}
 use Rattle.planner.specs.FilledCores.{CoreFilled}
 use Rattle.planner.specs.OfferedBounds.{offered-affordable, offered-refusal-at-most}
 use Rattle.planner.specs.OfferedLaws.{awake-alike, offered-alone, offers-beside-items, offered-items}
-use Rattle.planner.specs.OfferedOptions.{OptionsOffered}
-use Rattle.planner.specs.OptionsOf.{idleCost, optionsOf}
+use Rattle.offers.specs.OfferedOptions.{OptionsOffered}
+use Rattle.offers.specs.OptionsOf.{idleCost, optionsOf}
 use Rattle.planner.specs.Planning.{bestPlan}
 
 key-alike : {o o' : Options} {n : ℕ} {worth : Worth} → Alike o o' → BestKey o n worth → BestKey o' n worth

@@ -18,7 +18,7 @@ use Rattle.planner.specs.BestPlanLaws.{choice-count, best-plan-is-best, 
 use Rattle.planner.specs.CheapestLaws.{NoWorsePlan}
 use Rattle.planner.specs.CostLaws.{cost-is-total}
 use Rattle.planner.specs.OptionsLaws.{passing-is-allowed}
-use Rattle.planner.specs.OptionsOf.{optionsOf}
+use Rattle.offers.specs.OptionsOf.{optionsOf}
 use Rattle.planner.specs.Planned.{NoDrawing, BestDrawing}
 use Rattle.planner.specs.Planning.{bestPlan}
 

@@ -14,7 +14,7 @@ use Rattle.plan_rules.specs.Plans.{mostChoice, planPasses}
 use Rattle.assignment.specs.Assignment.{Item, Options, ChoicesAllowed, Allowed, NoWorse, Best}
 use Rattle.assignment.specs.SearchTheorem.{best-unique}
 use Rattle.planner.specs.Planning.{passes, isAllowed, bestPlan, choiceLists}
-use Rattle.planner.specs.OptionsOf.{optionsOf}
+use Rattle.offers.specs.OptionsOf.{optionsOf}
 use Rattle.planner.specs.OptionsLaws.{item-count, passing-choices, passing-is-allowed}
 use Rattle.planner.specs.CostLaws.{cost-is-total}
 use Rattle.planner.specs.CheapestLaws.{NoWorsePlan, Found, found, missing, firstCheapest-found}

@@ -15,7 +15,7 @@ use Rattle.prices.specs.Prices.{coreEnergy, energy, penalty, cost}
 use Rattle.assignment.specs.Assignment.{Item, coresCost, refusedCost, totalCost}
 use Rattle.planner.specs.CorePatternLaws.{energy-of-pattern}
 use Rattle.planner.specs.OptionsLaws.{total-over-tasks}
-use Rattle.planner.specs.OptionsOf.{jobsOf, itemOf, optionsOf}
+use Rattle.offers.specs.OptionsOf.{jobsOf, itemOf, optionsOf}
 
 module _ (p : Problem) (plan : List ℕ) where
   cores-cost : (cores : ℕ) → coresCost (optionsOf p) cores plan ≡ p .weights .energy * sum (coreEnergy p plan) cores

@@ -18,9 +18,9 @@ use Rattle.core_tables.specs.ChargedTables.{ChargeReady, ChargedBelow}
 use Rattle.partition.specs.Tables.{OneCoreTable, one-core-table, mostSets, room-for-sets}
 use Rattle.planner.specs.OfferedBounds.{offered-affordable}
 use Rattle.planner.specs.OfferedLaws.{awake-alike, offered-alone, offers-beside-items}
-use Rattle.planner.specs.OfferedOptions.{LevelsOffered}
+use Rattle.offers.specs.OfferedOptions.{LevelsOffered}
 use Rattle.planner.specs.OptionsLaws.{item-count}
-use Rattle.planner.specs.OptionsOf.{idleCost, optionsOf}
+use Rattle.offers.specs.OptionsOf.{idleCost, optionsOf}
 
 -- the least values of all sets on one core, within the limits of the search, and nothing else is written
 pub record CoreFilled (p : Problem) (costs₀ keys₀ costs keys : List ℕ) : Type 0 where

@@ -28,8 +28,8 @@ use Rattle.values.specs.Items.{itemsOf}
 use Rattle.values.specs.declared.value.Worth.{Worth}
 use Rattle.planner.specs.BestChoiceLaws.{Chosen, shapeOf, key-is-chosen, offer-fits, light-is-best, search-ready, searched-is-chosen}
 use Rattle.planner.specs.FilledCores.{CoreFilled, knapsacks-fit, ready-to-charge, core-filled}
-use Rattle.planner.specs.OfferedOptions.{LevelsOffered, OptionsOffered}
-use Rattle.planner.specs.OptionsOf.{idleCost, optionsOf}
+use Rattle.offers.specs.OfferedOptions.{LevelsOffered, OptionsOffered}
+use Rattle.offers.specs.OptionsOf.{idleCost, optionsOf}
 
 abbrev shapeIn : Instance → Shape
 shapeIn inst = record { items = inst .taskcount; cores = inst .cores; levels = inst .levelcount }

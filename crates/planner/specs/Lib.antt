@@ -1,6 +1,5 @@
 pub mod Planning
 pub mod Outcomes
-pub mod OptionsOf
 pub mod CorePatternLaws
 pub mod ChoiceLaws
 pub mod OptionsLaws
@@ -15,16 +14,13 @@ pub mod EndingLaws
 pub mod Planned
 pub mod BestDrawingLaws
 pub mod PlannedLaws
-pub mod OfferedOptions
 pub mod OfferedLaws
 pub mod FilledCores
 pub mod OfferedBounds
-pub mod HeldOptions
 pub mod BestChoices
 pub mod BestChoiceLaws
 pub mod HeldChoices
 pub mod PlanLaws
-pub mod TimedOptions
 pub mod EarlyLaws
 pub mod TimedLaws
 pub mod TimedChoices

@@ -14,8 +14,8 @@ use Rattle.prices.specs.PriceBounds.{job-penalty-at-most}
 use Rattle.assignment.specs.Limits.{mostCost}
 use Rattle.knapsack.specs.Offered.{Affordable}
 use Rattle.core_tables.specs.AwakeCores.{aloneCost}
-use Rattle.planner.specs.OfferedOptions.{LevelsOffered, OptionsOffered, offered-level}
-use Rattle.planner.specs.OptionsOf.{jobsOf, itemOf, offerOf, idleCost, offeredCost}
+use Rattle.offers.specs.OfferedOptions.{LevelsOffered, OptionsOffered, offered-level}
+use Rattle.offers.specs.OptionsOf.{jobsOf, itemOf, offerOf, idleCost, offeredCost}
 
 module _ {p : Problem} (v : Valid p) where
   -- a level that fits a core

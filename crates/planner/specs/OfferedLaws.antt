@@ -30,9 +30,9 @@ use Rattle.knapsack.specs.Offered.{offerAt, offersOf}
 use Rattle.knapsack.specs.Offers.{Offer, entryLoad, entryCost, patternLoad, patternCost}
 use Rattle.core_tables.specs.AwakeCores.{size, idleLoad, awakeOptions, noOffer, OfferedAlone}
 use Rattle.values.specs.Items.{itemAt, itemsOf}
-use Rattle.planner.specs.OfferedOptions.{LevelOffered, LevelsOffered, OptionsOffered, offered-level}
+use Rattle.offers.specs.OfferedOptions.{LevelOffered, LevelsOffered, OptionsOffered, offered-level}
 use Rattle.planner.specs.OptionsLaws.{item-count, item-at}
-use Rattle.planner.specs.OptionsOf.{jobsOf, loadAt, itemOf, offerOf, offersIn, idleCost, optionsOf}
+use Rattle.offers.specs.OptionsOf.{jobsOf, loadAt, itemOf, offerOf, offersIn, idleCost, optionsOf}
 
 -- a pattern has no choice above the levels
 pub keeps-choice : {most : ℕ} {T : List Bool} {pattern : List ℕ} → Keeps most T pattern → (i : ℕ) → choiceAt pattern i ≤ most

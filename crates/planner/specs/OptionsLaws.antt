@@ -21,7 +21,7 @@ use Rattle.refusals.specs.VerdictLaws.{andThen-accepts, none-refused}
 use Rattle.assignment.specs.Assignment.{Item, corePattern, ChoiceAllowed, ChoicesAllowed, Allowed}
 use Rattle.planner.specs.CorePatternLaws.{fits-of-pattern}
 use Rattle.planner.specs.ChoiceLaws.{AllowedAt, allowed-at, at-allowed}
-use Rattle.planner.specs.OptionsOf.{itemOf, optionsOf}
+use Rattle.offers.specs.OptionsOf.{itemOf, optionsOf}
 
 module _ (p : Problem) where
   pub item-count : length (optionsOf p .items) ≡ taskCount p

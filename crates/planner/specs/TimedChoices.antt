@@ -33,11 +33,11 @@ use Rattle.lagrangian.specs.TimedCores.{timedOptions, timingAt, timingWidth}
 use Rattle.planner.specs.BestChoiceLaws.{Chosen, found-is-chosen}
 use Rattle.planner.specs.OfferedBounds.{idle-span-at-most, offered-affordable, offered-refusal-at-most}
 use Rattle.planner.specs.OfferedLaws.{awake-cost, offered-alone, offered-items, offers-beside-items, tasks-load}
-use Rattle.planner.specs.OfferedOptions.{OptionsOffered, offered-level}
+use Rattle.offers.specs.OfferedOptions.{OptionsOffered, offered-level}
 use Rattle.planner.specs.OptionsLaws.{item-count}
-use Rattle.planner.specs.OptionsOf.{idleCost, jobsOf, loadAt, offerOf, offersIn, optionsOf}
+use Rattle.offers.specs.OptionsOf.{idleCost, jobsOf, loadAt, offerOf, offersIn, optionsOf}
 use Rattle.planner.specs.TimedLaws.{problem-timed, period-is, ticks-are, timed-fits}
-use Rattle.planner.specs.TimedOptions.{TimingsOffered}
+use Rattle.offers.specs.TimedOptions.{TimingsOffered}
 
 abbrev pub siteOf : Problem → Site
 siteOf p = record { items = taskCount p; cores = p .cores; levels = levelCount p; span = span p; whole = idleCost p * span p }

@@ -25,7 +25,7 @@ use Rattle.lagrangian.specs.PatternLaws.{timing-of}
 use Rattle.lagrangian.specs.TimedCores.{entryTicks, patternTasks, timingAt, timingsOf, timingWidth}
 use Rattle.lagrangian.specs.declared.Timed.{Timed}
 use Rattle.planner.specs.OfferedLaws.{keeps-choice}
-use Rattle.planner.specs.TimedOptions.{TimingsOffered, wordOf}
+use Rattle.offers.specs.TimedOptions.{TimingsOffered, wordOf}
 
 abbrev pub timedOf : Problem → Timed
 timedOf p = record { items = taskCount p; levels = levelCount p; span = span p }

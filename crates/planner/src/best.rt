@@ -1,13 +1,13 @@
 // The best plan of an instance.
-use crate::options::OFFERS;
-use crate::options::fill_options;
-use crate::timings::TIMINGS;
-use crate::timings::fill_timings;
 use core_tables::charge_idle_once;
 use instance::Instance;
 use knapsack::Core;
 use knapsack_tables::fill_knapsacks;
 use light::light_plan;
+use offers::OFFERS;
+use offers::TIMINGS;
+use offers::fill_options;
+use offers::fill_timings;
 use raising::Site;
 use raising::cheapest_in_time;
 use ranges::MOST_TASKS;
@@ -32,8 +32,8 @@ ghost use Rattle.assignment.specs.Words.{noCost};
 ghost use Rattle.values.specs.BestKeys.{BestKey};
 ghost use Rattle.partition.specs.Tables.{mostSets};
 ghost use Rattle.planner.specs.FilledCores.{CoreFilled};
-ghost use Rattle.planner.specs.OfferedOptions.{LevelsOffered, OptionsOffered};
-ghost use Rattle.planner.specs.OptionsOf.{idleCost, optionsOf};
+ghost use Rattle.offers.specs.OfferedOptions.{LevelsOffered, OptionsOffered};
+ghost use Rattle.offers.specs.OptionsOf.{idleCost, optionsOf};
 ghost use Rattle.planner.specs.Planning.{bestPlan};
 
 // Fills the table of one core: for every set of tasks the least cost of running it there, idle ticks included.

@@ -1,6 +1,6 @@
 use mathlib.Core.Path.{refl}
 use borrow.Author.Needs.{needs}
-use Rattle.planner.specs.OfferedOptions.{nothing-offered}
+use Rattle.offers.specs.OfferedOptions.{nothing-offered}
 use Rattle.planner.proofs.best.best_choices.Statement.{statement}
 use Rattle.planner.proofs.best.best_choices.Tie as tie
 

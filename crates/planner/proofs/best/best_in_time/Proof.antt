@@ -3,7 +3,7 @@ use borrow.Author.Needs.{needs}
 use native.Mathlib.Nat.{le-trans, le-of-eq}
 use Rattle.instance.specs.Held.{held-taskcount}
 use Rattle.planner.specs.TimedChoices.{held-site-offered, held-found-in-time}
-use Rattle.planner.specs.TimedOptions.{no-timing-offered}
+use Rattle.offers.specs.TimedOptions.{no-timing-offered}
 use Rattle.planner.proofs.best.best_in_time.Statement.{statement}
 use Rattle.planner.proofs.best.best_in_time.Tie as tie
 

@@ -4,7 +4,7 @@ use native.Mathlib.Omega.{arith}
 use borrow.Author.Needs.{needs}
 use Rattle.ranges.specs.Limits.{mostIdlePower, mostWeight}
 use Rattle.planner.specs.HeldChoices.{held-knapsacks-fit, held-charge-ready, held-core-filled}
-use Rattle.planner.specs.HeldOptions.{held-span-at-most, energy-weight-at-most, idle-power-at-most}
+use Rattle.offers.specs.HeldOptions.{held-span-at-most, energy-weight-at-most, idle-power-at-most}
 use Rattle.planner.proofs.best.fill_core_table.Statement.{statement}
 use Rattle.planner.proofs.best.fill_core_table.Tie as tie
 

@@ -5,8 +5,8 @@ use borrow.Author.Needs.{needs}
 use native.Mathlib.Nat.{mul-le-mul}
 use Rattle.instance.specs.Held.{problemIn, held-span}
 use Rattle.ranges.specs.Limits.{mostIdlePower, mostWeight}
-use Rattle.planner.specs.HeldOptions.{held-span-at-most, energy-weight-at-most, idle-power-at-most}
-use Rattle.planner.specs.OptionsOf.{idleCost}
+use Rattle.offers.specs.HeldOptions.{held-span-at-most, energy-weight-at-most, idle-power-at-most}
+use Rattle.offers.specs.OptionsOf.{idleCost}
 use Rattle.planner.proofs.best.idle_span_cost.Statement.{statement}
 use Rattle.planner.proofs.best.idle_span_cost.Tie as tie
 

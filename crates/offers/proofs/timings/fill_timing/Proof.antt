@@ -5,9 +5,9 @@ use native.Mathlib.Nat.{add-zero}
 use Rattle.instance.specs.Held.{problemIn, held-levelcount}
 use Rattle.instance.specs.Node.{levelCount}
 use Rattle.lagrangian.specs.TimedCores.{timingWidth}
-use Rattle.planner.specs.TimedOptions.{TimingsOffered, word-offered, timing-offered}
-use Rattle.planner.proofs.timings.fill_timing.Statement.{statement}
-use Rattle.planner.proofs.timings.fill_timing.Tie as tie
+use Rattle.offers.specs.TimedOptions.{TimingsOffered, word-offered, timing-offered}
+use Rattle.offers.proofs.timings.fill_timing.Statement.{statement}
+use Rattle.offers.proofs.timings.fill_timing.Tie as tie
 
 abbrev Inv-loop : tie.InvT-loop
 Inv-loop inst task i timings₀ words w₀ timings w = (w ≤ words) × TimingsOffered (problemIn inst) (i * timingWidth + w) timings

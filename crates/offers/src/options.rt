@@ -12,10 +12,10 @@ ghost use mathlib.Core.Path.{_≡_};
 ghost use Rattle.instance.specs.Held.{Sound, problemIn};
 ghost use Rattle.instance.specs.Node.{taskAt, taskCount};
 ghost use Rattle.ranges.specs.Limits.{mostIdlePower, mostLevels, mostPower, mostSpan, mostWeight};
-ghost use Rattle.planner.specs.OfferedOptions.{LevelsOffered, OptionsOffered};
+ghost use Rattle.offers.specs.OfferedOptions.{LevelsOffered, OptionsOffered};
 
 // One for each task and level: task i at level l has place i * STRIDE + l.
-pub(crate) const OFFERS: usize = MOST_TASKS as usize * MOST_LEVELS as usize;
+pub const OFFERS: usize = MOST_TASKS as usize * MOST_LEVELS as usize;
 
 // What a load costs at a level of this power, alone on a core, where a core takes it. A load that no core takes is never
 // chosen, and its cost need not fit 64 bits.
@@ -72,7 +72,7 @@ fn fill_levels(
 }
 
 // Writes what is offered for every task.
-pub(crate) fn fill_options(
+pub fn fill_options(
     inst: Instance,
     load: &mut [u64; OFFERS],
     cost: &mut [u64; OFFERS],

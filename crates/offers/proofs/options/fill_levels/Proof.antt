@@ -7,11 +7,11 @@ use Rattle.instance.specs.Held.{problemIn, held-levelcount, held-span}
 use Rattle.instance.specs.Node.{levelCount, taskAt}
 use Rattle.ranges.specs.Limits.{mostLevels, mostTasks}
 use Rattle.plan_rules.specs.HeldQuantities.{start-ticks-at-most}
-use Rattle.planner.specs.HeldOptions.{held-span-at-most, energy-weight-at-most, idle-power-at-most, held-load, held-load-at-most, held-cost, level-power-at-most}
-use Rattle.planner.specs.OfferedOptions.{LevelsOffered, level-offered, task-offered}
-use Rattle.planner.specs.OptionsOf.{offerOf}
-use Rattle.planner.proofs.options.fill_levels.Statement.{statement}
-use Rattle.planner.proofs.options.fill_levels.Tie as tie
+use Rattle.offers.specs.HeldOptions.{held-span-at-most, energy-weight-at-most, idle-power-at-most, held-load, held-load-at-most, held-cost, level-power-at-most}
+use Rattle.offers.specs.OfferedOptions.{LevelsOffered, level-offered, task-offered}
+use Rattle.offers.specs.OptionsOf.{offerOf}
+use Rattle.offers.proofs.options.fill_levels.Statement.{statement}
+use Rattle.offers.proofs.options.fill_levels.Tie as tie
 
 abbrev Inv-loop : tie.InvT-loop
 Inv-loop task i load₀ cost₀ inst jobs l₀ load cost l =

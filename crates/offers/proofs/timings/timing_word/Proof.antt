@@ -2,9 +2,9 @@ use mathlib.Core.Path.{refl, _∙_}
 use native.Mathlib.Omega.{arith}
 use borrow.Author.Needs.{needs}
 use Rattle.plan_rules.specs.HeldQuantities.{start-ticks-at-most}
-use Rattle.planner.specs.TimedOptions.{word-0, word-1, word-of-level}
-use Rattle.planner.proofs.timings.timing_word.Statement.{statement}
-use Rattle.planner.proofs.timings.timing_word.Tie as tie
+use Rattle.offers.specs.TimedOptions.{word-0, word-1, word-of-level}
+use Rattle.offers.proofs.timings.timing_word.Statement.{statement}
+use Rattle.offers.proofs.timings.timing_word.Tie as tie
 
 returns : tie.Need-returns
 returns c =

@@ -3,8 +3,8 @@ use mathlib.Core.Path.{refl}
 use native.Mathlib.Nat.{le-trans, add-le-add, mul-le-mul, sub-le}
 use native.Mathlib.Omega.{arith}
 use Rattle.ranges.specs.Limits.{mostIdlePower, mostPower, mostSpan}
-use Rattle.planner.proofs.options.cost_of.Statement.{statement}
-use Rattle.planner.proofs.options.cost_of.Tie as tie
+use Rattle.offers.proofs.options.cost_of.Statement.{statement}
+use Rattle.offers.proofs.options.cost_of.Tie as tie
 
 returns : tie.Need-returns
 returns c = λ fits. absurd (omega arith)

@@ -11,9 +11,9 @@ ghost use Rattle.instance.specs.Held.{Sound, problemIn};
 ghost use Rattle.instance.specs.Node.{levelCount, taskAt, taskCount};
 ghost use Rattle.ranges.specs.Limits.{mostCycles};
 ghost use Rattle.lagrangian.specs.TimedCores.{timingWidth};
-ghost use Rattle.planner.specs.TimedOptions.{TimingsOffered, wordOf};
+ghost use Rattle.offers.specs.TimedOptions.{TimingsOffered, wordOf};
 
-pub(crate) const TIMINGS: usize = MOST_TASKS as usize * TIMING_WIDTH;
+pub const TIMINGS: usize = MOST_TASKS as usize * TIMING_WIDTH;
 
 // Word w of a task's timing.
 fn timing_word(inst: Instance, task: Task, w: usize) -> u32
@@ -49,7 +49,7 @@ fn fill_timing(inst: Instance, task: Task, i: usize, timings: &mut [u32; TIMINGS
 }
 
 // Writes the timing of every task.
-pub(crate) fn fill_timings(inst: Instance, timings: &mut [u32; TIMINGS])
+pub fn fill_timings(inst: Instance, timings: &mut [u32; TIMINGS])
     requires { ⌜ Sound inst ⌝ }
     requires { ⌜ TimingsOffered (problemIn inst) 0 (now timings) ⌝ }
     ensures { λ _. ⌜ TimingsOffered (problemIn inst) (taskCount (problemIn inst) * timingWidth) (now (timings .exit)) ⌝ }

@@ -7,10 +7,10 @@ use Rattle.instance.specs.Held.{problemIn, held-taskcount, held-task}
 use Rattle.instance.specs.Node.{noTask, taskCount}
 use Rattle.instance.specs.declared.Task.{Task}
 use Rattle.ranges.specs.Limits.{mostTasks}
-use Rattle.planner.specs.HeldOptions.{penalty-weight-at-most, jobs-at-most-span, held-refusal, held-must}
-use Rattle.planner.specs.OfferedOptions.{OptionsOffered, options-offered}
-use Rattle.planner.proofs.options.fill_options.Statement.{statement}
-use Rattle.planner.proofs.options.fill_options.Tie as tie
+use Rattle.offers.specs.HeldOptions.{penalty-weight-at-most, jobs-at-most-span, held-refusal, held-must}
+use Rattle.offers.specs.OfferedOptions.{OptionsOffered, options-offered}
+use Rattle.offers.proofs.options.fill_options.Statement.{statement}
+use Rattle.offers.proofs.options.fill_options.Tie as tie
 
 abbrev Inv-loop : tie.InvT-loop
 Inv-loop load₀ cost₀ refusal₀ must₀ inst i₀ load cost refusal must i =

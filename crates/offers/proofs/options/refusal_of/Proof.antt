@@ -3,8 +3,8 @@ use native.Mathlib.Nat.{mul-le-mul}
 use native.Mathlib.Omega.{arith}
 use borrow.Author.Needs.{needs}
 use Rattle.ranges.specs.Limits.{mostSpan, mayNotBeRefused}
-use Rattle.planner.proofs.options.refusal_of.Statement.{statement}
-use Rattle.planner.proofs.options.refusal_of.Tie as tie
+use Rattle.offers.proofs.options.refusal_of.Statement.{statement}
+use Rattle.offers.proofs.options.refusal_of.Tie as tie
 
 penalty-at-most : {missed penalty : ℕ} → missed ≤ mostSpan → penalty ≤ mayNotBeRefused → missed * penalty ≤ mostSpan * mayNotBeRefused
 penalty-at-most few within = mul-le-mul few within

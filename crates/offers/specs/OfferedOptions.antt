@@ -12,7 +12,7 @@ use borrow.Author.Count.{below-more}
 use Rattle.laws.specs.Below.{lt-or-le}
 use Rattle.ranges.specs.Limits.{mostLevels, mostTasks}
 use Rattle.instance.specs.Node.{Problem, levelCount, taskAt, taskCount, span}
-use Rattle.planner.specs.OptionsOf.{itemOf, offerOf, offeredCost}
+use Rattle.offers.specs.OptionsOf.{itemOf, offerOf, offeredCost}
 
 -- task i at level l: a load that no core takes is never chosen, and its cost does not matter
 pub record LevelOffered (p : Problem) (load cost : List ℕ) (i l : ℕ) : Type 0 where

@@ -4,9 +4,9 @@ use native.Mathlib.Omega.{arith}
 use Rattle.instance.specs.Held.{problemIn, held-task, held-taskcount}
 use Rattle.instance.specs.Node.{taskCount}
 use Rattle.lagrangian.specs.TimedCores.{timingWidth}
-use Rattle.planner.specs.TimedOptions.{TimingsOffered, next-place}
-use Rattle.planner.proofs.timings.fill_timings.Statement.{statement}
-use Rattle.planner.proofs.timings.fill_timings.Tie as tie
+use Rattle.offers.specs.TimedOptions.{TimingsOffered, next-place}
+use Rattle.offers.proofs.timings.fill_timings.Statement.{statement}
+use Rattle.offers.proofs.timings.fill_timings.Tie as tie
 
 abbrev Inv-loop : tie.InvT-loop
 Inv-loop timings₀ inst i₀ timings i = (i ≤ inst .taskcount) × TimingsOffered (problemIn inst) (i * timingWidth) timings

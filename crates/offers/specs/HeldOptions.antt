@@ -14,7 +14,7 @@ use Rattle.plan_rules.specs.HeldQuantities.{start-ticks-at-most}
 use Rattle.plan_rules.specs.Quantities.{ticks}
 use Rattle.plan_rules.specs.QuantityBounds.{mostTicks, ticks-at-most}
 use Rattle.core_tables.specs.AwakeCores.{aloneCost}
-use Rattle.planner.specs.OptionsOf.{jobsOf, loadAt, itemOf, offerOf, idleCost, offeredCost}
+use Rattle.offers.specs.OptionsOf.{jobsOf, loadAt, itemOf, offerOf, idleCost, offeredCost}
 
 module _ (inst : Instance) (s : Sound inst) where
   pub held-span-at-most : inst .span ≤ mostSpan

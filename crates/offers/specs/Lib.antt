@@ -1,0 +1,4 @@
+pub mod OptionsOf
+pub mod OfferedOptions
+pub mod HeldOptions
+pub mod TimedOptions
