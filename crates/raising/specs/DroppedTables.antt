@@ -6,7 +6,7 @@ use mathlib.Core.Path.{_≡_}
 use lib.ListN.{length, getD}
 use Rattle.assignment.specs.Words.{noCost}
 use Rattle.lagrangian.specs.declared.Timed.{Timed}
-use Rattle.timed_sets.specs.TickColumns.{NoneServes}
+use Rattle.timed_parts.specs.TickColumns.{NoneServes}
 
 -- a cost stays, or is none where no pattern serves the set
 pub data DroppedTo (timed : Timed) (timings : List ℕ) (set cost newCost : ℕ) : Type 0 where

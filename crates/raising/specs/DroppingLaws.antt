@@ -12,7 +12,7 @@ use lib.Seq.{getD-set-same, getD-set-other}
 use Rattle.laws.specs.Below.{lt-or-le}
 use Rattle.assignment.specs.Words.{noCost}
 use Rattle.lagrangian.specs.declared.Timed.{Timed}
-use Rattle.timed_sets.specs.TickColumns.{inSet, Includes, NoneServes}
+use Rattle.timed_parts.specs.TickColumns.{inSet, Includes, NoneServes}
 use Rattle.raising.specs.DroppedTables.{DroppedTo, stays, dropped, Dropped, NoneFrom, SetsFrom}
 
 -- a set that has none of the last m items, with some of these

@@ -17,7 +17,7 @@ use Rattle.search.specs.FoundLaws.{items-counted, told-is-best}
 use Rattle.search.specs.declared.Found.the-variants.{Cheapest, NoPlan}
 use Rattle.lagrangian.specs.TimedCores.{timedOptions}
 use Rattle.lagrangian.specs.Reached.{worthOn}
-use Rattle.timed_sets.specs.Nodes.{LowerTimed}
+use Rattle.timed_sets.specs.Found.{LowerTimed}
 use Rattle.values.specs.Worths.{worthOf}
 use Rattle.values.specs.declared.value.Worth.{Worth}
 use Rattle.raising.specs.ChargedOptions.{chargedOnce}

@@ -17,7 +17,7 @@ use Rattle.assignment.specs.Words.{noCost, valueOf, words-none, words-pair}
 use Rattle.partition.specs.MoveLaws.{weight-below}
 use Rattle.lagrangian.specs.Reached.{worthOn}
 use Rattle.lagrangian.specs.TimedCores.{timedOptions}
-use Rattle.timed_sets.specs.Nodes.{SmallWorth, LeastInTime, LowerInTime, FoundUpTo, is-least, is-limit}
+use Rattle.timed_sets.specs.Found.{SmallWorth, LeastInTime, LowerInTime, FoundUpTo, is-least, is-limit}
 use Rattle.timed_sets.specs.SetTheorem.{least-without-limit}
 use Rattle.values.specs.Worths.{worthOf}
 use Rattle.values.specs.declared.value.Worth.{Worth}

@@ -1,6 +1,6 @@
 // The entries of sets that cannot be served become none.
 use lagrangian::Timed;
-use timed_sets::is_servable;
+use timed_parts::is_servable;
 use values::NO_COST;
 use values::sets_of;
 ghost use Prim.Native.Nat.{_+_, _≤_};

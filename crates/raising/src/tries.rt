@@ -6,7 +6,7 @@ use lagrangian::Timed;
 use lagrangian::has_few_items;
 use lagrangian::relaxation_of;
 use lagrangian::size_of;
-use timed_sets::Bounded;
+use timed_parts::Bounded;
 use timed_sets::least_up_to;
 use values::MOST_ITEMS;
 use values::NO_COST;

@@ -12,7 +12,7 @@ use Rattle.assignment.specs.Limits.{mostItems}
 use Rattle.knapsack.specs.Offered.{entryOf}
 use Rattle.lagrangian.specs.TimedCores.{Timing, entryTicks, timingAt, timingIn}
 use Rattle.lagrangian.specs.declared.Timed.{Timed}
-use Rattle.timed_sets.specs.declared.Node.{Node}
+use Rattle.timed_parts.specs.declared.Node.{Node}
 
 -- items j and i have the same ticks of a job and the same cost at each of the first k levels
 pub record SameLevels (timings cost : List ℕ) (k j i : ℕ) : Type 0 where

@@ -25,7 +25,7 @@ use Rattle.lagrangian.specs.TimedCores.{entryTicks, patternTasks, timingAt, tim
 use Rattle.lagrangian.specs.declared.Timed.{Timed}
 use Rattle.timed_sets.specs.ChangedLaws.{changed-keeps, changed-key, changed-cost, changed-demand}
 use Rattle.timed_sets.specs.Exchange.{Partner, OutOfOrder, exchanged}
-use Rattle.timed_sets.specs.ServableLaws.{run-level-below}
+use Rattle.timed_parts.specs.ServableLaws.{run-level-below}
 
 -- products of two pairs, each in order, are least crosswise
 

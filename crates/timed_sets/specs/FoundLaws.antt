@@ -18,13 +18,14 @@ use Rattle.lagrangian.specs.TimedItems.{timedCore, TimedItems, TimedReady}
 use Rattle.lagrangian.specs.Reached.{OneCore, passing, Reached, whole, passed, runs}
 use Rattle.lagrangian.specs.TimedCores.{timingAt}
 use Rattle.lagrangian.specs.declared.Timed.{Timed}
-use Rattle.timed_sets.specs.WindowLaws.{too-long-is-not-reached}
+use Rattle.timed_parts.specs.WindowLaws.{too-long-is-not-reached}
 use Rattle.timed_sets.specs.Exchange.{NotRun, too-long, out-of-order, Partners}
-use Rattle.timed_sets.specs.Nodes.{ordered, Stands, passedOver, runAt, nextLevel, FoundFrom, NothingBefore, OneFrom}
-use Rattle.timed_sets.specs.NodeLaws.{stands-passed, stands-run, stands-next}
+use Rattle.timed_parts.specs.Nodes.{Stands, passedOver, runAt, nextLevel, NothingBefore}
+use Rattle.timed_sets.specs.Found.{ordered, FoundFrom, OneFrom}
+use Rattle.timed_parts.specs.NodeLaws.{stands-passed, stands-run, stands-next}
 use Rattle.timed_sets.specs.OrderLaws.{out-of-order-is-not-reached}
 use Rattle.timed_sets.specs.ReachedLaws.{nothing-before, known-lowered, passing-reached, pass-over, no-level-left, level-by-level}
-use Rattle.timed_sets.specs.declared.Node.{Node}
+use Rattle.timed_parts.specs.declared.Node.{Node}
 
 -- the first item is in the set: its flag is set
 data Flagged (half : ℕ) (T : List Bool) : Type 0 where

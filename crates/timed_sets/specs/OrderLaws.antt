@@ -23,9 +23,10 @@ use Rattle.lagrangian.specs.TimedCores.{Timing, entryTicks, timingsOf}
 use Rattle.lagrangian.specs.declared.Timed.{Timed}
 use Rattle.timed_sets.specs.Exchange.{Partners, OutOfOrder, LevelOutOfOrder, isOutOfOrder, isInOrder, exchanged}
 use Rattle.timed_sets.specs.ExchangeLaws.{exchanged-keeps, exchanged-cost, exchanged-key, exchanged-admitted}
-use Rattle.timed_sets.specs.Nodes.{ordered, Stands}
+use Rattle.timed_parts.specs.Nodes.{Stands}
+use Rattle.timed_sets.specs.Found.{ordered}
 use Rattle.timed_sets.specs.PartnerLaws.{digit-of-key}
-use Rattle.timed_sets.specs.declared.Node.{Node}
+use Rattle.timed_parts.specs.declared.Node.{Node}
 
 -- the test and what it says
 

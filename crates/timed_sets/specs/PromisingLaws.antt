@@ -24,9 +24,10 @@ use Rattle.lagrangian.specs.Reached.{Reached}
 use Rattle.lagrangian.specs.TimedCores.{timingsOf}
 use Rattle.lagrangian.specs.declared.Timed.{Timed}
 use Rattle.lagrangian.specs.FrontKeyLaws.{power-above-0}
-use Rattle.timed_sets.specs.BoundLaws.{unflagged, left-out-number, left-out-admitted, bound-below}
-use Rattle.timed_sets.specs.Nodes.{LowerTimed, NothingBefore, Stands}
-use Rattle.timed_sets.specs.declared.Node.{Node}
+use Rattle.timed_parts.specs.BoundLaws.{unflagged, left-out-number, left-out-admitted, bound-below}
+use Rattle.timed_parts.specs.Nodes.{NothingBefore, Stands}
+use Rattle.timed_sets.specs.Found.{LowerTimed}
+use Rattle.timed_parts.specs.declared.Node.{Node}
 
 module _ {timed : Timed} {timings cost lowCosts lowKeys q : List ℕ} {T : List Bool} {node : Node}
     (table : LowerTimed timed timings cost lowCosts lowKeys) (stands : Stands timed timings cost node q T) where

@@ -2,8 +2,8 @@
 use Prim.Native.Nat.{ℕ}
 use mathlib.Core.List.{List}
 use Rattle.lagrangian.specs.Lagrangians.{Relaxes}
-use Rattle.timed_sets.specs.Nodes.{LowerTimed}
-use Rattle.timed_sets.specs.declared.Bounded.{Bounded}
+use Rattle.timed_sets.specs.Found.{LowerTimed}
+use Rattle.timed_parts.specs.declared.Bounded.{Bounded}
 
 -- what leaves parts of patterns out of a search: a table of lower values, and a relaxation
 pub record BoundsHold (bounded : Bounded) (timings cost lowCosts lowKeys : List ℕ) : Type 0 where

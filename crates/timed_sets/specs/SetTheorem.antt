@@ -27,11 +27,12 @@ use Rattle.lagrangian.specs.ReachedPatterns.{reached-pattern, pattern-reached}
 use Rattle.lagrangian.specs.TimedCores.{timedOptions, timingsOf}
 use Rattle.lagrangian.specs.declared.Timed.{Timed}
 use Rattle.timed_sets.specs.Exchange.{Partners}
-use Rattle.timed_sets.specs.Nodes.{ordered, Stands, FoundFrom, SmallWorth, LeastInTime, LowerInTime, FoundUpTo, is-least, is-limit, noneYet}
-use Rattle.timed_sets.specs.NodeLaws.{stands-at-start}
+use Rattle.timed_parts.specs.Nodes.{Stands}
+use Rattle.timed_sets.specs.Found.{ordered, FoundFrom, SmallWorth, LeastInTime, LowerInTime, FoundUpTo, is-least, is-limit, noneYet}
+use Rattle.timed_parts.specs.NodeLaws.{stands-at-start}
 use Rattle.timed_sets.specs.OrderLaws.{OrderedNoLater, some-in-order}
 use Rattle.timed_sets.specs.LeastReached.{LeastFrom}
-use Rattle.timed_sets.specs.declared.Node.{Node}
+use Rattle.timed_parts.specs.declared.Node.{Node}
 
 -- offers of the same costs
 data SameCosts : List Offer → List Offer → Type 0 where

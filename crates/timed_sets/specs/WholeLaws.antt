@@ -14,9 +14,10 @@ use Rattle.values.specs.declared.value.Worth.{Worth}
 use Rattle.lagrangian.specs.TimedItems.{timedCore}
 use Rattle.lagrangian.specs.Reached.{worthOn}
 use Rattle.lagrangian.specs.declared.Timed.{Timed}
-use Rattle.timed_sets.specs.Nodes.{Stands, FoundFrom, SmallWorth, worthAt}
+use Rattle.timed_parts.specs.Nodes.{Stands}
+use Rattle.timed_sets.specs.Found.{FoundFrom, SmallWorth, worthAt}
 use Rattle.timed_sets.specs.ReachedLaws.{whole-met, whole-unmet}
-use Rattle.timed_sets.specs.declared.Node.{Node}
+use Rattle.timed_parts.specs.declared.Node.{Node}
 
 module _ {timed : Timed} {timings cost : List ℕ} {node : Node} (few : timed .items ≤ mostItems) (whole : node .item ≡ timed .items) where
   its-worth : {q : List ℕ} {T : List Bool} → Stands timed timings cost node q T → worthOf (worthAt node) ≡ worthOn (timedCore timed timings cost) q

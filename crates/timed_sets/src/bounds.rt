@@ -1,9 +1,9 @@
 // What leaves a part of a pattern out of the search.
-use crate::Bounded;
-use crate::Node;
-use crate::demand_rows::is_overdue;
-use crate::dual_bound::relaxed_is_cheaper;
 use lagrangian::Timed;
+use timed_parts::Bounded;
+use timed_parts::Node;
+use timed_parts::is_overdue;
+use timed_parts::relaxed_is_cheaper;
 use values::NO_COST;
 use values::Worth;
 use values::keys_of;
@@ -15,9 +15,10 @@ ghost use mathlib.Core.Logic.{_⊎_};
 ghost use Rattle.assignment.specs.Words.{noCost};
 ghost use Rattle.lagrangian.specs.TimedItems.{TimedReady};
 ghost use Rattle.lagrangian.specs.PriceColumns.{mostTicks};
-ghost use Rattle.timed_sets.specs.DemandRows.{DemandRows};
+ghost use Rattle.timed_parts.specs.DemandRows.{DemandRows};
 ghost use Rattle.timed_sets.specs.SearchBounds.{BoundsHold};
-ghost use Rattle.timed_sets.specs.Nodes.{LowerTimed, NothingBefore, Stands};
+ghost use Rattle.timed_parts.specs.Nodes.{NothingBefore, Stands};
+ghost use Rattle.timed_sets.specs.Found.{LowerTimed};
 
 // Whether a comes before b.
 fn comes_first(a: Worth, b: Worth) -> bool

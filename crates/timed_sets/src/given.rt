@@ -1,12 +1,12 @@
 // What a given pattern is worth.
-use crate::Node;
-use crate::nodes::at_level;
-use crate::nodes::passed_over;
-use crate::nodes::run_at;
 use crate::search::with_whole;
 use lagrangian::TIMING_WIDTH;
 use lagrangian::Timed;
 use lagrangian::is_within_window;
+use timed_parts::Node;
+use timed_parts::at_level;
+use timed_parts::passed_over;
+use timed_parts::run_at;
 use values::KEY_BASE;
 use values::NO_COST;
 use values::STRIDE;
@@ -20,7 +20,8 @@ ghost use Prim.Native.Nat.{ℕ, _/_, _%_, _^_, _≤_};
 ghost use Rattle.assignment.specs.Keys.{keyBase};
 ghost use Rattle.assignment.specs.Limits.{mostItems};
 ghost use Rattle.lagrangian.specs.TimedItems.{TimedReady};
-ghost use Rattle.timed_sets.specs.Nodes.{OneFrom, SmallWorth, Stands};
+ghost use Rattle.timed_parts.specs.Nodes.{Stands};
+ghost use Rattle.timed_sets.specs.Found.{OneFrom, SmallWorth};
 
 const NONE: Worth = Worth {
     cost: NO_COST,

@@ -1,49 +1,26 @@
 // The least value of one set of items on a core whose jobs are due at given ticks: depth first over the items of the set and their
 // levels. Items are offered at what they cost alone.
 mod bounds;
-mod columns;
-mod demand_rows;
-mod dual_bound;
 mod given;
-mod nodes;
 mod partners;
 mod refits;
 mod search;
-mod servable;
 
-use demand_rows::ROW_WORDS;
-use demand_rows::fill_rows;
 use given::worth_along;
-use lagrangian::Lagrangian;
-use lagrangian::Timed;
 use lagrangian::cheapest_key;
 use partners::partners_in;
 use search::least_from;
-pub use servable::is_servable;
+use timed_parts::Bounded;
+use timed_parts::Node;
+use timed_parts::ROW_WORDS;
+use timed_parts::fill_rows;
 use values::MOST_ITEMS;
 use values::Worth;
 use values::lesser;
 ghost use Prim.Native.Nat.{_^_, _<_};
 ghost use Rattle.lagrangian.specs.TimedItems.{TimedReady};
 ghost use Rattle.timed_sets.specs.SearchBounds.{BoundsHold};
-ghost use Rattle.timed_sets.specs.Nodes.{SmallWorth, FoundUpTo};
-
-// A part of a pattern: the items before `item` have their level, those of the set `rest` are still to have one, `item` from
-// `level` on. What the part costs, its key, and the ticks of a job of each item.
-struct Node {
-    item: usize,
-    level: usize,
-    rest: usize,
-    cost: u64,
-    key: u64,
-    ticks: [u32; MOST_ITEMS],
-}
-
-// What leaves parts out of a search beside the table of lower values.
-pub struct Bounded {
-    pub timed: Timed,
-    pub relaxed: Lagrangian,
-}
+ghost use Rattle.timed_sets.specs.Found.{SmallWorth, FoundUpTo};
 
 // The least value of running exactly the items of a set, by its number, with every job done in time; or the limit `most`, where nothing
 // comes before it. The search begins with the pattern of the levels that are cheapest by the relaxation, where the core admits it.

@@ -1,13 +1,13 @@
 // A relaxation for the patterns that go on from a node: what was chosen for the whole set bounds them less and less well, the more
 // items have their level.
-use crate::Bounded;
-use crate::Node;
 use lagrangian::FEW_ITEMS;
 use lagrangian::Lagrangian;
 use lagrangian::Part;
 use lagrangian::Timed;
 use lagrangian::has_few_items;
 use lagrangian::relaxation_from;
+use timed_parts::Bounded;
+use timed_parts::Node;
 ghost use mathlib.Core.Bool.{Bool, true};
 ghost use mathlib.Core.List.{List};
 ghost use mathlib.Core.Path.{_≡_};
@@ -15,7 +15,7 @@ ghost use Prim.Native.Nat.{ℕ, _≤_, _<_};
 ghost use Rattle.assignment.specs.Limits.{mostItems};
 ghost use Rattle.lagrangian.specs.Lagrangians.{Relaxes};
 ghost use Rattle.lagrangian.specs.TimedItems.{TimedReady};
-ghost use Rattle.timed_sets.specs.Nodes.{Stands};
+ghost use Rattle.timed_parts.specs.Nodes.{Stands};
 
 // Whether the weights are to be fitted to the node: once for all levels of the next item, and not where few items are open.
 pub(crate) fn is_refit_due(bounded: Bounded, node: Node) -> bool

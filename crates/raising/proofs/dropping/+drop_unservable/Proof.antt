@@ -14,7 +14,7 @@ use Rattle.raising.proofs.dropping.drop_unservable.Reads as drop-unserv
 use Rattle.raising.proofs.dropping.drop_unservable.Kinds as drop-unservable-kinds
 use Rattle.raising.proofs.dropping.+drop_unservable.Lts-drop_unservable as drop-unservable-lts
 use Rattle.raising.proofs.dropping.drop_all.Reads as drop-all-reads
-use Rattle.timed_sets.proofs.is_servable.Reads as is-servable-reads
+use Rattle.timed_parts.proofs.is_servable.Reads as is-servable-reads
 use Rattle.values.proofs.sets_of.Reads as sets-of-reads
 use Rattle.raising.proofs.dropping.+drop_unservable.{statement}
 use Rattle.raising.proofs.dropping.+drop_unservable.Tie.{close}

@@ -8,7 +8,7 @@ use borrow.Author.Tests.{leb-true, not-false}
 use Rattle.assignment.specs.Words.{words-none}
 use Rattle.lagrangian.specs.TimedCores.{timingAt}
 use Rattle.timed_sets.specs.FoundLaws.{passed-stands, one-passed, one-whole, run-stands, one-run}
-use Rattle.timed_sets.specs.NodeLaws.{item-below, small-node, stands-at-level}
+use Rattle.timed_parts.specs.NodeLaws.{item-below, small-node, stands-at-level}
 use Rattle.timed_sets.specs.SetTheorem.{none-is-small}
 use Rattle.timed_sets.specs.WholeLaws.{small-at}
 use borrow.Fn.Kinds.{In}
@@ -17,10 +17,10 @@ use Rattle.timed_sets.proofs.given.worth_along.Reads as worth-along
 use Rattle.timed_sets.proofs.given.worth_along.Kinds as worth-along-kinds
 use Rattle.timed_sets.proofs.given.+worth_along.Lts-worth_along as worth-along-lts
 use Rattle.timed_sets.proofs.given.choice_at.Reads as choice-at-reads
-use Rattle.timed_sets.proofs.nodes.at_level.Reads as at-level-reads
+use Rattle.timed_parts.proofs.at_level.Reads as at-level-reads
 use Rattle.lagrangian.proofs.is_within_window.Reads as is-within-window-reads
-use Rattle.timed_sets.proofs.nodes.passed_over.Reads as passed-over-reads
-use Rattle.timed_sets.proofs.nodes.run_at.Reads as run-at-reads
+use Rattle.timed_parts.proofs.passed_over.Reads as passed-over-reads
+use Rattle.timed_parts.proofs.run_at.Reads as run-at-reads
 use Rattle.timed_sets.proofs.search.with_whole.Reads as with-whole-reads
 use Rattle.values.proofs.sets_of.Reads as sets-of-reads
 use Rattle.timed_sets.proofs.given.+worth_along.{statement}

@@ -4,7 +4,7 @@ use native.Mathlib.Omega.{arith}
 use borrow.Author.Tests.{not-true, not-false}
 use Rattle.lagrangian.specs.TimedCores.{timingAt}
 use Rattle.timed_sets.specs.FoundLaws.{found-nothing, passed-stands, found-passed, found-none, found-later, run-stands, found-both}
-use Rattle.timed_sets.specs.NodeLaws.{item-below, small-node, stands-next}
+use Rattle.timed_parts.specs.NodeLaws.{item-below, small-node, stands-next}
 use Rattle.timed_sets.specs.PartnerLaws.{partner-within}
 use Rattle.timed_sets.specs.WholeLaws.{small-at}
 use borrow.Fn.Kinds.{In}
@@ -13,9 +13,9 @@ use Rattle.timed_sets.proofs.search.least_from.Reads as least-from
 use Rattle.timed_sets.proofs.search.least_from.Kinds as least-from-kinds
 use Rattle.timed_sets.proofs.search.+least_from.Lts-least_from as least-from-lts
 use Rattle.timed_sets.proofs.bounds.is_promising.Reads as is-promising-reads
-use Rattle.timed_sets.proofs.nodes.next_level.Reads as next-level-reads
-use Rattle.timed_sets.proofs.nodes.passed_over.Reads as passed-over-reads
-use Rattle.timed_sets.proofs.nodes.run_at.Reads as run-at-reads
+use Rattle.timed_parts.proofs.next_level.Reads as next-level-reads
+use Rattle.timed_parts.proofs.passed_over.Reads as passed-over-reads
+use Rattle.timed_parts.proofs.run_at.Reads as run-at-reads
 use Rattle.timed_sets.proofs.partners.may_run.Reads as may-run-reads
 use Rattle.timed_sets.proofs.refits.is_refit_due.Reads as is-refit-due-reads
 use Rattle.timed_sets.proofs.refits.refitted.Reads as refitted-reads

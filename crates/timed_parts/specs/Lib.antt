@@ -1,0 +1,11 @@
+pub mod Nodes
+pub mod TickColumns
+pub mod DemandRows
+pub mod NodeLaws
+pub mod WindowLaws
+pub mod DualBoundLaws
+pub mod ColumnLaws
+pub mod BoundLaws
+pub mod ServableLaws
+pub mod DemandRowLaws
+pub mod OverdueLaws

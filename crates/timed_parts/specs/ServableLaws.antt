@@ -1,0 +1,139 @@
+-- Where the items of a set cannot be served at their fewest ticks, no pattern of a set that has them is admitted.
+use Prim.Native.Nat.{ℕ, zero, suc, _+_, _-_, _*_, _/_, _%_, _^_, _≤_, _<_}
+use mathlib.Core.Bool.{Bool, true, false, cond}
+use mathlib.Core.List.{List, _∷_}
+use mathlib.Core.Path.{_≡_, refl, sym, ap, _∙_}
+use native.Mathlib.Nat.{div-eq-of-lt, le-refl, le-trans, mul-add-div-right, zero-add, pow-suc}
+use native.Mathlib.Omega.{arith}
+use borrow.Author.Count.{below-more}
+use lib.Dec.{eqb}
+use lib.ListN.{length, getD, set, replicate, length-set}
+use lib.Pow.{pow-add, pow-pos}
+use lib.Seq.{getD-set-same, getD-set-other}
+use Rattle.laws.specs.Truth.{false-not-true, not-true-is-false}
+use Rattle.dispatch.specs.Rows.{CoreTasks}
+use Rattle.demand.specs.UnmetTicks.{UnmetTick}
+use Rattle.demand.specs.UnmetTickLaws.{unmet-tick-decides}
+use Rattle.assignment.specs.Keeping.{Keeps, done, refused, kept}
+use Rattle.assignment.specs.Limits.{mostItems}
+use Rattle.assignment.specs.SetLaws.{setNumber-below}
+use Rattle.assignment.specs.Sets.{setNumber}
+use Rattle.lagrangian.specs.AdmittedLaws.{counted}
+use Rattle.lagrangian.specs.DemandBounds.{SameTasks, same-tasks-meet}
+use Rattle.lagrangian.specs.TimedItems.{TimedItems, timedCore}
+use Rattle.lagrangian.specs.PatternLaws.{timing-of}
+use Rattle.lagrangian.specs.TimedCores.{entryTicks, patternTasks, timingAt, timingIn, timingsOf, timingWidth}
+use Rattle.lagrangian.specs.declared.Timed.{Timed}
+use Rattle.timed_parts.specs.BoundLaws.{fewer-ticks-meet}
+use Rattle.timed_parts.specs.TickColumns.{columnJobs, FewestTicks, inSet, FewestColumn, Includes, NoneServes}
+
+-- the first item's bit does not show in those of the others
+first-bit-off : (b : Bool) (n i r : ℕ) → i < n → (cond b (2 ^ n) 0 + r) / 2 ^ (n - 1 - i) % 2 ≡ r / 2 ^ (n - 1 - i) % 2
+first-bit-off false n i r l = rw zero-add refl
+first-bit-off true n i r l =
+    let m = n - 1 - i in
+    let all : n ≡ suc i + m = omega arith in
+    let power : 2 ^ n ≡ 2 ^ suc i * 2 ^ m = ap (λ (k : ℕ). 2 ^ k) all ∙ pow-add 2 (suc i) m in
+    let divided : (2 ^ n + r) / 2 ^ m ≡ 2 ^ suc i + r / 2 ^ m = rw power (mul-add-div-right (pow-pos m) (2 ^ suc i) r) in
+    rw divided (omega (arith, pow-suc 2 i))
+
+-- an item that a pattern does not run is not in its set
+pub not-run-not-in-set : {levels : ℕ} (n : ℕ) {S : List Bool} {pattern : List ℕ} → Keeps levels S pattern → length S ≡ n →
+    (i : ℕ) → i < n → getD pattern i 0 ≡ 0 → inSet n (setNumber n S) i ≡ 0
+unfolding setNumber
+not-run-not-in-set zero keeps of-items i l out = absurd (omega arith)
+not-run-not-in-set (suc n) done of-items i l out = absurd (omega arith)
+not-run-not-in-set (suc n) {S = false ∷ S} (refused keeps) of-items zero l out =
+    let all : suc n - 1 - 0 ≡ n = omega arith in
+    rw (zero-add, all, div-eq-of-lt (setNumber-below n S)) refl
+not-run-not-in-set (suc n) (kept d h keeps) of-items zero l out = absurd (omega arith)
+not-run-not-in-set (suc n) {S = false ∷ S} (refused keeps) of-items (suc i) l out =
+    let same : suc n - 1 - suc i ≡ n - 1 - i = omega arith in
+    rw same (first-bit-off false n i (setNumber n S) (omega arith) ∙ not-run-not-in-set n keeps (omega arith) i (omega arith) out)
+not-run-not-in-set (suc n) {S = true ∷ S} (kept d h keeps) of-items (suc i) l out =
+    let same : suc n - 1 - suc i ≡ n - 1 - i = omega arith in
+    rw same (first-bit-off true n i (setNumber n S) (omega arith) ∙ not-run-not-in-set n keeps (omega arith) i (omega arith) out)
+
+pub run-level-below : {levels : ℕ} {S : List Bool} {pattern : List ℕ} → Keeps levels S pattern → (i l : ℕ) → getD pattern i 0 ≡ suc l → l < levels
+run-level-below done i l is = absurd (omega arith)
+run-level-below (refused keeps) zero l is = absurd (omega arith)
+run-level-below (refused keeps) (suc i) l is = run-level-below keeps i l is
+run-level-below (kept d h keeps) zero l is = omega arith
+run-level-below (kept d h keeps) (suc i) l is = run-level-below keeps i l is
+
+module _ {timings : List ℕ} {i : ℕ} where
+  pub at-first-level : FewestTicks timings i 1 (getD timings (i * timingWidth + 2) 0)
+  unfolding timingAt
+  at-first-level =
+      record {
+        at-most = λ l h.
+            let first : i * timingWidth + 2 + l ≡ i * timingWidth + 2 = omega arith in
+            rw first (le-refl (getD timings (i * timingWidth + 2) 0));
+      }
+
+  pub at-one-level-more : {k ticks r : ℕ} → FewestTicks timings i k ticks → r ≤ ticks → r ≤ getD timings (i * timingWidth + 2 + k) 0 →
+      FewestTicks timings i (k + 1) r
+  unfolding timingAt
+  at-one-level-more {k} {r = r} so-far fewer here =
+      record { at-most = below-more (λ l. r ≤ timingAt timings i .ticks l) k (λ l h. le-trans fewer (so-far .at-most l h)) here }
+
+module _ {timed : Timed} {x : ℕ} {timings : List ℕ} where
+  pub no-column-yet : FewestColumn timed x timings 0 (replicate mostItems 0)
+  no-column-yet = record { places = refl; fewest = λ i l. absurd (omega arith); others = λ i l out. absurd (omega arith) }
+
+  pub one-item-more : {k : ℕ} {column : List ℕ} {ticks : ℕ} → FewestColumn timed x timings k column → k < mostItems →
+      FewestTicks timings k (timed .levels) ticks → (inSet (timed .items) x k ≡ 0 → ticks ≡ 0) → FewestColumn timed x timings (k + 1) (set column k ticks)
+  one-item-more {k} {column} {ticks} so-far room few out =
+      let here = getD-set-same column k ticks 0 (omega (arith, so-far .places)) in
+      record {
+        places = length-set column k ticks ∙ so-far .places;
+        fewest =
+            below-more (λ i. FewestTicks timings i (timed .levels) (getD (set column k ticks) i 0)) k
+            (λ i l. rw (getD-set-other column k i ticks 0 (λ same. omega arith)) (so-far .fewest i l))
+            (rw here few);
+        others =
+            below-more (λ i. inSet (timed .items) x i ≡ 0 → getD (set column k ticks) i 0 ≡ 0) k
+            (λ i l. rw (getD-set-other column k i ticks 0 (λ same. omega arith)) (so-far .others i l))
+            (rw here out);
+      }
+
+  module _ (ready : TimedItems timed timings) {column : List ℕ} (few : FewestColumn timed x timings (timed .items) column) where
+    no-fewer : (S : List Bool) → length S ≡ timed .items → Includes (timed .items) (setNumber (timed .items) S) x → {pattern : List ℕ} →
+        Keeps (timed .levels) S pattern → (i : ℕ) → i < timed .items →
+        getD column i 0 ≤ entryTicks (timingIn (timingsOf timings (timed .items)) i) (getD pattern i 0)
+    unfolding entryTicks
+    no-fewer S of-items includes {pattern} keeps i l = go (getD pattern i 0) refl
+      where
+        go : (e : ℕ) → getD pattern i 0 ≡ e → getD column i 0 ≤ entryTicks (timingIn (timingsOf timings (timed .items)) i) e
+        go zero out =
+            omega (arith, few .others i l (includes .out-of-both i l (not-run-not-in-set (timed .items) keeps of-items i l out)))
+        go (suc level) is =
+            rw (timing-of timings (timed .items) i l) (few .fewest i l .at-most level (run-level-below keeps i level is))
+
+    -- the pattern's tasks, with the fewest ticks
+    abbrev fewestTasks : List ℕ → CoreTasks
+    fewestTasks pattern =
+        let tasks = patternTasks (timingsOf timings (timed .items)) pattern in
+        record { size = tasks .size; period = tasks .period; window = tasks .window; ticks = λ i. getD column i 0 }
+
+    same-jobs : (pattern : List ℕ) → SameTasks (fewestTasks pattern) (columnJobs timed timings column)
+    unfolding columnJobs patternTasks
+    same-jobs pattern =
+        record {
+          size = counted ready;
+          period = λ i l. ap (λ (t : _). t .period) (timing-of timings (timed .items) i (rw (counted ready) at l));
+          window = λ i l. ap (λ (t : _). t .window) (timing-of timings (timed .items) i (rw (counted ready) at l));
+          ticks = λ i l. refl;
+        }
+
+    pub none-serves : {r : ℕ} → UnmetTick (columnJobs timed timings column) (timed .span) r → eqb r 0 ≡ false → NoneServes timed x timings
+    unfolding patternTasks
+    none-serves {r} answer unmet =
+        record {
+          refused = λ S of-items includes cost pattern keeps.
+              not-true-is-false (timedCore timed timings cost .admits pattern) (λ met.
+              false-not-true (sym (unmet-tick-decides _ (timed .span) r answer) ∙ unmet)
+              (sym (same-tasks-meet (fewestTasks pattern) (columnJobs timed timings column) (same-jobs pattern) (timed .span))
+              ∙ fewer-ticks-meet (fewestTasks pattern) (patternTasks (timingsOf timings (timed .items)) pattern) refl (λ i. refl) (λ i. refl)
+              (λ i l. no-fewer S of-items includes keeps i (rw (counted ready) at l)) (timed .span) met));
+        }
