@@ -3,7 +3,7 @@ use Prim.Native.Nat.{ℕ, _≤_, _<_}
 use mathlib.Core.Bool.{Bool}
 use mathlib.Core.List.{List}
 use mathlib.Core.Logic.{_⊎_, inl, inr}
-use mathlib.Core.Path.{_≡_, refl, ap, _∙_}
+use mathlib.Core.Path.{_≡_, refl, ap}
 use native.Mathlib.Omega.{arith}
 use lib.ListN.{length, getD}
 use Rattle.laws.specs.Truth.{false-not-true}
@@ -12,25 +12,10 @@ use Rattle.assignment.specs.Sets.{setNumber, tableAt}
 use Rattle.assignment.specs.Values.{Value, none, AtMost, Least}
 use Rattle.assignment.specs.Words.{noCost, valueOf, words-none}
 use Rattle.lagrangian.specs.TimedCores.{timedOptions}
-use Rattle.lagrangian.specs.declared.Timed.{Timed}
 use Rattle.timed_parts.specs.TickColumns.{NoneServes}
-use Rattle.raising.specs.DroppedTables.{DroppedTo, stays, dropped, Dropped}
+use Rattle.set_tables.specs.DroppedTables.{DroppedTo, stays, dropped, Dropped}
 use Rattle.raising.specs.TimedSites.{timedOf, coreOf, SiteRaised}
 use Rattle.raising.specs.declared.Site.{Site}
-
-module _ {timed : Timed} {timings : List ℕ} where
-  pub none-dropped : {costs : List ℕ} → Dropped timed timings costs costs
-  none-dropped = record { places = refl; cost = λ y. stays refl }
-
-  pub dropped-after : {before between after : List ℕ} → Dropped timed timings before between → Dropped timed timings between after →
-      Dropped timed timings before after
-  dropped-after {before} {between} {after} first second =
-      record { places = second .places ∙ first .places; cost = λ y. go (first .cost y) (second .cost y) }
-    where
-      go : {y a b c : ℕ} → DroppedTo timed timings y a b → DroppedTo timed timings y b c → DroppedTo timed timings y a c
-      go either (dropped unserved gone) = dropped unserved gone
-      go (stays same) (stays again) = stays (again ∙ same)
-      go (dropped unserved gone) (stays again) = dropped unserved (again ∙ gone)
 
 module _ (site : Site) {timings : List ℕ} (cost : List ℕ) {costs keys left : List ℕ} (raised : SiteRaised site timings cost costs keys left)
     {after : List ℕ} (drop : Dropped (timedOf site) timings costs after) where

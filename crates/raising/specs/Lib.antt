@@ -1,6 +1,5 @@
 pub mod ExactTables
 pub mod ChargedOptions
-pub mod CoreSets
 pub mod RaisedTables
 pub mod RaisingLaws
 pub mod Rounds
@@ -10,10 +9,6 @@ pub mod LowestTables
 pub mod TimedSites
 pub mod SiteLaws
 pub mod StartTables
-pub mod LiftedTables
-pub mod LiftingLaws
 pub mod LiftedLaws
 pub mod TriedLaws
-pub mod DroppedTables
 pub mod DroppedLaws
-pub mod DroppingLaws

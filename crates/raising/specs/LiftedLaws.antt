@@ -22,7 +22,7 @@ use Rattle.lagrangian.specs.Lagrangians.{leastPriced, Relaxes}
 use Rattle.lagrangian.specs.TimedCores.{timedOptions}
 use Rattle.lagrangian.specs.declared.Lagrangian.{Lagrangian}
 use Rattle.raising.specs.LeastKeys.{weight-digits, weight-keyed, weight-first}
-use Rattle.raising.specs.LiftedTables.{LiftedTo, stays, lifted, LiftReady, LiftedBelow}
+use Rattle.set_tables.specs.LiftedTables.{LiftedTo, stays, lifted, LiftReady, LiftedBelow}
 use Rattle.raising.specs.RaisedTables.{Raised}
 use Rattle.raising.specs.RaisingLaws.{least-real}
 use Rattle.raising.specs.TimedSites.{timedOf, coreOf, SiteReady, SiteRaised}

@@ -34,7 +34,7 @@ use Rattle.values.specs.Items.{itemsOf}
 use Rattle.values.specs.Worths.{worthOf}
 use Rattle.values.specs.declared.value.Worth.{Worth}
 use Rattle.raising.specs.ChargedOptions.{withItems, chargedOnce, CostsCounted, least-charged, lower-charged}
-use Rattle.raising.specs.CoreSets.{coreSetNumber}
+use Rattle.set_tables.specs.CoreSets.{coreSetNumber}
 use Rattle.raising.specs.ExactTables.{exactTable, exact-core-table, least-unique}
 use Rattle.raising.specs.RaisedTables.{Raised}
 

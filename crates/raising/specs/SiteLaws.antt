@@ -21,7 +21,7 @@ use Rattle.timed_sets.specs.Found.{LowerTimed}
 use Rattle.values.specs.Worths.{worthOf}
 use Rattle.values.specs.declared.value.Worth.{Worth}
 use Rattle.raising.specs.ChargedOptions.{chargedOnce}
-use Rattle.raising.specs.CoreSets.{coreSetNumber}
+use Rattle.set_tables.specs.CoreSets.{coreSetNumber}
 use Rattle.raising.specs.Rounds.{RefusalsOffered, RoundReady, RoundFound, found-key-below, round-ready, none-found, settled-found}
 use Rattle.raising.specs.TimedSites.{shapeOf, timedOf, coreOf, siteOptions, SiteReady, SiteRaised, SetTried, SetsRaised}
 use Rattle.raising.specs.declared.Site.{Site}

@@ -19,7 +19,7 @@ use Rattle.lagrangian.specs.declared.Timed.{Timed}
 use Rattle.values.specs.Items.{itemsOf}
 use Rattle.values.specs.declared.value.Worth.{Worth}
 use Rattle.raising.specs.ChargedOptions.{withItems, chargedOnce, CostsCounted}
-use Rattle.raising.specs.CoreSets.{coreSetNumber}
+use Rattle.set_tables.specs.CoreSets.{coreSetNumber}
 use Rattle.raising.specs.RaisedTables.{mostTries, Raised, triesLeft}
 use Rattle.raising.specs.declared.Site.{Site}
 use Rattle.raising.specs.declared.rounds.Candidate.{Candidate}

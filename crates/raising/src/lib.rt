@@ -1,10 +1,7 @@
 // The best plan where jobs may be due before their period's end. Partition and keeping search a table of lower values; the
 // entries of the plan that they find are raised, until all of them are exact.
-mod dropping;
-mod lifting;
 mod near;
 mod rounds;
-mod sets;
 mod start;
 mod tries;
 

@@ -1,13 +1,13 @@
 // The rounds of the search.
 use crate::Site;
 use crate::near::raise_near;
-use crate::sets::core_set;
 use crate::tries::TRIES;
 use crate::tries::try_set;
 use core_tables::charge_idle_once;
 use partition::fill_weights;
 use search::Shape;
 use search::least_of_table;
+use set_tables::core_set;
 use values::MOST_SETS;
 use values::NO_COST;
 use values::Worth;

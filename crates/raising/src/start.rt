@@ -1,11 +1,11 @@
 // The table that the rounds begin with.
 use crate::Site;
-use crate::dropping::drop_unservable;
-use crate::lifting::lift_all;
 use core_tables::fill_sizes;
 use lagrangian::Timed;
 use lagrangian::relaxation_at;
 use partition::fill_weights;
+use set_tables::drop_unservable;
+use set_tables::lift_all;
 use values::MOST_SETS;
 use values::sets_of;
 ghost use mathlib.Core.Path.{_≡_};

@@ -1,11 +1,11 @@
 // The search of a set up to a limit.
 use crate::Site;
-use crate::lifting::MOST_CORE_COST;
-use crate::lifting::lift_all;
 use lagrangian::Timed;
 use lagrangian::has_few_items;
 use lagrangian::relaxation_of;
 use lagrangian::size_of;
+use set_tables::MOST_CORE_COST;
+use set_tables::lift_all;
 use timed_parts::Bounded;
 use timed_sets::least_up_to;
 use values::MOST_ITEMS;

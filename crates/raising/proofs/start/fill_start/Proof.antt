@@ -3,7 +3,7 @@ use native.Mathlib.Omega.{arith}
 use borrow.Author.Needs.{needs}
 use Rattle.partition.specs.Tables.{room-for-sets}
 use Rattle.raising.specs.DroppedLaws.{site-dropped}
-use Rattle.raising.specs.DroppingLaws.{all-sets}
+use Rattle.set_tables.specs.DroppingLaws.{all-sets}
 use Rattle.raising.specs.LiftedLaws.{ready-to-lift, site-lifted}
 use Rattle.raising.specs.StartTables.{start-raised}
 use Rattle.raising.proofs.start.fill_start.Statement.{statement}

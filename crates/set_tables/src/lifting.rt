@@ -10,10 +10,10 @@ ghost use lib.ListN.{length};
 ghost use Rattle.assignment.specs.Words.{noCost};
 ghost use Rattle.partition.specs.Moves.{WeightsBelow};
 ghost use Rattle.lagrangian.specs.Lagrangians.{leastPriced, mostBudget};
-ghost use Rattle.raising.specs.LiftedTables.{AddedBelow, RoomToAdd, SumsReady, NumberedBy, LiftedTo, LiftReady, LiftedBelow};
+ghost use Rattle.set_tables.specs.LiftedTables.{AddedBelow, RoomToAdd, SumsReady, NumberedBy, LiftedTo, LiftReady, LiftedBelow};
 
 // The most that a core may cost.
-pub(crate) const MOST_CORE_COST: u64 = MOST_ITEMS as u64 * MOST_COST;
+pub const MOST_CORE_COST: u64 = MOST_ITEMS as u64 * MOST_COST;
 
 // From the numbers of all sets without an item, number `half` of the sets, those of the sets with it.
 fn add_item(half: usize, amount: u64, sums: &mut [u64])
@@ -59,7 +59,7 @@ fn lifted(old: Worth, sum: u64, key: u64, budget: u64) -> Worth
 }
 
 // Raises each set's entry to the Lagrangian's bound where that is higher, with the least key that a pattern of the set can have.
-pub(crate) fn lift_all(
+pub fn lift_all(
     items: usize,
     relaxed: Lagrangian,
     weights: &[u64],

@@ -4,12 +4,12 @@ use mathlib.Core.Path.{_≡_, refl, _∙_}
 use native.Mathlib.Omega.{arith}
 use borrow.Author.Needs.{needs}
 use lib.ListN.{length}
-use Rattle.raising.specs.LiftingLaws.{no-item-yet, room-for-item, one-item-more}
-use Rattle.raising.specs.LiftedTables.{NumberedBy}
+use Rattle.set_tables.specs.LiftingLaws.{no-item-yet, room-for-item, one-item-more}
+use Rattle.set_tables.specs.LiftedTables.{NumberedBy}
 use Rattle.lagrangian.specs.Lagrangians.{leastPriced}
 use lib.Pow.{pow-mono}
-use Rattle.raising.proofs.lifting.fill_sums.Statement.{statement}
-use Rattle.raising.proofs.lifting.fill_sums.Tie as tie
+use Rattle.set_tables.proofs.lifting.fill_sums.Statement.{statement}
+use Rattle.set_tables.proofs.lifting.fill_sums.Tie as tie
 
 abbrev Inv-loop : tie.InvT-loop
 Inv-loop items sums₀ least half₀ i₀ sums half i =

@@ -3,9 +3,9 @@ use mathlib.Core.Logic.{inl, inr}
 use mathlib.Core.Path.{refl}
 use native.Mathlib.Omega.{arith}
 use borrow.Author.Needs.{needs}
-use Rattle.raising.specs.LiftedTables.{stays, lifted}
-use Rattle.raising.proofs.lifting.lifted.Statement.{statement}
-use Rattle.raising.proofs.lifting.lifted.Tie as tie
+use Rattle.set_tables.specs.LiftedTables.{stays, lifted}
+use Rattle.set_tables.proofs.lifting.lifted.Statement.{statement}
+use Rattle.set_tables.proofs.lifting.lifted.Tie as tie
 
 add-if1 : tie.Need-add-if1
 add-if1 c = search needs

@@ -5,10 +5,10 @@ use native.Mathlib.Omega.{arith}
 use borrow.Author.Needs.{needs}
 use lib.ListN.{length, length-set}
 use lib.Pow.{pow-mono}
-use Rattle.raising.specs.LiftedTables.{LiftedBelow}
-use Rattle.raising.specs.LiftingLaws.{none-lifted, next-cost, one-lifted}
-use Rattle.raising.proofs.lifting.lift_all.Statement.{statement}
-use Rattle.raising.proofs.lifting.lift_all.Tie as tie
+use Rattle.set_tables.specs.LiftedTables.{LiftedBelow}
+use Rattle.set_tables.specs.LiftingLaws.{none-lifted, next-cost, one-lifted}
+use Rattle.set_tables.proofs.lifting.lift_all.Statement.{statement}
+use Rattle.set_tables.proofs.lifting.lift_all.Tie as tie
 
 abbrev Inv-loop : tie.InvT-loop
 Inv-loop items relaxed weights costs₀ keys₀ sums all x₀ costs keys x =

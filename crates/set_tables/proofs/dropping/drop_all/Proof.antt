@@ -3,10 +3,10 @@ use Prim.Native.Nat.{_-_, _≤_}
 use mathlib.Core.Path.{_≡_}
 use native.Mathlib.Omega.{arith}
 use borrow.Author.Needs.{needs}
-use Rattle.raising.specs.DroppedTables.{NoneFrom}
-use Rattle.raising.specs.DroppingLaws.{no-cost-yet, one-cost-more}
-use Rattle.raising.proofs.dropping.drop_all.Statement.{statement}
-use Rattle.raising.proofs.dropping.drop_all.Tie as tie
+use Rattle.set_tables.specs.DroppedTables.{NoneFrom}
+use Rattle.set_tables.specs.DroppingLaws.{no-cost-yet, one-cost-more}
+use Rattle.set_tables.proofs.dropping.drop_all.Statement.{statement}
+use Rattle.set_tables.proofs.dropping.drop_all.Tie as tie
 
 abbrev Inv-loop : tie.InvT-loop
 Inv-loop from size costs₀ x₀ costs x = (x ≤ size) × NoneFrom from x costs₀ costs

@@ -6,18 +6,17 @@ use native.Mathlib.Omega.{arith}
 use borrow.Author.Needs.{needs}
 use borrow.Author.Tests.{not-true}
 use lib.Pow.{pow-mono, pow-pos}
-use Rattle.raising.specs.DroppedLaws.{none-dropped, dropped-after}
-use Rattle.raising.specs.DroppingLaws.{with-next-below, each-has-next, without-next, with-next, all-dropped}
+use Rattle.set_tables.specs.DroppingLaws.{with-next-below, each-has-next, without-next, with-next, all-dropped, none-dropped, dropped-after}
 use borrow.Fn.Kinds.{In}
 use borrow.Fn.PlainCycle.{Measures, is, falls, and}
-use Rattle.raising.proofs.dropping.drop_unservable.Reads as drop-unservable
-use Rattle.raising.proofs.dropping.drop_unservable.Kinds as drop-unservable-kinds
-use Rattle.raising.proofs.dropping.+drop_unservable.Lts-drop_unservable as drop-unservable-lts
-use Rattle.raising.proofs.dropping.drop_all.Reads as drop-all-reads
+use Rattle.set_tables.proofs.dropping.drop_unservable.Reads as drop-unservable
+use Rattle.set_tables.proofs.dropping.drop_unservable.Kinds as drop-unservable-kinds
+use Rattle.set_tables.proofs.dropping.+drop_unservable.Lts-drop_unservable as drop-unservable-lts
+use Rattle.set_tables.proofs.dropping.drop_all.Reads as drop-all-reads
 use Rattle.timed_parts.proofs.is_servable.Reads as is-servable-reads
 use Rattle.values.proofs.sets_of.Reads as sets-of-reads
-use Rattle.raising.proofs.dropping.+drop_unservable.{statement}
-use Rattle.raising.proofs.dropping.+drop_unservable.Tie.{close}
+use Rattle.set_tables.proofs.dropping.+drop_unservable.{statement}
+use Rattle.set_tables.proofs.dropping.+drop_unservable.Tie.{close}
 
 abbrev μ-drop-unservable : Measures 2 drop-unservable-kinds.ps ℕ
 μ-drop-unservable κs a = a .0 .items - a .1 .0

@@ -13,7 +13,7 @@ use Rattle.laws.specs.Below.{lt-or-le}
 use Rattle.assignment.specs.Words.{noCost}
 use Rattle.lagrangian.specs.declared.Timed.{Timed}
 use Rattle.timed_parts.specs.TickColumns.{inSet, Includes, NoneServes}
-use Rattle.raising.specs.DroppedTables.{DroppedTo, stays, dropped, Dropped, NoneFrom, SetsFrom}
+use Rattle.set_tables.specs.DroppedTables.{DroppedTo, stays, dropped, Dropped, NoneFrom, SetsFrom}
 
 -- a set that has none of the last m items, with some of these
 added-items : (n m front x : ℕ) → x < 2 ^ m → Includes n (front * 2 ^ m + x) (front * 2 ^ m)
@@ -118,3 +118,18 @@ module _ {timed : Timed} {timings : List ℕ} {x : ℕ} (unserved : NoneServes t
       go y (inr from) (inl within) =
           let this : x + (y - x) ≡ y = omega arith in
           dropped (rw this at (with-more-items (more (y - x) (omega arith)))) (rw this at (gone .none (y - x) (omega arith)))
+
+-- first some sets are dropped, then others
+module _ {timed : Timed} {timings : List ℕ} where
+  pub none-dropped : {costs : List ℕ} → Dropped timed timings costs costs
+  none-dropped = record { places = refl; cost = λ y. stays refl }
+
+  pub dropped-after : {before between after : List ℕ} → Dropped timed timings before between → Dropped timed timings between after →
+      Dropped timed timings before after
+  dropped-after {before} {between} {after} first second =
+      record { places = second .places ∙ first .places; cost = λ y. go (first .cost y) (second .cost y) }
+    where
+      go : {y a b c : ℕ} → DroppedTo timed timings y a b → DroppedTo timed timings y b c → DroppedTo timed timings y a c
+      go either (dropped unserved gone) = dropped unserved gone
+      go (stays same) (stays again) = stays (again ∙ same)
+      go (dropped unserved gone) (stays again) = dropped unserved (again ∙ gone)

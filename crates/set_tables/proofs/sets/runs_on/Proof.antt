@@ -1,9 +1,9 @@
 -- `runs_on` asks whose levels the choice is among.
 use mathlib.Core.Path.{sym}
 use borrow.Author.Needs.{needs}
-use Rattle.raising.specs.CoreSets.{runs-refused, runs-here, runs-elsewhere}
-use Rattle.raising.proofs.sets.runs_on.Statement.{statement}
-use Rattle.raising.proofs.sets.runs_on.Tie as tie
+use Rattle.set_tables.specs.CoreSets.{runs-refused, runs-here, runs-elsewhere}
+use Rattle.set_tables.proofs.sets.runs_on.Statement.{statement}
+use Rattle.set_tables.proofs.sets.runs_on.Tie as tie
 
 returns : tie.Need-returns
 returns c = sym (runs-refused _ _ _ (c .if1 .taken))

@@ -4,11 +4,11 @@ use mathlib.Core.Path.{_≡_, refl, _∙_}
 use native.Mathlib.Omega.{arith}
 use borrow.Author.Needs.{needs}
 use lib.ListN.{length}
-use Rattle.raising.specs.LiftingLaws.{none-added, one-added}
-use Rattle.raising.specs.LiftedTables.{AddedBelow}
+use Rattle.set_tables.specs.LiftingLaws.{none-added, one-added}
+use Rattle.set_tables.specs.LiftedTables.{AddedBelow}
 use lib.ListN.{length-set}
-use Rattle.raising.proofs.lifting.add_item.Statement.{statement}
-use Rattle.raising.proofs.lifting.add_item.Tie as tie
+use Rattle.set_tables.proofs.lifting.add_item.Statement.{statement}
+use Rattle.set_tables.proofs.lifting.add_item.Tie as tie
 
 abbrev Inv-loop : tie.InvT-loop
 Inv-loop half amount sums₀ x₀ sums x = (length sums ≡ length sums₀) × (x ≤ half) × AddedBelow half amount x sums₀ sums

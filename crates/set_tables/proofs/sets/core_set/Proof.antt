@@ -2,9 +2,9 @@
 use Prim.Native.Nat.{_-_, _≤_}
 use native.Mathlib.Omega.{arith}
 use borrow.Author.Needs.{needs}
-use Rattle.raising.specs.CoreSets.{SetRead, nothing-read, next-choice, set-small, runs-at-most-once, one-more-choice, all-read}
-use Rattle.raising.proofs.sets.core_set.Statement.{statement}
-use Rattle.raising.proofs.sets.core_set.Tie as tie
+use Rattle.set_tables.specs.CoreSets.{SetRead, nothing-read, next-choice, set-small, runs-at-most-once, one-more-choice, all-read}
+use Rattle.set_tables.proofs.sets.core_set.Statement.{statement}
+use Rattle.set_tables.proofs.sets.core_set.Tie as tie
 
 abbrev Inv-loop : tie.InvT-loop
 Inv-loop items levels core key power₀ rest₀ set₀ i₀ power rest set i = SetRead items levels core key power rest set i

@@ -6,7 +6,7 @@ use values::sets_of;
 ghost use Prim.Native.Nat.{_+_, _≤_};
 ghost use lib.ListN.{length};
 ghost use Rattle.lagrangian.specs.TimedItems.{TimedItems};
-ghost use Rattle.raising.specs.DroppedTables.{Dropped, NoneFrom, SetsFrom};
+ghost use Rattle.set_tables.specs.DroppedTables.{Dropped, NoneFrom, SetsFrom};
 
 // From this entry on so many become none.
 fn drop_all(from: usize, size: usize, costs: &mut [u64])
@@ -23,7 +23,7 @@ fn drop_all(from: usize, size: usize, costs: &mut [u64])
 // Of the sets that add some of the items from `item` on to a set that can be served, the entries of those that cannot become none.
 // Where the largest of them can be served, all can; where the set with the next item cannot, none with it can. `largest_fails`
 // says that the largest is known not to be served.
-pub(crate) fn drop_unservable(
+pub fn drop_unservable(
     timed: Timed,
     item: usize,
     set: usize,

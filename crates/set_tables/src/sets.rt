@@ -5,7 +5,7 @@ ghost use mathlib.Core.Path.{_≡_};
 ghost use Prim.Native.Nat.{_^_, _≤_, _<_};
 ghost use Rattle.assignment.specs.Keys.{keyBase};
 ghost use Rattle.assignment.specs.Limits.{mostItems};
-ghost use Rattle.raising.specs.CoreSets.{coreSetNumber, runsOn};
+ghost use Rattle.set_tables.specs.CoreSets.{coreSetNumber, runsOn};
 
 // 1 where this choice has the core run its item, else 0.
 fn runs_on(levels: usize, core: usize, choice: usize) -> usize
@@ -22,7 +22,7 @@ fn runs_on(levels: usize, core: usize, choice: usize) -> usize
 }
 
 // The number of the set that a core runs of the plan that a key stands for.
-pub(crate) fn core_set(items: usize, levels: usize, core: usize, key: u64) -> usize
+pub fn core_set(items: usize, levels: usize, core: usize, key: u64) -> usize
     requires { ⌜ items ≤ mostItems ⌝ }
     requires { ⌜ 1 ≤ levels ⌝ }
     requires { ⌜ key < keyBase ^ items ⌝ }

@@ -17,7 +17,7 @@ use Rattle.assignment.specs.Sets.{setNumber}
 use Rattle.partition.specs.Moves.{WeightsBelow}
 use Rattle.lagrangian.specs.Lagrangians.{leastPriced, mostPriced}
 use Rattle.lagrangian.specs.declared.Lagrangian.{Lagrangian}
-use Rattle.raising.specs.LiftedTables.{AddedBelow, RoomToAdd, SumsReady, NumberedBy, LiftedTo, LiftedBelow}
+use Rattle.set_tables.specs.LiftedTables.{AddedBelow, RoomToAdd, SumsReady, NumberedBy, LiftedTo, LiftedBelow}
 
 module _ {half amount : ℕ} {before : List ℕ} where
   pub none-added : AddedBelow half amount 0 before before

@@ -1,0 +1,5 @@
+pub mod LiftedTables
+pub mod LiftingLaws
+pub mod DroppedTables
+pub mod DroppingLaws
+pub mod CoreSets
