@@ -2,10 +2,12 @@
 // entries of the plan that they find are raised, until all of them are exact.
 mod near;
 mod rounds;
+mod samples;
 mod start;
 mod tries;
 
 use rounds::least_in_rounds;
+use samples::lift_by_samples;
 use search::Found;
 use search::write_plan;
 use start::fill_start;
@@ -44,6 +46,7 @@ pub fn cheapest_in_time(
     let mut costs = [0u64; MOST_SETS];
     let mut keys = [0u64; MOST_SETS];
     fill_start(site, timings, cost, &mut costs, &mut keys);
+    lift_by_samples(site, timings, cost, &mut costs, &mut keys);
     let best = least_in_rounds(site, timings, cost, refusal, must, &mut costs, &mut keys);
     if NO_COST <= best.cost {
         return Found::NoPlan;

@@ -9,10 +9,13 @@ use Rattle.raising.proofs.cheapest_in_time.Tie as tie
 fill-start-requires : tie.Need-fill-start-requires
 fill-start-requires c κs = let offered = c .before .before .before .before .before .before .before .pre .0 in (site-ready offered, (offered .whole-limited, refl))
 
+lift-by-samples-requires : tie.Need-lift-by-samples-requires
+lift-by-samples-requires c κs = (site-ready (c .before .before .before .before .before .before .before .before .before .before .pre .0), c .before .before .fill-start .ensures)
+
 least-in-rounds-requires : tie.Need-least-in-rounds-requires
 least-in-rounds-requires c κs =
-    let offered = c .before .before .before .before .before .before .before .before .before .before .pre .0 in
-    (site-ready offered, (offered .refusals, c .before .before .fill-start .ensures))
+    let offered = c .before .before .before .before .before .before .before .before .before .before .before .before .before .pre .0 in
+    (site-ready offered, (offered .refusals, c .before .before .lift-by-samples .ensures))
 
 returns : tie.Need-returns
 returns c =
@@ -22,7 +25,7 @@ returns c =
 write-plan-requires : tie.Need-write-plan-requires
 write-plan-requires c κs =
     let best = c .before .before .before .least-in-rounds in
-    let pre = c .before .before .before .before .before .before .before .before .before .before .before .before .before .before .pre in
+    let pre = c .before .before .before .before .before .before .before .before .before .before .before .before .before .before .before .before .before .pre in
     (pre .0 .limits .items, (best .ensures .1 (c .before .if1 .left), pre .1))
 
 same-length : tie.Need-same-length
@@ -38,6 +41,7 @@ cheapest-in-time-spec =
     tie.close
     (tie.spec
     fill-start-requires
+    lift-by-samples-requires
     least-in-rounds-requires
     returns
     write-plan-requires
