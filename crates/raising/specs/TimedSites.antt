@@ -2,7 +2,7 @@
 use Prim.Native.Nat.{ℕ, _+_, _^_, _≤_, _<_}
 use mathlib.Core.Path.{_≡_}
 use mathlib.Core.Logic.{_⊎_}
-use mathlib.Core.Bool.{Bool}
+use mathlib.Core.Bool.{Bool, true}
 use mathlib.Core.List.{List, []}
 use lib.ListN.{length, getD}
 use Rattle.assignment.specs.Assignment.{Options}
@@ -63,6 +63,12 @@ pub record LimitReady (n tries low key : ℕ) : Type 0 where
   pub at-most-none : low ≤ noCost
   pub digits : key < keyBase ^ n
 
+-- the limit of this cost and key, where a core may cost so much
+pub record LimitAt (cost key : ℕ) (most : Worth) : Type 0 where
+  pub at-most-none : most .cost ≤ noCost
+  pub real : most .cost < noCost → (most .cost ≡ cost) × (most .key ≡ key) × (cost ≤ mostCoreCost)
+  pub no-key : noCost ≤ most .cost → most .key ≡ 0
+
 -- no limit, or one that is not below the entry, and not the last try's
 pub record LimitOf (n tries low key : ℕ) (most : Worth) : Type 0 where
   pub at-most-none : most .cost ≤ noCost
@@ -71,10 +77,11 @@ pub record LimitOf (n tries low key : ℕ) (most : Worth) : Type 0 where
   pub least-key : most .cost < noCost → most .key ≡ key
   pub not-last : most .cost < noCost → 1 < tries
 
--- how often a set may still be tried that was searched up to a limit: less often, and not at all where what was found comes before
--- the limit or there was none
-pub record TriesAfter (tries : ℕ) (most found : Worth) (after : ℕ) : Type 0 where
+-- how often a set may still be tried that was searched up to a limit: less often, and not at all only where keys were looked for and what was
+-- found comes before the limit or there was none
+pub record TriesAfter (keyed : Bool) (tries : ℕ) (most found : Worth) (after : ℕ) : Type 0 where
   pub fewer : after < tries
+  pub looked-for-keys : after ≡ 0 → keyed ≡ true
   pub settled : after ≡ 0 → (noCost ≤ most .cost) ⊎ ((found .cost < most .cost) ⊎ (found .key < most .key))
 
 -- a set was tried

@@ -1,7 +1,7 @@
 // The rounds of the search.
 use crate::Site;
+use crate::limits::TRIES;
 use crate::near::raise_near;
-use crate::tries::TRIES;
 use crate::tries::try_set;
 use core_tables::charge_idle_once;
 use partition::fill_weights;

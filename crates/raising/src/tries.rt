@@ -1,60 +1,75 @@
 // The search of a set up to a limit.
 use crate::Site;
+use crate::limits::KEY_TRY;
+use crate::limits::limit_of;
+use lagrangian::Lagrangian;
 use lagrangian::Timed;
-use lagrangian::has_few_items;
 use lagrangian::relaxation_of;
-use lagrangian::size_of;
-use set_tables::MOST_CORE_COST;
 use set_tables::lift_all;
 use timed_parts::Bounded;
+use timed_sets::has_sooner_partner;
 use timed_sets::least_up_to;
-use values::MOST_ITEMS;
 use values::NO_COST;
 use values::Worth;
+ghost use mathlib.Core.Bool.{true, false};
+ghost use mathlib.Core.Path.{_≡_};
 ghost use Prim.Native.Nat.{_^_, _<_};
 ghost use lib.ListN.{getD};
 ghost use Rattle.assignment.specs.Words.{noCost};
-ghost use Rattle.raising.specs.TimedSites.{SiteReady, SiteRaised, SetsWeighed, LimitReady, LimitOf, TriesAfter, SetTried};
+ghost use Rattle.lagrangian.specs.Lagrangians.{Relaxes};
+ghost use Rattle.lagrangian.specs.TimedItems.{TimedReady};
+ghost use Rattle.raising.specs.TimedSites.{timedOf, SiteReady, SiteRaised, SetsWeighed, TriesAfter, SetTried};
 
-// How often a set is tried at most.
-pub(crate) const TRIES: u32 = 13;
-
-// Up to where a set is searched, from its entry on: each try goes above the entry twice as far as the one before it, and for a set of one
-// item less twice as far too, since it takes less time; the last goes as far as there is.
-fn limit_of(items: usize, set: usize, left: u32, low: u64, key: u64) -> Worth
-    requires { ⌜ LimitReady items left low key ⌝ }
-    ensures { λ r. ⌜ LimitOf items left low key r ⌝ }
+// Whether a search is to find keys too: where there is no limit, where only a key is looked for, and where a search for costs alone would try
+// no fewer levels.
+fn wants_key(
+    timed: Timed,
+    set: usize,
+    left: u32,
+    most: Worth,
+    timings: &[u32],
+    cost: &[u64],
+) -> bool
+    requires { ⌜ TimedReady timed (now timings) (now cost) ⌝ }
+    ensures { λ r. ⌜ (r ≡ false → (2 < left) × (most .cost < noCost)) ⌝ }
 {
-    let none = Worth {
-        cost: NO_COST,
-        key: 0,
-    };
-    if has_few_items(items, set) {
-        return none;
+    if left <= KEY_TRY {
+        return true;
     }
-    if left <= 1 {
-        return none;
+    if NO_COST <= most.cost {
+        return true;
     }
-    let halvings = left as usize + size_of(items, set);
-    if halvings <= MOST_ITEMS {
-        return none;
+    !has_sooner_partner(timed, set, timings, cost)
+}
+
+// The key of an entry: what was found, or where only the cost was looked for the least of the set.
+fn key_after(keyed: bool, found: u64, least: u64) -> u64
+    ensures { λ r. ⌜ (keyed ≡ true → r ≡ found) × (keyed ≡ false → r ≡ least) ⌝ }
+{
+    if keyed { found } else { least }
+}
+
+// How often a set may still be tried, once it was searched for its cost alone: the key is still to be found.
+fn left_after_cost(left: u32, most: Worth, found: Worth) -> u32
+    requires { ⌜ 2 < left ⌝ }
+    ensures { λ r. ⌜ (0 < r) × (r < left) ⌝ }
+{
+    if found.cost < most.cost {
+        return KEY_TRY;
     }
-    let cost = low + (low >> (halvings - MOST_ITEMS)) + 1;
-    if MOST_CORE_COST < cost {
-        return none;
-    }
-    Worth {
-        cost: cost,
-        key: key,
-    }
+    left - 1
 }
 
 // How often a set may still be tried, once it was searched up to a limit: not at all where its least value was found.
-fn left_after(left: u32, most: Worth, found: Worth) -> u32
+fn left_after(keyed: bool, left: u32, most: Worth, found: Worth) -> u32
     requires { ⌜ 0 < left ⌝ }
     requires { ⌜ (most .cost < noCost → 1 < left) ⌝ }
-    ensures { λ r. ⌜ TriesAfter left most found r ⌝ }
+    requires { ⌜ (keyed ≡ false → 2 < left) ⌝ }
+    ensures { λ r. ⌜ TriesAfter keyed left most found r ⌝ }
 {
+    if !keyed {
+        return left_after_cost(left, most, found);
+    }
     if NO_COST <= most.cost {
         return 0;
     }
@@ -67,7 +82,42 @@ fn left_after(left: u32, most: Worth, found: Worth) -> u32
     left - 1
 }
 
-// Searches a set up to its limit, for its least value or a higher entry; its relaxation raises the others' entries.
+// Searches a set up to its limit, for its least value or a higher entry.
+fn search_set(
+    site: Site,
+    set: usize,
+    relaxed: Lagrangian,
+    timings: &[u32],
+    cost: &[u64],
+    weights: &[u64],
+    costs: &mut [u64],
+    keys: &mut [u64],
+    left: &mut [u32],
+)
+    requires { ⌜ SiteReady site (now timings) (now cost) ⌝ }
+    requires { ⌜ SetsWeighed (site .items) (now weights) ⌝ }
+    requires { ⌜ SiteRaised site (now timings) (now cost) (now costs) (now keys) (now left) ⌝ }
+    requires { ⌜ set < 2 ^ site .items ⌝ }
+    requires { ⌜ 0 < getD (now left) set 0 ⌝ }
+    requires { ⌜ Relaxes (timedOf site) (now timings) (now cost) relaxed ⌝ }
+    ensures { λ _. ⌜ SetTried site (now (timings .entry)) (now (cost .entry)) (now (costs .exit)) (now (keys .exit))
+        (now (left .entry)) (now (left .exit)) ⌝ }
+{
+    let timed = Timed {
+        items: site.items,
+        levels: site.levels,
+        span: site.span,
+    };
+    let most = limit_of(site.items, set, left[set], costs[set], weights[set]);
+    let keyed = wants_key(timed, set, left[set], most, timings, cost);
+    let bounded = Bounded { timed, relaxed };
+    let found = least_up_to(bounded, set, keyed, most, timings, cost, costs, keys);
+    costs[set] = found.cost;
+    keys[set] = key_after(keyed, found.key, weights[set]);
+    left[set] = left_after(keyed, left[set], most, found);
+}
+
+// Tries a set; its relaxation raises the others' entries.
 pub(crate) fn try_set(
     site: Site,
     set: usize,
@@ -93,10 +143,15 @@ pub(crate) fn try_set(
     };
     let relaxed = relaxation_of(timed, set, timings, cost);
     lift_all(site.items, relaxed, weights, costs, keys);
-    let most = limit_of(site.items, set, left[set], costs[set], weights[set]);
-    let bounded = Bounded { timed, relaxed };
-    let found = least_up_to(bounded, set, most, timings, cost, costs, keys);
-    costs[set] = found.cost;
-    keys[set] = found.key;
-    left[set] = left_after(left[set], most, found);
+    search_set(
+        site,
+        set,
+        relaxed,
+        timings,
+        cost,
+        weights,
+        costs,
+        keys,
+        left,
+    );
 }

@@ -1,18 +1,21 @@
--- The levels of two items out of order exchanged: the same set at the same cost, a smaller key, and no more due by any tick.
+-- The levels of two items out of order exchanged: the same set at the same cost, and no more due by any tick. The key is smaller, or the
+-- ticks weigh less.
 use Prim.Native.Nat.{ℕ, zero, suc, _+_, _-_, _*_, _^_, _≤_, _<_}
 use mathlib.Core.Bool.{Bool, true}
 use mathlib.Core.List.{List, []}
-use mathlib.Core.Logic.{_≢_}
+use mathlib.Core.Logic.{_⊎_, inl, inr, _≢_}
 use mathlib.Core.Path.{_≡_, refl, sym, _∙_}
-use native.Mathlib.Nat.{le-trans, mul-pos, pow-suc, pow-le-pow-right}
+use native.Mathlib.Nat.{le-of-lt, le-trans, mul-le-mul-right, mul-pos, pow-suc, pow-le-pow-right}
 use native.Mathlib.Omega.{arith}
 use lib.ListN.{length, getD, set, length-set}
 use lib.Seq.{getD-set-other}
 use Rattle.laws.specs.DivisionLaws.{div-mono}
 use Rattle.laws.specs.JoinedLaws.{length-listOf, getD-listOf}
+use Rattle.laws.specs.Lists.{listOf}
+use Rattle.ranges.specs.Limits.{mostPeriod}
 use Rattle.edf.specs.Demand.{demandAt, jobsDue}
 use Rattle.edf.specs.DemandLaws.{meets-demand-within}
-use Rattle.assignment.specs.KeyLaws.{keeps-length}
+use Rattle.assignment.specs.KeyLaws.{keeps-in-base, keeps-length, key-below}
 use Rattle.assignment.specs.Keeping.{Keeps}
 use Rattle.assignment.specs.Keys.{keyBase, planKey}
 use Rattle.knapsack.specs.Offered.{offerAt, offersOf}
@@ -24,7 +27,7 @@ use Rattle.lagrangian.specs.FrontKeyLaws.{power-above-0}
 use Rattle.lagrangian.specs.TimedCores.{entryTicks, patternTasks, timingAt, timingIn, timingsOf}
 use Rattle.lagrangian.specs.declared.Timed.{Timed}
 use Rattle.timed_sets.specs.ChangedLaws.{changed-keeps, changed-key, changed-cost, changed-demand}
-use Rattle.timed_sets.specs.Exchange.{Partner, OutOfOrder, exchanged}
+use Rattle.timed_sets.specs.Exchange.{Partner, HigherFirst, LongerFirst, OutOfOrder, exchanged, urgencyOf, urgency}
 use Rattle.timed_parts.specs.ServableLaws.{run-level-below}
 
 -- products of two pairs, each in order, are least crosswise
@@ -83,12 +86,23 @@ module _ {timed : Timed} {timings cost : List ℕ} {S : List Bool} {pattern : Li
       go zero is = omega arith
       go (suc l) is = run-level-below keeps k l is
 
+  -- the first of the two has a higher level or more ticks than none
+  first-runs : 0 < getD pattern j 0
+  unfolding entryTicks
+  first-runs = go (getD pattern j 0) refl (out .turned)
+    where
+      go : (c : ℕ) → getD pattern j 0 ≡ c →
+          HigherFirst (timingsOf timings (timed .items)) pattern j i ⊎ LongerFirst (timingsOf timings (timed .items)) pattern j i → 0 < c
+      go (suc l) is turned = omega arith
+      go zero is (inl turned) = absurd (omega (arith, turned .higher))
+      go zero is (inr turned) = absurd (omega (arith, rw is at (turned .more-ticks)))
+
   pub exchanged-keeps : Keeps (timed .levels) S (exchanged pattern j i)
   unfolding exchanged
   exchanged-keeps =
-      let changed = changed-keeps keeps j (getD pattern i 0) (omega (arith, out .higher)) (out .runs) (at-most-levels i) in
+      let changed = changed-keeps keeps j (getD pattern i 0) first-runs (out .runs) (at-most-levels i) in
       changed-keeps changed i (getD pattern j 0) (rw (getD-set-other pattern j i (getD pattern i 0) 0 (λ e. distinct (sym e))) (out .runs))
-      (omega (arith, out .higher)) (at-most-levels j)
+      first-runs (at-most-levels j)
 
   same-entry-cost : (c : ℕ) → c ≤ timed .levels → entryCost (offerAt [] cost j) c ≡ entryCost (offerAt [] cost i) c
   unfolding entryCost offerAt
@@ -113,19 +127,19 @@ module _ {timed : Timed} {timings cost : List ℕ} {S : List Bool} {pattern : Li
             (changed-cost-of j earlier-within) (changed-cost-of i within),
       )
 
-  pub exchanged-key : planKey (exchanged pattern j i) < planKey pattern
-  exchanged-key =
+  pub exchanged-key : HigherFirst (timingsOf timings (timed .items)) pattern j i → planKey (exchanged pattern j i) < planKey pattern
+  exchanged-key turned =
       let weight : ℕ → ℕ = λ k. keyBase ^ (timed .items - 1 - k) in
       let heavier : weight i < weight j = power-less (omega (arith, partner .earlier)) in
       omega (
         arith,
-        crossed-less (getD pattern i 0) (getD pattern j 0) (weight i) (weight j) (out .higher) heavier,
+        crossed-less (getD pattern i 0) (getD pattern j 0) (weight i) (weight j) (turned .higher) heavier,
         exchanged-sum planKey (λ k c. c * keyBase ^ (timed .items - 1 - k)) pattern j i distinct
             (λ p c same. changed-key p j c (timed .items - 1 - j) (omega (arith, long, earlier-within)))
             (λ p c same. changed-key p i c (timed .items - 1 - i) (omega (arith, long))),
       )
 
-  -- no more is due by any tick
+  -- the later of the two has no more ticks
 
   same-entry-ticks : (c : ℕ) → c ≤ timed .levels →
       entryTicks (timingIn (timingsOf timings (timed .items)) j) c ≡ entryTicks (timingIn (timingsOf timings (timed .items)) i) c
@@ -136,16 +150,80 @@ module _ {timed : Timed} {timings cost : List ℕ} {S : List Bool} {pattern : Li
       go zero few = refl
       go (suc l) few = partner .same-levels .ticks l few
 
+  -- the ticks of a job by an entry, of either item
+  abbrev ticks : ℕ → ℕ
+  ticks c = entryTicks (timingIn (timingsOf timings (timed .items)) i) c
+
+  fewer-first : HigherFirst (timingsOf timings (timed .items)) pattern j i → ticks (getD pattern j 0) ≤ ticks (getD pattern i 0)
+  fewer-first turned = rw (← same-entry-ticks (getD pattern j 0) (at-most-levels j)) (turned .no-more-ticks)
+
+  more-first : LongerFirst (timingsOf timings (timed .items)) pattern j i → ticks (getD pattern i 0) < ticks (getD pattern j 0)
+  more-first turned = rw (← same-entry-ticks (getD pattern j 0) (at-most-levels j)) (turned .more-ticks)
+
+  first-no-sooner : HigherFirst (timingsOf timings (timed .items)) pattern j i → timingAt timings i .window ≤ timingAt timings j .window
+  first-no-sooner turned =
+      rw (timing-of timings (timed .items) j earlier-within, timing-of timings (timed .items) i within) at (turned .due-no-sooner)
+
+  pub first-sooner : LongerFirst (timingsOf timings (timed .items)) pattern j i → timingAt timings j .window < timingAt timings i .window
+  first-sooner turned =
+      rw (timing-of timings (timed .items) j earlier-within, timing-of timings (timed .items) i within) at (turned .due-sooner)
+
+  -- what adds up to ticks times a weight that is no less where a window is no longer is no more once the two are exchanged
+  weighs-no-more : (total : List ℕ → ℕ) (w : ℕ → ℕ) →
+      ((a b : ℕ) → a < timed .items → b < timed .items → timingAt timings a .period ≡ timingAt timings b .period →
+      timingAt timings b .window ≤ timingAt timings a .window → w a ≤ w b) →
+      ((k : ℕ) → k < timed .items → (p : List ℕ) (c : ℕ) → length p ≡ length pattern →
+      total (set p k c) + entryTicks (timingIn (timingsOf timings (timed .items)) k) (getD p k 0) * w k
+      ≡ total p + entryTicks (timingIn (timingsOf timings (timed .items)) k) c * w k) →
+      (total (exchanged pattern j i) ≤ total pattern)
+      × (LongerFirst (timingsOf timings (timed .items)) pattern j i → w i < w j → total (exchanged pattern j i) < total pattern)
+  weighs-no-more total w falls changed = (no-more (out .turned), less)
+    where
+      sums : total (exchanged pattern j i) + (ticks (getD pattern j 0) * w j + ticks (getD pattern i 0) * w i)
+          ≡ total pattern + (ticks (getD pattern i 0) * w j + ticks (getD pattern j 0) * w i)
+      sums =
+          rw (same-entry-ticks (getD pattern i 0) (at-most-levels i), same-entry-ticks (getD pattern j 0) (at-most-levels j)) at
+          (exchanged-sum total (λ k c. entryTicks (timingIn (timingsOf timings (timed .items)) k) c * w k) pattern j i distinct
+          (changed j earlier-within) (changed i within))
+
+      no-more : HigherFirst (timingsOf timings (timed .items)) pattern j i ⊎ LongerFirst (timingsOf timings (timed .items)) pattern j i →
+          total (exchanged pattern j i) ≤ total pattern
+      no-more (inl turned) =
+          omega (
+            arith,
+            crossed (ticks (getD pattern j 0)) (ticks (getD pattern i 0)) (w j) (w i) (fewer-first turned)
+                (falls j i earlier-within within (partner .same-period) (first-no-sooner turned)),
+            sums,
+          )
+      no-more (inr turned) =
+          omega (
+            arith,
+            crossed (ticks (getD pattern i 0)) (ticks (getD pattern j 0)) (w i) (w j) (le-of-lt (more-first turned))
+                (falls i j within earlier-within (sym (partner .same-period)) (le-of-lt (first-sooner turned))),
+            sums,
+          )
+
+      less : LongerFirst (timingsOf timings (timed .items)) pattern j i → w i < w j → total (exchanged pattern j i) < total pattern
+      less turned lighter =
+          omega (
+            arith,
+            crossed-less (ticks (getD pattern i 0)) (ticks (getD pattern j 0)) (w i) (w j) (more-first turned) lighter,
+            sums,
+          )
+
+  -- no more is due by any tick
+
   -- how many jobs of an item are due by a tick
   abbrev jobs : (k x : ℕ) → ℕ
   jobs k x = jobsDue (patternTasks (timingsOf timings (timed .items)) pattern) k x
 
-  more-jobs : (x : ℕ) → jobs j x ≤ jobs i x
+  fewer-jobs : (x a b : ℕ) → a < timed .items → b < timed .items → timingAt timings a .period ≡ timingAt timings b .period →
+      timingAt timings b .window ≤ timingAt timings a .window → jobs a x ≤ jobs b x
   unfolding jobsDue patternTasks
-  more-jobs x =
-      rw (timing-of timings (timed .items) j earlier-within, timing-of timings (timed .items) i within, partner .same-period)
-      (div-mono _ _ (timingAt timings i .period) (omega (arith, ready .item i within .window-above-0, ready .item i within .window-within-period))
-      (omega (arith, partner .due-no-sooner)))
+  fewer-jobs x a b within-a within-b same no-sooner =
+      rw (timing-of timings (timed .items) a within-a, timing-of timings (timed .items) b within-b, same)
+      (div-mono _ _ (timingAt timings b .period) (omega (arith, ready .item b within-b .window-above-0, ready .item b within-b .window-within-period))
+      (omega (arith, no-sooner)))
 
   changed-demand-of : (x k : ℕ) → k < timed .items → (p : List ℕ) (c : ℕ) → length p ≡ length pattern →
       demandAt (patternTasks (timingsOf timings (timed .items)) (set p k c)) x
@@ -155,21 +233,53 @@ module _ {timed : Timed} {timings cost : List ℕ} {S : List Bool} {pattern : Li
   changed-demand-of x k l p c same =
       changed-demand (timingsOf timings (timed .items)) p k c x (rw (counted ready) l) (omega (arith, long))
 
-  exchanged-demand : (x : ℕ) → demandAt (patternTasks (timingsOf timings (timed .items)) (exchanged pattern j i)) x
-      ≤ demandAt (patternTasks (timingsOf timings (timed .items)) pattern) x
-  exchanged-demand x =
-      let ticks : ℕ → ℕ = λ c. entryTicks (timingIn (timingsOf timings (timed .items)) i) c in
-      let sums = exchanged-sum (λ p. demandAt (patternTasks (timingsOf timings (timed .items)) p) x)
-      (λ k c. entryTicks (timingIn (timingsOf timings (timed .items)) k) c * jobs k x) pattern j i distinct
-      (changed-demand-of x j earlier-within) (changed-demand-of x i within) in
-      let fewer : ticks (getD pattern j 0) ≤ ticks (getD pattern i 0) = rw (← same-entry-ticks (getD pattern j 0) (at-most-levels j)) (out .no-more-ticks) in
-      omega (
-        arith,
-        crossed (ticks (getD pattern j 0)) (ticks (getD pattern i 0)) (jobs j x) (jobs i x) fewer (more-jobs x),
-        rw (same-entry-ticks (getD pattern i 0) (at-most-levels i), same-entry-ticks (getD pattern j 0) (at-most-levels j)) at sums,
-      )
-
   pub exchanged-admitted : timedCore timed timings cost .admits pattern ≡ true → timedCore timed timings cost .admits (exchanged pattern j i) ≡ true
   exchanged-admitted met =
       meets-demand-within _ (timed .span) .1
-      (λ x l. le-trans (exchanged-demand x) (meets-demand-within _ (timed .span) .0 met x l))
+      (λ x l. le-trans
+      (weighs-no-more (λ p. demandAt (patternTasks (timingsOf timings (timed .items)) p) x) (λ k. jobs k x) (fewer-jobs x) (changed-demand-of x) .0)
+      (meets-demand-within _ (timed .span) .0 met x l))
+
+  -- the ticks weigh no more, those that are due sooner more than others
+
+  abbrev spare : ℕ → ℕ
+  spare k = mostPeriod - timingAt timings k .window
+
+  entry-urgency : (k c : ℕ) → entryCost (urgencyOf timings k) c ≡ entryTicks (timingAt timings k) c * spare k
+  unfolding entryCost urgencyOf entryTicks
+  entry-urgency k zero = omega arith
+  entry-urgency k (suc l) = refl
+
+  changed-urgency-of : (k : ℕ) → k < timed .items → (p : List ℕ) (c : ℕ) → length p ≡ length pattern →
+      urgency timed timings (set p k c) + entryTicks (timingIn (timingsOf timings (timed .items)) k) (getD p k 0) * spare k
+      ≡ urgency timed timings p + entryTicks (timingIn (timingsOf timings (timed .items)) k) c * spare k
+  changed-urgency-of k l p c same =
+      rw (timing-of timings (timed .items) k l, ← entry-urgency k (getD p k 0), ← entry-urgency k c)
+      (rw (getD-listOf (urgencyOf timings) (timed .items) k (urgencyOf timings 0) l) at
+      (changed-cost (listOf (urgencyOf timings) (timed .items)) p k c (urgencyOf timings 0)
+      (rw (length-listOf (urgencyOf timings) (timed .items)) l) (omega (arith, long))))
+
+  exchanged-urgency : (urgency timed timings (exchanged pattern j i) ≤ urgency timed timings pattern)
+      × (LongerFirst (timingsOf timings (timed .items)) pattern j i → spare i < spare j →
+      urgency timed timings (exchanged pattern j i) < urgency timed timings pattern)
+  exchanged-urgency =
+      weighs-no-more (urgency timed timings) spare (λ a b within-a within-b same no-sooner. omega arith) changed-urgency-of
+
+  -- the urgency falls, or the key does
+  pub exchanged-measure : urgency timed timings (exchanged pattern j i) * keyBase ^ timed .items + planKey (exchanged pattern j i)
+      < urgency timed timings pattern * keyBase ^ timed .items + planKey pattern
+  unfolding keyBase
+  exchanged-measure = go (out .turned)
+    where
+      go : HigherFirst (timingsOf timings (timed .items)) pattern j i ⊎ LongerFirst (timingsOf timings (timed .items)) pattern j i →
+          urgency timed timings (exchanged pattern j i) * keyBase ^ timed .items + planKey (exchanged pattern j i)
+          < urgency timed timings pattern * keyBase ^ timed .items + planKey pattern
+      go (inl turned) =
+          omega (arith, mul-le-mul-right (keyBase ^ timed .items) (exchanged-urgency .0), exchanged-key turned)
+      go (inr turned) =
+          let few : timed .levels < keyBase = omega (arith, ready .few-levels) in
+          let digits : planKey (exchanged pattern j i) < keyBase ^ timed .items =
+          rw (keeps-length exchanged-keeps ∙ of-items) at (key-below (keeps-in-base few exchanged-keeps)) in
+          let lighter : spare i < spare j =
+          omega (arith, first-sooner turned, ready .item i within .window-within-period, ready .item i within .period-at-most) in
+          omega (arith, mul-le-mul-right (keyBase ^ timed .items) (exchanged-urgency .1 turned lighter), digits)

@@ -74,3 +74,19 @@ pub record LowerInTime (timed : Timed) (set : ℕ) (timings cost : List ℕ) (r 
 pub data FoundUpTo (timed : Timed) (set : ℕ) (timings cost : List ℕ) (most r : Worth) : Type 0 where
   is-least : LeastInTime timed set timings cost r → FoundUpTo timed set timings cost most r
   is-limit : worthOf r ≡ worthOf most → LowerInTime timed set timings cost r → FoundUpTo timed set timings cost most r
+
+-- what an admitted pattern of the set is worth
+pub record OneInTime (timed : Timed) (set : ℕ) (timings cost : List ℕ) (r : Worth) : Type 0 where
+  pub one : (S : List Bool) → length S ≡ timed .items → setNumber (timed .items) S ≡ set →
+      (pattern : List ℕ) × (Keeps (timed .levels) S pattern × (timedCore timed timings cost .admits pattern ≡ true))
+      × (worthOf r ≡ worthOn (timedCore timed timings cost) pattern)
+
+-- no admitted pattern of the set costs less
+pub record NoneCheaper (timed : Timed) (set : ℕ) (timings cost : List ℕ) (c : ℕ) : Type 0 where
+  pub none-cheaper : (S : List Bool) → length S ≡ timed .items → setNumber (timed .items) S ≡ set → (pattern : List ℕ) → Keeps (timed .levels) S pattern →
+      timedCore timed timings cost .admits pattern ≡ true → c ≤ timedCore timed timings cost .cost pattern
+
+-- what a search up to a limit finds that looks for costs alone: the least cost of the set; or the limit, where nothing is cheaper
+pub data CostUpTo (timed : Timed) (set : ℕ) (timings cost : List ℕ) (most r : Worth) : Type 0 where
+  least-cost : OneInTime timed set timings cost r → NoneCheaper timed set timings cost (r .cost) → CostUpTo timed set timings cost most r
+  limit-cost : worthOf r ≡ worthOf most → NoneCheaper timed set timings cost (r .cost) → CostUpTo timed set timings cost most r

@@ -16,7 +16,7 @@ use Rattle.knapsack.specs.Offered.{entryOf}
 use Rattle.lagrangian.specs.FrontKeyLaws.{power-above-0}
 use Rattle.lagrangian.specs.TimedCores.{timingAt}
 use Rattle.lagrangian.specs.declared.Timed.{Timed}
-use Rattle.timed_sets.specs.Exchange.{Partner, Partners, SameLevels}
+use Rattle.timed_sets.specs.Exchange.{DueNoSooner, Partner, Partners, SameLevels}
 
 module _ {timings cost : List ℕ} {j i : ℕ} where
   pub no-level-yet : SameLevels timings cost 0 j i
@@ -52,6 +52,19 @@ module _ {timed : Timed} {timings cost : List ℕ} where
       go : (r : ℕ) → getD partners i 0 ≡ r → r ≤ i
       go zero is = omega arith
       go (suc j) is = are .partner i j under is .earlier
+
+pub none-sooner-yet : {timings : List ℕ} → DueNoSooner timings 0 (replicate mostItems 0)
+none-sooner-yet = record { no-sooner = λ i j under is. absurd (omega arith) }
+
+pub one-item-no-sooner : {timings partners : List ℕ} {n r : ℕ} → DueNoSooner timings n partners → n < length partners →
+    ((j : ℕ) → r ≡ suc j → timingAt timings n .window ≤ timingAt timings j .window) → DueNoSooner timings (n + 1) (set partners n r)
+one-item-no-sooner {timings} {partners} {n} {r} so-far room its =
+    record {
+      no-sooner = λ i j under is.
+          below-more (λ i. (j : ℕ) → getD (set partners n r) i 0 ≡ suc j → timingAt timings i .window ≤ timingAt timings j .window) n
+          (λ i l j is. so-far .no-sooner i j l (sym (getD-set-other partners n i r 0 (λ same. omega arith)) ∙ is))
+          (λ j is. its j (sym (getD-set-same partners n r 0 room) ∙ is)) i under j is;
+    }
 
 -- the digit of item j, with k items after it
 pub digit-of-key : {q : List ℕ} → InBase q → (j k : ℕ) → length q ≡ suc (j + k) → planKey q / keyBase ^ k % keyBase ≡ getD q j 0

@@ -1,22 +1,18 @@
-// Items that are alike but for their windows: levels of two of them that could be exchanged for a smaller key are not tried.
-use crate::given::choice_at;
+// Items that are alike but for their windows.
 use lagrangian::TIMING_WIDTH;
 use lagrangian::Timed;
 use lagrangian::is_in_set;
-use lagrangian::is_within_window;
-use timed_parts::Node;
 use values::MOST_ITEMS;
 use values::STRIDE;
 ghost use mathlib.Core.Bool.{true, false};
 ghost use mathlib.Core.Path.{_≡_};
 ghost use Prim.Native.Nat.{ℕ, suc, _+_, _*_, _≤_, _<_};
-ghost use lib.ListN.{length, getD};
+ghost use lib.ListN.{length};
 ghost use Rattle.assignment.specs.Limits.{mostItems};
 ghost use Rattle.knapsack.specs.Offered.{entryOf};
 ghost use Rattle.lagrangian.specs.TimedItems.{TimedReady};
 ghost use Rattle.lagrangian.specs.TimedCores.{timingAt, timingWidth};
-ghost use Rattle.timed_sets.specs.Exchange.{LevelOutOfOrder, NotRun, Partner, Partners, SameLevels};
-ghost use Rattle.timed_parts.specs.Nodes.{SmallNode};
+ghost use Rattle.timed_sets.specs.Exchange.{DueNoSooner, Partner, Partners, SameLevels};
 
 // Whether two items have the same ticks of a job and the same cost at a level.
 fn is_same_at(timed: Timed, j: usize, i: usize, level: usize, timings: &[u32], cost: &[u64]) -> bool
@@ -47,11 +43,44 @@ fn has_same_levels(timed: Timed, j: usize, i: usize, timings: &[u32], cost: &[u6
     true
 }
 
-// Whether item j of the set is alike to item i, which comes after it, and due no sooner.
-fn is_partner(timed: Timed, set: usize, j: usize, i: usize, timings: &[u32], cost: &[u64]) -> bool
+// Whether item j is due sooner than item i.
+pub(crate) fn is_due_sooner(j: usize, i: usize, timings: &[u32]) -> bool
+    requires { ⌜ (j < mostItems) × (i < mostItems) ⌝ }
+    requires { ⌜ (j * timingWidth + 1 < length (now timings)) × (i * timingWidth + 1 < length (now timings)) ⌝ }
+    ensures { λ r. ⌜ (r ≡ true → timingAt (now (timings .entry)) j .window < timingAt (now (timings .entry)) i .window) ⌝ }
+    ensures { λ r. ⌜ (r ≡ false → timingAt (now (timings .entry)) i .window ≤ timingAt (now (timings .entry)) j .window) ⌝ }
+{
+    timings[j * TIMING_WIDTH + 1] < timings[i * TIMING_WIDTH + 1]
+}
+
+// Whether item j may not be item i's partner because it is due sooner: for costs alone it may.
+fn is_due_too_soon(keyed: bool, j: usize, i: usize, timings: &[u32]) -> bool
+    requires { ⌜ (j < mostItems) × (i < mostItems) ⌝ }
+    requires { ⌜ (j * timingWidth + 1 < length (now timings)) × (i * timingWidth + 1 < length (now timings)) ⌝ }
+    ensures { λ r. ⌜ (keyed ≡ true → r ≡ false →
+        timingAt (now (timings .entry)) i .window ≤ timingAt (now (timings .entry)) j .window) ⌝ }
+{
+    if !keyed {
+        return false;
+    }
+    is_due_sooner(j, i, timings)
+}
+
+// Whether item j of the set is alike to item i, which comes after it; for keys it must be due no sooner too.
+fn is_partner(
+    timed: Timed,
+    set: usize,
+    keyed: bool,
+    j: usize,
+    i: usize,
+    timings: &[u32],
+    cost: &[u64],
+) -> bool
     requires { ⌜ TimedReady timed (now timings) (now cost) ⌝ }
     requires { ⌜ (j < i) × (i < timed .items) ⌝ }
     ensures { λ r. ⌜ (r ≡ true → Partner timed (now (timings .entry)) (now (cost .entry)) j i) ⌝ }
+    ensures { λ r. ⌜ (keyed ≡ true → r ≡ true →
+        timingAt (now (timings .entry)) i .window ≤ timingAt (now (timings .entry)) j .window) ⌝ }
 {
     if !is_in_set(timed.items, set, j) {
         return false;
@@ -59,21 +88,30 @@ fn is_partner(timed: Timed, set: usize, j: usize, i: usize, timings: &[u32], cos
     if timings[j * TIMING_WIDTH] != timings[i * TIMING_WIDTH] {
         return false;
     }
-    if timings[j * TIMING_WIDTH + 1] < timings[i * TIMING_WIDTH + 1] {
+    if is_due_too_soon(keyed, j, i, timings) {
         return false;
     }
     has_same_levels(timed, j, i, timings, cost)
 }
 
 // 1 + the index of the last such item before item i, its partner; or 0.
-fn partner_of(timed: Timed, set: usize, i: usize, timings: &[u32], cost: &[u64]) -> usize
+fn partner_of(
+    timed: Timed,
+    set: usize,
+    keyed: bool,
+    i: usize,
+    timings: &[u32],
+    cost: &[u64],
+) -> usize
     requires { ⌜ TimedReady timed (now timings) (now cost) ⌝ }
     requires { ⌜ i < timed .items ⌝ }
     ensures { λ r. ⌜ ((j : ℕ) → r ≡ suc j → Partner timed (now (timings .entry)) (now (cost .entry)) j i) ⌝ }
+    ensures { λ r. ⌜ (keyed ≡ true → (j : ℕ) → r ≡ suc j →
+        timingAt (now (timings .entry)) i .window ≤ timingAt (now (timings .entry)) j .window) ⌝ }
 {
     let mut j = i;
     while 0 < j {
-        if is_partner(timed, set, j - 1, i, timings, cost) {
+        if is_partner(timed, set, keyed, j - 1, i, timings, cost) {
             return j;
         }
         j -= 1;
@@ -85,54 +123,48 @@ fn partner_of(timed: Timed, set: usize, i: usize, timings: &[u32], cost: &[u64])
 pub(crate) fn partners_in(
     timed: Timed,
     set: usize,
+    keyed: bool,
     timings: &[u32],
     cost: &[u64],
 ) -> [usize; MOST_ITEMS]
     requires { ⌜ TimedReady timed (now timings) (now cost) ⌝ }
     ensures { λ r. ⌜ Partners timed (now (timings .entry)) (now (cost .entry)) (timed .items) r ⌝ }
+    ensures { λ r. ⌜ (keyed ≡ true → DueNoSooner (now (timings .entry)) (timed .items) r) ⌝ }
 {
     let mut partners = [0; MOST_ITEMS];
     let mut i = 0;
     while i < timed.items {
-        partners[i] = partner_of(timed, set, i, timings, cost);
+        partners[i] = partner_of(timed, set, keyed, i, timings, cost);
         i += 1;
     }
     partners
 }
 
-// Whether the node's level keeps its item and the item's partner in order: not where the partner has a higher level and no more ticks.
-fn is_in_order(node: Node, timings: &[u32], partners: &[usize]) -> bool
-    requires { ⌜ SmallNode node ⌝ }
-    requires { ⌜ node .item * timingWidth + 2 + node .level < length (now timings) ⌝ }
-    requires { ⌜ (length (now partners) ≡ mostItems) × (getD (now partners) (node .item) 0 ≤ node .item) ⌝ }
-    ensures { λ r. ⌜ (r ≡ false → LevelOutOfOrder (now (timings .entry)) (now (partners .entry)) node) ⌝ }
+// Whether an item of the set has a partner in it that is due sooner.
+fn has_sooner_at(timed: Timed, set: usize, i: usize, timings: &[u32], cost: &[u64]) -> bool
+    requires { ⌜ TimedReady timed (now timings) (now cost) ⌝ }
+    requires { ⌜ i < timed .items ⌝ }
 {
-    let i = node.item;
-    let partner = partners[i];
-    if partner == 0 {
-        return true;
-    }
-    let j = partner - 1;
-    let level = node.level;
-    let ticks = node.ticks;
-    if timings[i * TIMING_WIDTH + 2 + level] < ticks[j] {
-        return true;
-    }
-    choice_at(node.key, i - partner) <= level + 1
-}
-
-// Whether the node's item may run at the node's level: a job has its ticks within its window there, and the item and its partner are in
-// order.
-pub(crate) fn may_run(node: Node, timings: &[u32], partners: &[usize]) -> bool
-    requires { ⌜ SmallNode node ⌝ }
-    requires { ⌜ node .item * timingWidth + 2 + node .level < length (now timings) ⌝ }
-    requires { ⌜ (length (now partners) ≡ mostItems) × (getD (now partners) (node .item) 0 ≤ node .item) ⌝ }
-    ensures { λ r. ⌜ (r ≡ true →
-        timingAt (now (timings .entry)) (node .item) .ticks (node .level) ≤ timingAt (now (timings .entry)) (node .item) .window) ⌝ }
-    ensures { λ r. ⌜ (r ≡ false → NotRun (now (timings .entry)) (now (partners .entry)) node) ⌝ }
-{
-    if !is_within_window(node.item, node.level, timings) {
+    if !is_in_set(timed.items, set, i) {
         return false;
     }
-    is_in_order(node, timings, partners)
+    let partner = partner_of(timed, set, false, i, timings, cost);
+    if partner == 0 {
+        return false;
+    }
+    is_due_sooner(partner - 1, i, timings)
+}
+
+// Whether some item has: then a search for costs alone tries fewer levels than one for keys too.
+pub fn has_sooner_partner(timed: Timed, set: usize, timings: &[u32], cost: &[u64]) -> bool
+    requires { ⌜ TimedReady timed (now timings) (now cost) ⌝ }
+{
+    let mut i = 0;
+    while i < timed.items {
+        if has_sooner_at(timed, set, i, timings, cost) {
+            return true;
+        }
+        i += 1;
+    }
+    false
 }

@@ -1,6 +1,6 @@
 // The search through the patterns that go on from a part.
 use crate::bounds::is_promising;
-use crate::partners::may_run;
+use crate::order::may_run;
 use crate::refits::is_refit_due;
 use crate::refits::refitted;
 use lagrangian::TIMING_WIDTH;

@@ -1,7 +1,7 @@
 use mathlib.Core.Path.{refl}
 use borrow.Author.Needs.{needs}
 use Rattle.timed_sets.specs.FoundLaws.{found-from-one}
-use Rattle.timed_sets.specs.SetTheorem.{start-stands, found-up-to}
+use Rattle.timed_sets.specs.SetTheorem.{start-stands, cost-up-to, found-up-to}
 use Rattle.timed_sets.specs.WholeLaws.{lesser-small}
 use Rattle.timed_sets.proofs.least_up_to.Statement.{statement}
 use Rattle.timed_sets.proofs.least_up_to.Tie as tie
@@ -36,15 +36,23 @@ least-from-requires c κs =
     let pre = c .before .before .before .before .before .before .before .before .before .before .before .before .before .before .before .pre in
     let timed = c .before .before .before .before .before .before .before .before .before .before .before .before .before .before .before .args .bounded .timed in
     let small = lesser-small timed _ _ _ (c .before .before .before .before .before .before .before .lesser .ensures) (c .before .before .before .before .before .before .before .before .worth-along .ensures .1) (pre .1 .1 .1) in
-    (pre .0, (pre .1 .0, (start-stands _ _ _ _ (pre .1 .1 .0), (small, (c .before .before .before .before .fill-rows .ensures, c .before .before .partners-in .ensures)))))
+    (pre .0, (pre .1 .0, (start-stands _ _ _ _ (pre .1 .1 .0), (small, (c .before .before .before .before .fill-rows .ensures, c .before .before .partners-in .ensures .0)))))
 
 returns : tie.Need-returns
 returns c =
     let pre = c .before .before .before .before .before .before .before .before .before .before .before .before .before .before .before .before .pre in
-    let found = c .least-from .ensures in (
-      found-up-to (pre .0 .timed-items) (c .before .before .before .partners-in .ensures) (pre .1 .1 .0) (found .1)
-          (λ q T stands. found-from-one refl (c .before .before .before .before .before .before .before .before .lesser .ensures) (c .before .before .before .before .before .before .before .before .before .worth-along .ensures .0 q T stands) (found .0 q T stands)),
-      found .1,
+    let partners = c .before .before .before .partners-in .ensures in
+    let found = c .least-from .ensures in
+    let one = c .before .before .before .before .before .before .before .before .lesser .ensures in
+    let along = c .before .before .before .before .before .before .before .before .before .worth-along .ensures in (
+      λ keyed.
+          found-up-to (pre .0 .timed-items) (partners .0) (pre .1 .1 .0) (found .1)
+          (λ q T stands. found-from-one refl one (along .0 q T stands) (found .0 q T stands)) (partners .1 keyed),
+      (
+        cost-up-to (pre .0 .timed-items) (partners .0) (pre .1 .1 .0) (found .1)
+            (λ q T stands. found-from-one refl one (along .0 q T stands) (found .0 q T stands)),
+        found .1,
+      ),
     )
 
 pub least-up-to-spec : {M : Type 1} → statement M

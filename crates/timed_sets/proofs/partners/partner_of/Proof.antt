@@ -1,4 +1,4 @@
-use Prim.Native.Nat.{_-_, _≤_}
+use Prim.Native.Nat.{ℕ, suc, _-_, _≤_}
 use mathlib.Core.Path.{_≡_}
 use native.Mathlib.Omega.{arith}
 use borrow.Author.Needs.{needs}
@@ -6,10 +6,10 @@ use Rattle.timed_sets.proofs.partners.partner_of.Statement.{statement}
 use Rattle.timed_sets.proofs.partners.partner_of.Tie as tie
 
 abbrev Inv-loop : tie.InvT-loop
-Inv-loop timed set i timings cost j₀ j = j ≤ i
+Inv-loop timed set keyed i timings cost j₀ j = j ≤ i
 
 abbrev μ-loop : tie.MeasureT-loop
-μ-loop timed set i timings cost j₀ j = j
+μ-loop timed set keyed i timings cost j₀ j = j
 
 loop-holds : tie.Need-loop-holds Inv-loop μ-loop
 loop-holds c = search needs
@@ -21,9 +21,11 @@ is-partner-requires : tie.Need-is-partner-requires Inv-loop μ-loop
 is-partner-requires c κs = search needs
 
 returns : tie.Need-returns Inv-loop μ-loop
-returns c = λ k is.
-    let one-less : c .before .before .before .loop .j - 1 ≡ k = omega arith in
-    rw one-less at (c .before .is-partner .ensures (c .if1 .taken))
+returns c =
+    let one-less : (k : ℕ) → c .before .before .before .loop .j ≡ suc k → c .before .before .before .loop .j - 1 ≡ k = λ k is. omega arith in (
+      λ k is. rw (one-less k is) at (c .before .is-partner .ensures .0 (c .if1 .taken)),
+      λ keyed k is. rw (one-less k is) at (c .before .is-partner .ensures .1 keyed (c .if1 .taken)),
+    )
 
 sub-j : tie.Need-sub-j Inv-loop μ-loop
 sub-j c = search needs
@@ -35,7 +37,7 @@ loop-again : tie.Need-loop-again Inv-loop μ-loop
 loop-again c = search needs
 
 returns-2 : tie.Need-returns-2 Inv-loop μ-loop
-returns-2 c = λ k is. absurd (omega arith)
+returns-2 c = (λ k is. absurd (omega arith), λ keyed k is. absurd (omega arith))
 
 pub partner-of-spec : {M : Type 1} → statement M
 partner-of-spec =

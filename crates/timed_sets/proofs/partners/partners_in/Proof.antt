@@ -1,20 +1,22 @@
 use Prim.Native.Nat.{_-_, _≤_}
+use mathlib.Core.Bool.{true}
 use mathlib.Core.Path.{_≡_}
 use native.Mathlib.Omega.{arith}
 use borrow.Author.Needs.{needs}
-use Rattle.timed_sets.specs.Exchange.{Partners}
-use Rattle.timed_sets.specs.PartnerLaws.{no-partner-yet, one-item-named}
+use Rattle.timed_sets.specs.Exchange.{DueNoSooner, Partners}
+use Rattle.timed_sets.specs.PartnerLaws.{no-partner-yet, one-item-named, none-sooner-yet, one-item-no-sooner}
 use Rattle.timed_sets.proofs.partners.partners_in.Statement.{statement}
 use Rattle.timed_sets.proofs.partners.partners_in.Tie as tie
 
 abbrev Inv-loop : tie.InvT-loop
-Inv-loop timed set timings cost partners₀ i₀ partners i = (i ≤ timed .items) × Partners timed timings cost i partners
+Inv-loop timed set keyed timings cost partners₀ i₀ partners i =
+    (i ≤ timed .items) × Partners timed timings cost i partners × (keyed ≡ true → DueNoSooner timings i partners)
 
 abbrev μ-loop : tie.MeasureT-loop
-μ-loop timed set timings cost partners₀ i₀ partners i = timed .items - i
+μ-loop timed set keyed timings cost partners₀ i₀ partners i = timed .items - i
 
 loop-holds : tie.Need-loop-holds Inv-loop μ-loop
-loop-holds c = (omega arith, no-partner-yet)
+loop-holds c = (omega arith, no-partner-yet, λ keyed. none-sooner-yet)
 
 partner-of-requires : tie.Need-partner-of-requires Inv-loop μ-loop
 partner-of-requires c κs = search needs
@@ -33,13 +35,17 @@ loop-less c = search needs
 
 loop-again : tie.Need-loop-again Inv-loop μ-loop
 loop-again c =
-    (omega arith, one-item-named (c .before .before .before .loop .inv .1) (omega arith) (c .partner-of .ensures))
+    let so-far = c .before .before .before .loop .inv in (
+      omega arith,
+      one-item-named (so-far .1) (omega arith) (c .partner-of .ensures .0),
+      λ keyed. one-item-no-sooner (so-far .2 keyed) (omega (arith, so-far .1 .places)) (c .partner-of .ensures .1 keyed),
+    )
 
 returns : tie.Need-returns Inv-loop μ-loop
 returns c =
     let at = c .before .before .loop in
     let all : at .i ≡ c .before .before .before .before .before .args .timed .items = omega arith in
-    rw all at (at .inv .1)
+    (rw all at (at .inv .1), λ keyed. rw all at (at .inv .2 keyed))
 
 pub partners-in-spec : {M : Type 1} → statement M
 partners-in-spec =

@@ -16,7 +16,7 @@ use Rattle.timed_sets.proofs.bounds.is_promising.Reads as is-promising-
 use Rattle.timed_parts.proofs.next_level.Reads as next-level-reads
 use Rattle.timed_parts.proofs.passed_over.Reads as passed-over-reads
 use Rattle.timed_parts.proofs.run_at.Reads as run-at-reads
-use Rattle.timed_sets.proofs.partners.may_run.Reads as may-run-reads
+use Rattle.timed_sets.proofs.order.may_run.Reads as may-run-reads
 use Rattle.timed_sets.proofs.refits.is_refit_due.Reads as is-refit-due-reads
 use Rattle.timed_sets.proofs.refits.refitted.Reads as refitted-reads
 use Rattle.timed_sets.proofs.search.with_whole.Reads as with-whole-reads

@@ -4,8 +4,8 @@ use borrow.Author.Tests.{leb-true, leb-false, not-true, not-false}
 use Rattle.laws.specs.Truth.{false-not-true}
 use Rattle.lagrangian.specs.TimedCores.{timingAt}
 use Rattle.timed_sets.specs.Exchange.{too-long, out-of-order}
-use Rattle.timed_sets.proofs.partners.may_run.Statement.{statement}
-use Rattle.timed_sets.proofs.partners.may_run.Tie as tie
+use Rattle.timed_sets.proofs.order.may_run.Statement.{statement}
+use Rattle.timed_sets.proofs.order.may_run.Tie as tie
 
 is-within-window-requires : tie.Need-is-within-window-requires
 is-within-window-requires c κs = search needs
