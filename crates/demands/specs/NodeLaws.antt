@@ -16,9 +16,9 @@ use Rattle.dispatcher.specs.States.{freshState}
 use Rattle.dispatcher.specs.declared.DispatchState.{DispatchState}
 use Rattle.dispatcher.specs.declared.preparing.Prepared.{Prepared}
 use Rattle.dispatcher.specs.declared.preparing.PreparedCore.{PreparedCore}
+use Rattle.answers.specs.declared.Checked.{Checked}
 use Rattle.towhepamu.specs.CallOutcomes.{textDispatchOutcome}
 use Rattle.towhepamu.specs.PreparedNodes.{TextPrepares, text-refused, words-prepared, PreparesNode, nodeWhere}
-use Rattle.towhepamu.specs.declared.answers.Checked.{Checked}
 use Rattle.towhepamu.specs.declared.nodes.PreparedNode.{PreparedNode}
 use Rattle.demands.specs.TextCalls.{textThen, NodePreparingEnds}
 use Rattle.demands.specs.TextEndingLaws.{text-then-refuses}

@@ -40,8 +40,9 @@ use Rattle.sleep.specs.Outcomes.{sleepTests}
 use Rattle.dispatcher.specs.EndingLaws.{dispatching-ends}
 use Rattle.dispatcher.specs.Outcomes.{DispatchEnds, dispatchTests}
 use Rattle.dispatcher.specs.declared.DispatchState.{DispatchState}
-use Rattle.towhepamu.specs.CallOutcomes.{plannedOf, checkedOf, textPlanOutcome, textPlanOutcomeOf, textSlotCheckOutcome, textSlotCheckOutcomeOf, textCheckOutcome, textCheckOutcomeOf, textSleepOutcome, textSleepOutcomeOf}
-use Rattle.towhepamu.specs.CallOutcomes.{taskToRunOf, textDispatchOutcome, textDispatchOutcomeOf}
+use Rattle.answers.specs.Answers.{plannedOf, checkedOf, taskToRunOf}
+use Rattle.towhepamu.specs.CallOutcomes.{textPlanOutcome, textPlanOutcomeOf, textSlotCheckOutcome, textSlotCheckOutcomeOf, textCheckOutcome, textCheckOutcomeOf, textSleepOutcome, textSleepOutcomeOf}
+use Rattle.towhepamu.specs.CallOutcomes.{textDispatchOutcome, textDispatchOutcomeOf}
 use Rattle.listings.specs.Listing.{listingOfPlan, listingOfProblem, listingOfWords, listingOf}
 use Rattle.demands.specs.TextCalls.{WritesProblem, TextPlanningEnds, TextSlotCheckingEnds, TextCheckingEnds, TextSleepingEnds, TextDispatchingEnds, answerPlanned, answerChecked, answerTask, OptimalNumbers, Prints}
 

@@ -30,12 +30,13 @@ use Rattle.dispatcher.specs.Preparing.{coreOutcome}
 use Rattle.dispatcher.specs.States.{freshState}
 use Rattle.dispatcher.specs.declared.DispatchState.{DispatchState}
 use Rattle.dispatcher.specs.declared.Dispatched.{Dispatched}
-use Rattle.towhepamu.specs.CallOutcomes.{plannedOf, checkedOf, textDispatchOutcome}
-use Rattle.towhepamu.specs.declared.answers.Checked.{Checked}
-use Rattle.towhepamu.specs.declared.answers.Listed.{Listed}
-use Rattle.towhepamu.specs.declared.answers.Planned.{Planned}
-use Rattle.towhepamu.specs.declared.answers.Site.{Site}
-use Rattle.towhepamu.specs.declared.answers.TaskToRun.{TaskToRun}
+use Rattle.answers.specs.Answers.{plannedOf, checkedOf}
+use Rattle.answers.specs.declared.Checked.{Checked}
+use Rattle.answers.specs.declared.Listed.{Listed}
+use Rattle.answers.specs.declared.Planned.{Planned}
+use Rattle.answers.specs.declared.Site.{Site}
+use Rattle.answers.specs.declared.TaskToRun.{TaskToRun}
+use Rattle.towhepamu.specs.CallOutcomes.{textDispatchOutcome}
 use Rattle.towhepamu.specs.declared.nodes.PreparedNode.{PreparedNode}
 use Rattle.listing_lines.specs.ListingLines.{refusalLine, planLines}
 use Rattle.listings.specs.Listing.{mostListing, listingOf}

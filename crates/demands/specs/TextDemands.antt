@@ -14,10 +14,11 @@ use Rattle.prices.specs.Outcomes.{priceVerdict}
 use Rattle.tables.specs.Tables.{tableSize}
 use Rattle.demands.specs.Demands.{demand-3}
 use Rattle.dispatcher.specs.declared.DispatchState.{DispatchState}
-use Rattle.towhepamu.specs.CallOutcomes.{siteOf, plannedOf, checkedOf, listedOf, textReadOutcome, textPlanOutcome, textSlotCheckOutcome, textCheckOutcome, textSleepOutcome}
-use Rattle.towhepamu.specs.CallOutcomes.{taskToRunOf, textDispatchOutcome}
+use Rattle.answers.specs.Answers.{siteOf, plannedOf, checkedOf, listedOf, taskToRunOf}
+use Rattle.answers.specs.declared.Checked.{Checked}
+use Rattle.towhepamu.specs.CallOutcomes.{textReadOutcome, textPlanOutcome, textSlotCheckOutcome, textCheckOutcome, textSleepOutcome}
+use Rattle.towhepamu.specs.CallOutcomes.{textDispatchOutcome}
 use Rattle.towhepamu.specs.PreparedNodes.{PreparesNode}
-use Rattle.towhepamu.specs.declared.answers.Checked.{Checked}
 use Rattle.towhepamu.specs.declared.nodes.PreparedNode.{PreparedNode}
 use Rattle.listings.specs.Listing.{listingOf}
 use Rattle.listings.specs.Outcomes.{listOutcome, listVerdict}

@@ -25,7 +25,8 @@ use Rattle.listings.specs.ListingLength.{listing-at-most}
 use Rattle.listings.specs.Outcomes.{listWhere, listTests, listOutcome, listVerdict}
 use Rattle.listings.specs.declared.site.PlanListed.{PlanListed}
 use Rattle.listings.specs.declared.site.PlanListed.the-variants as PlanListed
-use Rattle.towhepamu.specs.CallOutcomes.{siteOf, listedOf, textReadOutcome, textReadOutcomeOf}
+use Rattle.answers.specs.Answers.{siteOf, listedOf}
+use Rattle.towhepamu.specs.CallOutcomes.{textReadOutcome, textReadOutcomeOf}
 use Rattle.demands.specs.TextCalls.{textThen, readVerdict, TextReadingEnds, TextListingEnds, answerSite, answerListed}
 
 read-then-refuses : {A : Type 0} {first others : List ℕ} {reading : Reading A} {tests : A → Verdict} →

@@ -1,13 +1,13 @@
--- The whole outcome of the calls of a program in C, for every text: the numbers returned, and what each lent buffer holds
--- afterwards. Plans and tables are the lists that the lent bytes are: "there a choice is one byte". What listing answers and
--- leaves in its buffer is `listOutcome` of the crate `listings`.
+-- The whole outcome of the calls of a program in C, for every text: what is answered, and what each lent buffer holds
+-- afterwards. Plans and tables are the lists that the lent bytes are: "there a choice is one byte". The numbers of an answer are
+-- `Answers` of the crate `answers`; what listing answers and leaves in its buffer is `listOutcome` of the crate `listings`.
 use Prim.Native.Nat.{ℕ}
 use mathlib.Core.Bool.{Bool}
 use mathlib.Core.List.{List}
 use mathlib.Core.Path.{_≡_}
-use Rattle.refusals.specs.Refusals.{Reading, refused, accepted, numberOf, placeOf}
+use Rattle.refusals.specs.Refusals.{Reading, refused, accepted}
 use Rattle.text.specs.Text.{wordsOf}
-use Rattle.instance.specs.Node.{Problem, levelCount, taskCount, span}
+use Rattle.instance.specs.Node.{Problem}
 use Rattle.instance.specs.SiteFile.{problemOf}
 use Rattle.refusals.specs.declared.Verdict.{Verdict}
 use Rattle.refusals.specs.declared.Verdict.the-variants.{Accepted, Refused}
@@ -16,42 +16,9 @@ use Rattle.sleep.specs.Outcomes.{SleepOutcome, sleepOutcome}
 use Rattle.dispatcher.specs.Outcomes.{dispatchOutcome}
 use Rattle.dispatcher.specs.declared.DispatchState.{DispatchState}
 use Rattle.dispatcher.specs.declared.Dispatched.{Dispatched}
-use Rattle.prices.specs.declared.amounts.Priced.{Priced}
-use Rattle.prices.specs.declared.amounts.Priced.the-variants as Priced
 use Rattle.planner.specs.Outcomes.{PlanOutcome, planRefused, planOutcome}
-use Rattle.listings.specs.declared.site.PlanListed.{PlanListed}
-use Rattle.listings.specs.declared.site.PlanListed.the-variants as PlanListed
-use Rattle.towhepamu.specs.declared.answers.Checked.{Checked}
-use Rattle.towhepamu.specs.declared.answers.Listed.{Listed}
-use Rattle.towhepamu.specs.declared.answers.Planned.{Planned}
-use Rattle.towhepamu.specs.declared.answers.Site.{Site}
-use Rattle.towhepamu.specs.declared.answers.TaskToRun.{TaskToRun}
-
--- a refusal's number and place, or 0 and 0 with how large the instance is
-abbrev pub siteOf : Reading Problem → Site
-siteOf (refused r) = record { refusal = numberOf r; place = placeOf r; tasks = 0; levels = 0; cores = 0; span = 0 }
-siteOf (accepted p) =
-    record { refusal = 0; place = 0; tasks = taskCount p; levels = levelCount p; cores = p .cores; span = span p }
-
--- "returns energy, penalty and cost"
-abbrev pub plannedOf : Priced → Planned
-plannedOf (Priced.Cost price) =
-    record { refusal = 0; place = 0; energy = price .energy; penalty = price .penalty; cost = price .cost }
-plannedOf (Priced.Refused r) = record { refusal = numberOf r; place = placeOf r; energy = 0; penalty = 0; cost = 0 }
-
-abbrev pub checkedOf : Verdict → Checked
-checkedOf Accepted = record { refusal = 0; place = 0 }
-checkedOf (Refused r) = record { refusal = numberOf r; place = placeOf r }
-
--- how many bytes the listing has
-abbrev pub listedOf : PlanListed → Listed
-listedOf (PlanListed.Bytes n) = record { refusal = 0; place = 0; length = n }
-listedOf (PlanListed.Refused r) = record { refusal = numberOf r; place = placeOf r; length = 0 }
-
--- the task to run, 0 where the call is refused
-abbrev pub taskToRunOf : Verdict → ℕ → TaskToRun
-taskToRunOf Accepted task = record { refusal = 0; place = 0; task = task }
-taskToRunOf (Refused r) task = record { refusal = numberOf r; place = placeOf r; task = task }
+use Rattle.answers.specs.Answers.{taskToRunOf}
+use Rattle.answers.specs.declared.TaskToRun.{TaskToRun}
 
 -- "In any other call that is given text, 1 comes before all the rest."
 abbrev pub textReadOutcomeOf : Reading (List ℕ) → Reading Problem

@@ -12,9 +12,9 @@ use Rattle.dispatcher.specs.Preparing.{Prepares, coreOutcome, noCore}
 use Rattle.dispatcher.specs.States.{freshState}
 use Rattle.dispatcher.specs.declared.preparing.Prepared.{Prepared}
 use Rattle.dispatcher.specs.declared.preparing.PreparedCore.{PreparedCore}
-use Rattle.towhepamu.specs.CallOutcomes.{checkedOf, taskToRunOf}
-use Rattle.towhepamu.specs.declared.answers.Checked.{Checked}
-use Rattle.towhepamu.specs.declared.answers.TaskToRun.{TaskToRun}
+use Rattle.answers.specs.Answers.{checkedOf, taskToRunOf}
+use Rattle.answers.specs.declared.Checked.{Checked}
+use Rattle.answers.specs.declared.TaskToRun.{TaskToRun}
 use Rattle.towhepamu.specs.declared.nodes.PreparedNode.{PreparedNode}
 
 -- "In any other call that is given text, 1 comes before all the rest."

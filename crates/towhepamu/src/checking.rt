@@ -1,7 +1,7 @@
 // The checks of a given plan and table.
-use crate::answers::Checked;
-use crate::answers::checked_of;
 use crate::choices::words_of_bytes;
+use answers::Checked;
+use answers::checked_of;
 use checks::check_slots;
 use checks::check_table;
 use ranges::MOST_TASKS;
@@ -10,7 +10,8 @@ use refusals::Verdict;
 use text::TextRead;
 use text::words_of_text;
 ghost use mathlib.Core.Path.{_≡_};
-ghost use Rattle.towhepamu.specs.CallOutcomes.{checkedOf, textSlotCheckOutcome, textCheckOutcome};
+ghost use Rattle.answers.specs.Answers.{checkedOf};
+ghost use Rattle.towhepamu.specs.CallOutcomes.{textSlotCheckOutcome, textCheckOutcome};
 ghost use Rattle.checks.specs.Outcomes.{slotCheckOutcome, checkOutcome};
 
 // A plan of more than MOST_TASKS choices is too long for every instance, and so are its first MOST_TASKS + 1.

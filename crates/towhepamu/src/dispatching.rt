@@ -1,7 +1,7 @@
 // The dispatcher's call for the instance that a text is.
-use crate::answers::TaskToRun;
-use crate::answers::task_to_run;
 use crate::choices::words_of_bytes;
+use answers::TaskToRun;
+use answers::task_to_run;
 use dispatcher::DispatchState;
 use dispatcher::Dispatched;
 use dispatcher::dispatch;

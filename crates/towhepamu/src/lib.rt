@@ -1,5 +1,4 @@
 // Reading, planning, checking, reckoning sleeps, dispatching and listing for a program in C, over the bytes of a text: a choice is one byte there, and so is a slot.
-mod answers;
 mod checking;
 mod choices;
 mod dispatching;
@@ -9,11 +8,6 @@ mod planning;
 mod reading;
 mod sleeping;
 
-pub use answers::Checked;
-pub use answers::Listed;
-pub use answers::Planned;
-pub use answers::Site;
-pub use answers::TaskToRun;
 pub use checking::towhepamu_check;
 pub use checking::towhepamu_check_slots;
 pub use dispatching::towhepamu_dispatch;

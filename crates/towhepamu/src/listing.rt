@@ -1,10 +1,10 @@
 // The listing of the instance that a text is.
-use crate::answers::Listed;
-use crate::answers::listed_of;
+use answers::Listed;
+use answers::listed_of;
 use listings::list_plan;
 ghost use mathlib.Core.Path.{_≡_};
 ghost use Rattle.listings.specs.Outcomes.{listOutcome};
-ghost use Rattle.towhepamu.specs.CallOutcomes.{listedOf};
+ghost use Rattle.answers.specs.Answers.{listedOf};
 
 // Writes what the listing program prints for a text that has a plan to the front of the lent buffer.
 #[no_mangle]

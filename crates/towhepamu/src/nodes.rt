@@ -1,9 +1,9 @@
 // A core that a program in C prepares once for its own loop, and a tick over it.
-use crate::answers::Checked;
-use crate::answers::TaskToRun;
-use crate::answers::checked_of;
-use crate::answers::task_to_run;
 use crate::choices::words_of_bytes;
+use answers::Checked;
+use answers::TaskToRun;
+use answers::checked_of;
+use answers::task_to_run;
 use dispatcher::DispatchState;
 use dispatcher::Prepared;
 use dispatcher::PreparedCore;

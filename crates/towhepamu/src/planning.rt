@@ -1,7 +1,7 @@
 // Planning the instance that a text is.
-use crate::answers::Planned;
-use crate::answers::planned_of;
 use crate::choices::bytes_of_words;
+use answers::Planned;
+use answers::planned_of;
 use instance::read_instance;
 use planner::plan;
 use prices::Priced;
@@ -12,7 +12,8 @@ use refusals::Verdict;
 use text::TextRead;
 use text::words_of_text;
 ghost use mathlib.Core.Path.{_≡_};
-ghost use Rattle.towhepamu.specs.CallOutcomes.{plannedOf, textPlanOutcome};
+ghost use Rattle.answers.specs.Answers.{plannedOf};
+ghost use Rattle.towhepamu.specs.CallOutcomes.{textPlanOutcome};
 ghost use Rattle.towhepamu.specs.OwnPlanLaws.{RoomForPlan};
 ghost use Rattle.planner.specs.Outcomes.{planOutcome};
 

@@ -1,7 +1,7 @@
 // Reading the instance that a text is.
-use crate::answers::Site;
-use crate::answers::no_site;
-use crate::answers::site_of;
+use answers::Site;
+use answers::no_site;
+use answers::site_of;
 use instance::read_instance;
 use ranges::MOST_TEXT_WORDS;
 use refusals::Verdict;
@@ -9,7 +9,8 @@ use text::TextRead;
 use text::words_of_text;
 ghost use mathlib.Core.Path.{_≡_};
 ghost use Rattle.instance.specs.SiteFile.{problemOf};
-ghost use Rattle.towhepamu.specs.CallOutcomes.{siteOf, textReadOutcome};
+ghost use Rattle.answers.specs.Answers.{siteOf};
+ghost use Rattle.towhepamu.specs.CallOutcomes.{textReadOutcome};
 
 fn read_words(words: &[u32]) -> Site
     ensures { λ r. ⌜ r ≡ siteOf (problemOf (now (words .entry))) ⌝ }

@@ -1,7 +1,7 @@
 // What the gaps of a given table are worth.
-use crate::answers::Checked;
-use crate::answers::checked_of;
 use crate::choices::words_of_bytes;
+use answers::Checked;
+use answers::checked_of;
 use ranges::MOST_TASKS;
 use ranges::MOST_TEXT_WORDS;
 use refusals::Verdict;
@@ -10,7 +10,8 @@ use text::TextRead;
 use text::words_of_text;
 ghost use mathlib.Core.Path.{_≡_};
 ghost use Rattle.sleep.specs.Outcomes.{Gives, sleepOutcome};
-ghost use Rattle.towhepamu.specs.CallOutcomes.{checkedOf, textSleepOutcome};
+ghost use Rattle.answers.specs.Answers.{checkedOf};
+ghost use Rattle.towhepamu.specs.CallOutcomes.{textSleepOutcome};
 
 // The front of the plan decides, as in the check.
 fn sleep_words(

@@ -2,7 +2,8 @@ use mathlib.Core.Path.{sym, ap, _∙_}
 use native.Mathlib.Omega.{arith}
 use lib.Seq.{length-take-le}
 use Rattle.text.specs.NumberCountLaws.{FrontIsText, text-is-refused, words-at-front}
-use Rattle.towhepamu.specs.CallOutcomes.{checkedOf, textSlotCheckOutcome}
+use Rattle.answers.specs.Answers.{checkedOf}
+use Rattle.towhepamu.specs.CallOutcomes.{textSlotCheckOutcome}
 use borrow.Author.Needs.{needs}
 use Rattle.towhepamu.proofs.checking.towhepamu_check_slots.Statement.{statement}
 use Rattle.towhepamu.proofs.checking.towhepamu_check_slots.Tie as tie

@@ -1,7 +1,7 @@
 use mathlib.Core.Path.{ap, _∙_}
 use borrow.Author.Needs.{needs}
 use Rattle.dispatcher.specs.declared.Dispatched.{Dispatched}
-use Rattle.towhepamu.specs.CallOutcomes.{taskToRunOf}
+use Rattle.answers.specs.Answers.{taskToRunOf}
 use Rattle.towhepamu.proofs.dispatching.dispatch_numbers.Statement.{statement}
 use Rattle.towhepamu.proofs.dispatching.dispatch_numbers.Tie as tie
 

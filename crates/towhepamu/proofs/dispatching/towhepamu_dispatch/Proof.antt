@@ -46,8 +46,8 @@ use Rattle.dispatcher.proofs.DispatchState as S
 use Rattle.dispatcher.proofs.DispatchState.Laws as S′
 use Rattle.towhepamu.proofs.dispatching.TextDispatched as D
 use Rattle.towhepamu.proofs.dispatching.TextDispatched.Laws as D′
-use Rattle.towhepamu.proofs.answers.TaskToRun as T
-use Rattle.towhepamu.proofs.answers.TaskToRun.Laws as T′
+use Rattle.answers.proofs.TaskToRun as T
+use Rattle.answers.proofs.TaskToRun.Laws as T′
 use Rattle.towhepamu.proofs.dispatching.dispatch_numbers as numbers
 use Rattle.towhepamu.proofs.dispatching.dispatch_numbers.Symbol as numbers-def
 use Rattle.towhepamu.proofs.dispatching.dispatch_numbers.Symbol.{name as #numbers}

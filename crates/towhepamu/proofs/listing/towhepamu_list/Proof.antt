@@ -1,6 +1,6 @@
 use mathlib.Core.Path.{ap, _∙_}
 use borrow.Author.Needs.{needs}
-use Rattle.towhepamu.specs.CallOutcomes.{listedOf}
+use Rattle.answers.specs.Answers.{listedOf}
 use Rattle.towhepamu.proofs.listing.towhepamu_list.Statement.{statement}
 use Rattle.towhepamu.proofs.listing.towhepamu_list.Tie as tie
 

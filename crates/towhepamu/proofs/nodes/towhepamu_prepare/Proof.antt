@@ -45,8 +45,8 @@ use Rattle.towhepamu.proofs.nodes.PreparedNode as S
 use Rattle.towhepamu.proofs.nodes.PreparedNode.Laws as S′
 use Rattle.towhepamu.proofs.nodes.NodePrepared as D
 use Rattle.towhepamu.proofs.nodes.NodePrepared.Laws as D′
-use Rattle.towhepamu.proofs.answers.Checked as T
-use Rattle.towhepamu.proofs.answers.Checked.Laws as T′
+use Rattle.answers.proofs.Checked as T
+use Rattle.answers.proofs.Checked.Laws as T′
 use Rattle.towhepamu.proofs.nodes.prepare_numbers as numbers
 use Rattle.towhepamu.proofs.nodes.prepare_numbers.Symbol as numbers-def
 use Rattle.towhepamu.proofs.nodes.prepare_numbers.Symbol.{name as #numbers}

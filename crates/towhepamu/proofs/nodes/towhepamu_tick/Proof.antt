@@ -45,8 +45,8 @@ use Rattle.towhepamu.proofs.nodes.PreparedNode as S
 use Rattle.towhepamu.proofs.nodes.PreparedNode.Laws as S′
 use Rattle.towhepamu.proofs.nodes.NodeTicked as D
 use Rattle.towhepamu.proofs.nodes.NodeTicked.Laws as D′
-use Rattle.towhepamu.proofs.answers.TaskToRun as T
-use Rattle.towhepamu.proofs.answers.TaskToRun.Laws as T′
+use Rattle.answers.proofs.TaskToRun as T
+use Rattle.answers.proofs.TaskToRun.Laws as T′
 use Rattle.towhepamu.proofs.nodes.tick_numbers as numbers
 use Rattle.towhepamu.proofs.nodes.tick_numbers.Symbol as numbers-def
 use Rattle.towhepamu.proofs.nodes.tick_numbers.Symbol.{name as #numbers}

@@ -2,7 +2,8 @@ use mathlib.Core.Path.{refl, sym, ap, _∙_}
 use native.Mathlib.Omega.{arith}
 use lib.Seq.{length-take-le}
 use Rattle.text.specs.NumberCountLaws.{FrontIsText, text-is-refused, words-at-front}
-use Rattle.towhepamu.specs.CallOutcomes.{plannedOf, textPlanOutcome}
+use Rattle.answers.specs.Answers.{plannedOf}
+use Rattle.towhepamu.specs.CallOutcomes.{textPlanOutcome}
 use borrow.Author.Needs.{needs}
 use Rattle.towhepamu.proofs.planning.towhepamu_plan.Statement.{statement}
 use Rattle.towhepamu.proofs.planning.towhepamu_plan.Tie as tie

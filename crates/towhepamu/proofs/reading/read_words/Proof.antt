@@ -1,7 +1,7 @@
 use mathlib.Core.Path.{sym, ap, _∙_}
 use borrow.Author.Needs.{needs}
 use Rattle.instance.specs.ReadLaws.{HoldsProblemOf, accepted-read-holds-problem, refused-read-refuses-words}
-use Rattle.towhepamu.specs.CallOutcomes.{siteOf}
+use Rattle.answers.specs.Answers.{siteOf}
 use Rattle.towhepamu.proofs.reading.read_words.Statement.{statement}
 use Rattle.towhepamu.proofs.reading.read_words.Tie as tie
 

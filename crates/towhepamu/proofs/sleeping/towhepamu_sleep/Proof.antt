@@ -2,7 +2,8 @@ use mathlib.Core.Path.{refl, sym, ap, _∙_}
 use native.Mathlib.Omega.{arith}
 use lib.Seq.{length-take-le}
 use Rattle.text.specs.NumberCountLaws.{FrontIsText, text-is-refused, words-at-front}
-use Rattle.towhepamu.specs.CallOutcomes.{checkedOf, textSleepOutcome}
+use Rattle.answers.specs.Answers.{checkedOf}
+use Rattle.towhepamu.specs.CallOutcomes.{textSleepOutcome}
 use borrow.Author.Needs.{needs}
 use Rattle.towhepamu.proofs.sleeping.towhepamu_sleep.Statement.{statement}
 use Rattle.towhepamu.proofs.sleeping.towhepamu_sleep.Tie as tie

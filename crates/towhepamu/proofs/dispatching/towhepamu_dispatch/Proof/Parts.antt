@@ -25,13 +25,13 @@ use denote.Triple.Walked.{Stays, stay-none, stay-none-slice, stay-ref, AllGo, go
 use denote.Exit.{yes}
 use Rattle.dispatcher.specs.declared.DispatchState.{DispatchState}
 use Rattle.towhepamu.specs.declared.dispatching.TextDispatched.{TextDispatched}
-use Rattle.towhepamu.specs.declared.answers.TaskToRun.{TaskToRun}
+use Rattle.answers.specs.declared.TaskToRun.{TaskToRun}
 use Rattle.dispatcher.proofs.DispatchState as S
 use Rattle.dispatcher.proofs.DispatchState.Laws as S′
 use Rattle.towhepamu.proofs.dispatching.TextDispatched as D
 use Rattle.towhepamu.proofs.dispatching.TextDispatched.Laws as D′
-use Rattle.towhepamu.proofs.answers.TaskToRun as T
-use Rattle.towhepamu.proofs.answers.TaskToRun.Laws as T′
+use Rattle.answers.proofs.TaskToRun as T
+use Rattle.answers.proofs.TaskToRun.Laws as T′
 use Rattle.towhepamu.proofs.dispatching.dispatch_numbers as numbers
 use Rattle.towhepamu.proofs.dispatching.towhepamu_dispatch as own
 

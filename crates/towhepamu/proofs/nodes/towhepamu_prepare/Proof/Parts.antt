@@ -24,13 +24,13 @@ use denote.Triple.Walked.{Stays, stay-none, stay-none-slice, stay-ref, AllGo, go
 use denote.Exit.{yes}
 use Rattle.towhepamu.specs.declared.nodes.PreparedNode.{PreparedNode}
 use Rattle.towhepamu.specs.declared.nodes.NodePrepared.{NodePrepared}
-use Rattle.towhepamu.specs.declared.answers.Checked.{Checked}
+use Rattle.answers.specs.declared.Checked.{Checked}
 use Rattle.towhepamu.proofs.nodes.PreparedNode as S
 use Rattle.towhepamu.proofs.nodes.PreparedNode.Laws as S′
 use Rattle.towhepamu.proofs.nodes.NodePrepared as D
 use Rattle.towhepamu.proofs.nodes.NodePrepared.Laws as D′
-use Rattle.towhepamu.proofs.answers.Checked as T
-use Rattle.towhepamu.proofs.answers.Checked.Laws as T′
+use Rattle.answers.proofs.Checked as T
+use Rattle.answers.proofs.Checked.Laws as T′
 use Rattle.towhepamu.proofs.nodes.prepare_numbers as numbers
 use Rattle.towhepamu.proofs.nodes.towhepamu_prepare as own
 

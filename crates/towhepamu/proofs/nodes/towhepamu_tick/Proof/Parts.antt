@@ -22,13 +22,13 @@ use denote.Triple.Walked.{Stays, stay-none, stay-ref, AllGo, goes-none, goes-ref
 use denote.Exit.{yes}
 use Rattle.towhepamu.specs.declared.nodes.PreparedNode.{PreparedNode}
 use Rattle.towhepamu.specs.declared.nodes.NodeTicked.{NodeTicked}
-use Rattle.towhepamu.specs.declared.answers.TaskToRun.{TaskToRun}
+use Rattle.answers.specs.declared.TaskToRun.{TaskToRun}
 use Rattle.towhepamu.proofs.nodes.PreparedNode as S
 use Rattle.towhepamu.proofs.nodes.PreparedNode.Laws as S′
 use Rattle.towhepamu.proofs.nodes.NodeTicked as D
 use Rattle.towhepamu.proofs.nodes.NodeTicked.Laws as D′
-use Rattle.towhepamu.proofs.answers.TaskToRun as T
-use Rattle.towhepamu.proofs.answers.TaskToRun.Laws as T′
+use Rattle.answers.proofs.TaskToRun as T
+use Rattle.answers.proofs.TaskToRun.Laws as T′
 use Rattle.towhepamu.proofs.nodes.tick_numbers as numbers
 use Rattle.towhepamu.proofs.nodes.towhepamu_tick as own
 

@@ -1,7 +1,7 @@
 use mathlib.Core.Path.{refl}
 use borrow.Author.Needs.{needs}
-use Rattle.towhepamu.proofs.answers.no_site.Statement.{statement}
-use Rattle.towhepamu.proofs.answers.no_site.Tie as tie
+use Rattle.answers.proofs.no_site.Statement.{statement}
+use Rattle.answers.proofs.no_site.Tie as tie
 
 refusal-number-requires : tie.Need-refusal-number-requires
 refusal-number-requires c κs = search needs

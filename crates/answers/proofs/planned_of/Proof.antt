@@ -1,7 +1,7 @@
 use mathlib.Core.Path.{refl}
 use borrow.Author.Needs.{needs}
-use Rattle.towhepamu.proofs.answers.planned_of.Statement.{statement}
-use Rattle.towhepamu.proofs.answers.planned_of.Tie as tie
+use Rattle.answers.proofs.planned_of.Statement.{statement}
+use Rattle.answers.proofs.planned_of.Tie as tie
 
 enum-known-priced : tie.Need-enum-known-priced
 enum-known-priced c = search needs

@@ -3,9 +3,9 @@ use borrow.Author.Needs.{needs}
 use Rattle.instance.specs.Held.{Sound, problemIn, held-taskcount, held-levelcount, held-span}
 use Rattle.instance.specs.declared.Instance.{Instance}
 use Rattle.refusals.specs.Refusals.{accepted}
-use Rattle.towhepamu.specs.CallOutcomes.{siteOf}
-use Rattle.towhepamu.proofs.answers.site_of.Statement.{statement}
-use Rattle.towhepamu.proofs.answers.site_of.Tie as tie
+use Rattle.answers.specs.Answers.{siteOf}
+use Rattle.answers.proofs.site_of.Statement.{statement}
+use Rattle.answers.proofs.site_of.Tie as tie
 
 fields-of-held : (inst : Instance) → Sound inst →
     record { refusal = 0; place = 0; tasks = inst .taskcount; levels = inst .levelcount; cores = inst .cores; span = inst .span }

@@ -1,4 +1,4 @@
-// What the calls return: the paper's numbers.
+// What the calls of a program in C return: the paper's numbers.
 use instance::Instance;
 use listings::PlanListed;
 use prices::Priced;
@@ -9,7 +9,7 @@ use refusals::refusal_place;
 ghost use mathlib.Core.Path.{_≡_};
 ghost use Rattle.instance.specs.Held.{Sound, problemIn};
 ghost use Rattle.refusals.specs.Refusals.{refused, accepted};
-ghost use Rattle.towhepamu.specs.CallOutcomes.{siteOf, plannedOf, checkedOf, listedOf, taskToRunOf};
+ghost use Rattle.answers.specs.Answers.{siteOf, plannedOf, checkedOf, listedOf, taskToRunOf};
 
 // Reading: the refusal's number and place, both 0 where the text is an instance; and how large that is, all 0 where it is none.
 #[repr(C)]
@@ -55,7 +55,7 @@ pub struct TaskToRun {
     pub task: u64,
 }
 
-pub(crate) fn no_site(refusal: Refusal) -> Site
+pub fn no_site(refusal: Refusal) -> Site
     ensures { λ r. ⌜ r ≡ siteOf (refused refusal) ⌝ }
 {
     Site {
@@ -68,7 +68,7 @@ pub(crate) fn no_site(refusal: Refusal) -> Site
     }
 }
 
-pub(crate) fn site_of(inst: Instance) -> Site
+pub fn site_of(inst: Instance) -> Site
     requires { ⌜ Sound inst ⌝ }
     ensures { λ r. ⌜ r ≡ siteOf (accepted (problemIn inst)) ⌝ }
 {
@@ -82,7 +82,7 @@ pub(crate) fn site_of(inst: Instance) -> Site
     }
 }
 
-pub(crate) fn planned_of(priced: Priced) -> Planned
+pub fn planned_of(priced: Priced) -> Planned
     ensures { λ r. ⌜ r ≡ plannedOf priced ⌝ }
 {
     match priced {
@@ -103,7 +103,7 @@ pub(crate) fn planned_of(priced: Priced) -> Planned
     }
 }
 
-pub(crate) fn checked_of(verdict: Verdict) -> Checked
+pub fn checked_of(verdict: Verdict) -> Checked
     ensures { λ r. ⌜ r ≡ checkedOf verdict ⌝ }
 {
     match verdict {
@@ -118,7 +118,7 @@ pub(crate) fn checked_of(verdict: Verdict) -> Checked
     }
 }
 
-pub(crate) fn listed_of(listed: PlanListed) -> Listed
+pub fn listed_of(listed: PlanListed) -> Listed
     ensures { λ r. ⌜ r ≡ listedOf listed ⌝ }
 {
     match listed {
@@ -135,7 +135,7 @@ pub(crate) fn listed_of(listed: PlanListed) -> Listed
     }
 }
 
-pub(crate) fn task_to_run(verdict: Verdict, task: u32) -> TaskToRun
+pub fn task_to_run(verdict: Verdict, task: u32) -> TaskToRun
     ensures { λ r. ⌜ r ≡ taskToRunOf verdict task ⌝ }
 {
     match verdict {

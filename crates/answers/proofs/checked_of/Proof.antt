@@ -1,7 +1,7 @@
 use mathlib.Core.Path.{refl}
 use borrow.Author.Needs.{needs}
-use Rattle.towhepamu.proofs.answers.checked_of.Statement.{statement}
-use Rattle.towhepamu.proofs.answers.checked_of.Tie as tie
+use Rattle.answers.proofs.checked_of.Statement.{statement}
+use Rattle.answers.proofs.checked_of.Tie as tie
 
 enum-told : tie.Need-enum-told
 enum-told c = search needs

@@ -1,7 +1,7 @@
 use mathlib.Core.Path.{refl}
 use borrow.Author.Needs.{needs}
-use Rattle.towhepamu.proofs.answers.listed_of.Statement.{statement}
-use Rattle.towhepamu.proofs.answers.listed_of.Tie as tie
+use Rattle.answers.proofs.listed_of.Statement.{statement}
+use Rattle.answers.proofs.listed_of.Tie as tie
 
 enum-known-listed : tie.Need-enum-known-listed
 enum-known-listed c = search needs
