@@ -4,8 +4,8 @@ use mathlib.Core.Logic.{_⊎_, inl, inr}
 use mathlib.Core.Path.{_≡_, sym, _∙_}
 use native.Mathlib.Omega.{arith}
 use Rattle.dispatch.specs.EarliestSoFar.{Picked, pick-passes-idle, pick-keeps, pick-takes}
-use Rattle.dispatcher.specs.Ticks.{Earlier}
-use Rattle.dispatcher.specs.declared.ticks.Best.{Best}
+use Rattle.tick_steps.specs.Choosing.{Earlier}
+use Rattle.tick_steps.specs.declared.Best.{Best}
 
 module _ (due left : ℕ → ℕ) (j : ℕ) (best : Best) (picked : Picked due left j (best .column) (best .due)) (its-left its-due : ℕ)
     (same-left : its-left ≡ left j) (same-due : its-due ≡ due j) where

@@ -1,8 +1,7 @@
 -- What the functions of one tick over columns have done, as their contracts say it.
-use Prim.Native.Nat.{ℕ, _+_, _≤_, _<_}
+use Prim.Native.Nat.{ℕ}
 use mathlib.Core.Bool.{Bool}
 use mathlib.Core.List.{List, []}
-use mathlib.Core.Logic.{_⊎_}
 use mathlib.Core.Path.{_≡_}
 use lib.ListN.{length, getD}
 use Rattle.dispatch.specs.Calls.{afterEnd}
@@ -10,14 +9,7 @@ use Rattle.dispatch.specs.Columns.{columnTasks, dueIn}
 use Rattle.dispatch.specs.Rows.{afterRelease, earliest}
 use Rattle.dispatcher.specs.Places.{Placed, placeOf}
 use Rattle.dispatcher.specs.declared.DispatchState.{DispatchState}
-use Rattle.dispatcher.specs.declared.ticks.Best.{Best}
 use Rattle.dispatcher.specs.declared.ticks.Chosen.{Chosen}
-
--- the better of a choice and the task of one more column: one that is idle, or due no earlier, leaves the choice
-pub data Earlier (best : Best) (column left due : ℕ) : Best → Type 0 where
-  passed-idle : left ≡ 0 → Earlier best column left due best
-  kept : (left ≡ 0 → ⊥) → (best .column ≡ 0 → ⊥) → best .due ≤ due → Earlier best column left due best
-  taken : (left ≡ 0 → ⊥) → (best .column ≡ 0) ⊎ (due < best .due) → Earlier best column left due (record { column = column + 1; due = due })
 
 -- the ticks left of column j's task once an early end is applied and the jobs of a tick are released
 abbrev pub readyIn : (numbers periods ticks : List ℕ) → DispatchState → Bool → ℕ → ℕ

@@ -8,9 +8,16 @@ use ranges::MOST_TASKS;
 use ranges::Slot;
 use refusals::Refusal;
 use refusals::Verdict;
-ghost use mathlib.Core.Bool.{true, cond, _&&_};
+use tick_steps::Best;
+use tick_steps::due_at;
+use tick_steps::earlier;
+use tick_steps::is_over;
+use tick_steps::is_released;
+use tick_steps::next_tick;
+use tick_steps::ready_ticks;
+ghost use mathlib.Core.Bool.{true, _&&_};
 ghost use mathlib.Core.Path.{_≡_};
-ghost use Prim.Native.Nat.{suc, _+_, _-_, _*_, _/_, _%_, _≤_, _<_};
+ghost use Prim.Native.Nat.{_-_, _≤_, _<_};
 ghost use lib.Dec.{eqb};
 ghost use lib.ListN.{getD};
 ghost use Rattle.laws.specs.Lists.{listOf};
@@ -20,72 +27,7 @@ ghost use Rattle.refusals.specs.declared.Verdict.the-variants.{Accepted, Refuse
 ghost use Rattle.dispatcher.specs.ColumnLaws.{CoreColumns};
 ghost use Rattle.dispatcher.specs.Columns.{numberedTasks, tickOutcome};
 ghost use Rattle.dispatcher.specs.States.{dispatchedWhere, stateFits};
-ghost use Rattle.dispatcher.specs.Ticks.{ChosenColumn, Earlier};
-
-// The column of a task, counted from 1, or 0 for none, and the tick at which it is due.
-struct Best {
-    column: usize,
-    due: u64,
-}
-
-// The better of a choice and one more task.
-fn earlier(best: Best, column: usize, left: u32, due: u64) -> Best
-    requires { ⌜ column < mostTasks ⌝ }
-    ensures { λ r. ⌜ Earlier best column left due r ⌝ }
-{
-    if left == 0 {
-        return best;
-    }
-    let next = Best {
-        column: column + 1,
-        due,
-    };
-    if best.column == 0 {
-        return next;
-    }
-    if due < best.due {
-        return next;
-    }
-    best
-}
-
-// The due tick of a task's job that was released last by this tick.
-fn due_at(period: u32, window: u32, tick: u32) -> u64
-    requires { ⌜ 0 < period ⌝ }
-    ensures { λ r. ⌜ r ≡ tick / period * period + window ⌝ }
-{
-    (tick / period * period) as u64 + window as u64
-}
-
-fn is_released(period: u32, tick: u32) -> bool
-    requires { ⌜ 0 < period ⌝ }
-    ensures { λ r. ⌜ r ≡ eqb (tick % period) 0 ⌝ }
-{
-    tick % period == 0
-}
-
-// Whether it is reported that the job of this task, which ran in the tick before, has ended early.
-fn is_over(number: u32, last: u32, ended: bool) -> bool
-    ensures { λ r. ⌜ r ≡ (ended && eqb number last) ⌝ }
-{
-    if ended {
-        return number == last;
-    }
-    false
-}
-
-// The ticks left of a task: an early end leaves none, and then a job that is released has all of its own.
-fn ready_ticks(released: bool, over: bool, ticks: u32, left: u32) -> u32
-    ensures { λ r. ⌜ r ≡ cond released ticks (cond over 0 left) ⌝ }
-{
-    if released {
-        return ticks;
-    }
-    if over {
-        return 0;
-    }
-    left
-}
+ghost use Rattle.dispatcher.specs.Ticks.{ChosenColumn};
 
 // The ticks left once an early end is applied and the jobs of a tick are released, and the column of the task that then runs, counted from 1, or 0 for none.
 struct Chosen {
@@ -136,18 +78,6 @@ fn run_task(left: [u32; MOST_TASKS as usize], task: u32) -> [u32; MOST_TASKS as 
         after[place] = after[place] - 1;
     }
     after
-}
-
-// The tick after this one.
-fn next_tick(tick: u32, span: u32) -> u32
-    requires { ⌜ tick < span ⌝ }
-    ensures { λ r. ⌜ r ≡ cond (eqb (suc tick) span) 0 (suc tick) ⌝ }
-{
-    let next = tick + 1;
-    if next == span {
-        return 0;
-    }
-    next
 }
 
 // The call for columns and a state that were tested.

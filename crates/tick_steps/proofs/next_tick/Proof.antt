@@ -1,8 +1,8 @@
 use native.Mathlib.Numerals.{add-one}
 use borrow.Author.Needs.{needs}
 use borrow.Author.Tests.{eq-eqb, ne-eqb}
-use Rattle.dispatcher.proofs.ticks.next_tick.Statement.{statement}
-use Rattle.dispatcher.proofs.ticks.next_tick.Tie as tie
+use Rattle.tick_steps.proofs.next_tick.Statement.{statement}
+use Rattle.tick_steps.proofs.next_tick.Tie as tie
 
 add-next : tie.Need-add-next
 add-next c = search needs

@@ -1,6 +1,6 @@
 use mathlib.Core.Path.{refl}
-use Rattle.dispatcher.proofs.ticks.is_over.Statement.{statement}
-use Rattle.dispatcher.proofs.ticks.is_over.Tie as tie
+use Rattle.tick_steps.proofs.is_over.Statement.{statement}
+use Rattle.tick_steps.proofs.is_over.Tie as tie
 
 returns : tie.Need-returns
 returns c = rw (c .if1 .taken) refl

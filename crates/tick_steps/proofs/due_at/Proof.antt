@@ -2,8 +2,8 @@
 use borrow.Author.Needs.{needs}
 use native.Mathlib.Nat.{div-mul-le-self}
 use native.Mathlib.Omega.{arith}
-use Rattle.dispatcher.proofs.ticks.due_at.Statement.{statement}
-use Rattle.dispatcher.proofs.ticks.due_at.Tie as tie
+use Rattle.tick_steps.proofs.due_at.Statement.{statement}
+use Rattle.tick_steps.proofs.due_at.Tie as tie
 
 div-result : tie.Need-div-result
 div-result c = search needs

@@ -1,8 +1,8 @@
 use mathlib.Core.Logic.{inl, inr}
 use borrow.Author.Needs.{needs}
-use Rattle.dispatcher.specs.Ticks.{Earlier}
-use Rattle.dispatcher.proofs.ticks.earlier.Statement.{statement}
-use Rattle.dispatcher.proofs.ticks.earlier.Tie as tie
+use Rattle.tick_steps.specs.Choosing.{Earlier}
+use Rattle.tick_steps.proofs.earlier.Statement.{statement}
+use Rattle.tick_steps.proofs.earlier.Tie as tie
 
 returns : tie.Need-returns
 returns c = Earlier.passed-idle (c .if1 .taken)
