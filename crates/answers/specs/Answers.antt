@@ -6,8 +6,8 @@ use Rattle.refusals.specs.declared.Verdict.the-variants.{Accepted, Refused}
 use Rattle.instance.specs.Node.{Problem, levelCount, taskCount, span}
 use Rattle.prices.specs.declared.amounts.Priced.{Priced}
 use Rattle.prices.specs.declared.amounts.Priced.the-variants as Priced
-use Rattle.listings.specs.declared.site.PlanListed.{PlanListed}
-use Rattle.listings.specs.declared.site.PlanListed.the-variants as PlanListed
+use Rattle.listing_lines.specs.declared.PlanListed.{PlanListed}
+use Rattle.listing_lines.specs.declared.PlanListed.the-variants as PlanListed
 use Rattle.answers.specs.declared.Checked.{Checked}
 use Rattle.answers.specs.declared.Listed.{Listed}
 use Rattle.answers.specs.declared.Planned.{Planned}

@@ -1,6 +1,6 @@
 // What the calls of a program in C return: the paper's numbers.
 use instance::Instance;
-use listings::PlanListed;
+use listing_lines::PlanListed;
 use prices::Priced;
 use refusals::Refusal;
 use refusals::Verdict;

@@ -39,9 +39,9 @@ use Rattle.answers.specs.declared.TaskToRun.{TaskToRun}
 use Rattle.towhepamu.specs.CallOutcomes.{textDispatchOutcome}
 use Rattle.towhepamu.specs.declared.nodes.PreparedNode.{PreparedNode}
 use Rattle.listing_lines.specs.ListingLines.{refusalLine, planLines}
+use Rattle.listing_lines.specs.declared.PlanListed.{PlanListed}
 use Rattle.listings.specs.Listing.{mostListing, listingOf}
 use Rattle.listings.specs.Outcomes.{listVerdict}
-use Rattle.listings.specs.declared.site.PlanListed.{PlanListed}
 
 -- the text is one of the instance p
 pub record WritesProblem (text : List ℕ) (p : Problem) : Type 0 where

@@ -20,11 +20,11 @@ use Rattle.text.specs.Text.{wordsOf}
 use Rattle.refusals.specs.VerdictLaws.{andThen-accepts}
 use Rattle.planner.specs.Endings.{planFound}
 use Rattle.planner.specs.Planning.{bestPlan}
+use Rattle.listing_lines.specs.declared.PlanListed.{PlanListed}
+use Rattle.listing_lines.specs.declared.PlanListed.the-variants as PlanListed
 use Rattle.listings.specs.Listing.{mostListing, listingOf}
 use Rattle.listings.specs.ListingLength.{listing-at-most}
 use Rattle.listings.specs.Outcomes.{listWhere, listTests, listOutcome, listVerdict}
-use Rattle.listings.specs.declared.site.PlanListed.{PlanListed}
-use Rattle.listings.specs.declared.site.PlanListed.the-variants as PlanListed
 use Rattle.answers.specs.Answers.{siteOf, listedOf}
 use Rattle.towhepamu.specs.CallOutcomes.{textReadOutcome, textReadOutcomeOf}
 use Rattle.demands.specs.TextCalls.{textThen, readVerdict, TextReadingEnds, TextListingEnds, answerSite, answerListed}

@@ -7,3 +7,10 @@ mod tasks;
 
 pub use lines::put_refusal;
 pub use plans::put_plan;
+use refusals::Refusal;
+
+// What listing a plan answers: how many bytes were put, or why none were.
+pub enum PlanListed {
+    Bytes(usize),
+    Refused(Refusal),
+}

@@ -29,10 +29,10 @@ use Rattle.planner.specs.Planning.{bestPlan}
 use Rattle.refusals.specs.RoomLaws.{enough-room, front-of-onto}
 use Rattle.listing_lines.specs.ListingLines.{planLines}
 use Rattle.listing_lines.specs.Placing.{Room, Put, put-from-start}
+use Rattle.listing_lines.specs.declared.PlanListed.the-variants as PlanListed
 use Rattle.listings.specs.Listing.{mostListing, listingOfPlan}
 use Rattle.listings.specs.ListingLength.{listing-of-plan-fits}
 use Rattle.listings.specs.Outcomes.{listGiven, listWhere, problemListOutcome}
-use Rattle.listings.specs.declared.site.PlanListed.the-variants as PlanListed
 
 -- the first n were all there
 pub front-within : (n : ℕ) (xs : List ℕ) → length (take n xs) ≡ n → n ≤ length xs

@@ -22,11 +22,11 @@ use Rattle.planner.specs.Endings.{planFound}
 use Rattle.planner.specs.Planning.{bestPlan}
 use Rattle.listing_lines.specs.ListingLines.{refusalLine}
 use Rattle.listing_lines.specs.Placing.{Room, Put, put-from-start}
+use Rattle.listing_lines.specs.declared.PlanListed.{PlanListed}
+use Rattle.listing_lines.specs.declared.PlanListed.the-variants as PlanListed
 use Rattle.listings.specs.Listing.{mostListing, listingOfPlan, listingOfProblem, listingOfWords, listingOf}
 use Rattle.listings.specs.ListingLength.{listing-at-most}
 use Rattle.listings.specs.Outcomes.{ListOutcome, listGiven, listWhere, listTests, problemListOutcome, wordsListOutcome, listOutcome}
-use Rattle.listings.specs.declared.site.PlanListed.{PlanListed}
-use Rattle.listings.specs.declared.site.PlanListed.the-variants as PlanListed
 
 module _ (words out : List ℕ) where
   pub refused-words-outcome : {r : Refusal} → problemOf words ≡ refused r →

@@ -12,9 +12,9 @@ use Rattle.instance.specs.Node.{Problem}
 use Rattle.instance.specs.SiteFile.{problemOf}
 use Rattle.planner.specs.Endings.{planFound}
 use Rattle.planner.specs.Planning.{bestPlan}
+use Rattle.listing_lines.specs.declared.PlanListed.{PlanListed}
+use Rattle.listing_lines.specs.declared.PlanListed.the-variants as PlanListed
 use Rattle.listings.specs.Listing.{mostListing, listingOfPlan, listingOfProblem, listingOf}
-use Rattle.listings.specs.declared.site.PlanListed.{PlanListed}
-use Rattle.listings.specs.declared.site.PlanListed.the-variants as PlanListed
 
 pub record ListOutcome : Type 0 where
   pub answer : PlanListed

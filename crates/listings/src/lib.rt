@@ -2,6 +2,5 @@
 mod site;
 
 pub use site::MOST_LISTING;
-pub use site::PlanListed;
 pub use site::list_plan;
 pub use site::list_site;

@@ -1,6 +1,7 @@
 // The listing of a site's text: read, planned and put into lines.
 use instance::Instance;
 use instance::read_instance;
+use listing_lines::PlanListed;
 use listing_lines::put_plan;
 use listing_lines::put_refusal;
 use planner::plan;
@@ -24,12 +25,6 @@ ghost use Rattle.listings.specs.Outcomes.{listGiven, problemListOutcome,
 
 // Room for every listing.
 pub const MOST_LISTING: usize = 51_200;
-
-// How many bytes were put, or why none were.
-pub enum PlanListed {
-    Bytes(usize),
-    Refused(Refusal),
-}
 
 // Plans the instance that the words are, and puts its lines: nothing is put before there is a plan.
 fn put_best(out: &mut [u8], words: &[u32], inst: Instance) -> PlanListed
