@@ -16,13 +16,13 @@ use generator::end_of_tasks;
 use generator::has_busy_slots;
 use generator::has_early_deadlines;
 use generator::plans_differ;
-use generator::table_fails;
 use generator::tally;
 use generator::tally::Counts;
 use generator::tally::add;
 use generator::tally::add_if;
-use generator::try_answered;
-use generator::try_drawn_plans;
+use trials::table_fails;
+use trials::try_answered;
+use trials::try_drawn_plans;
 
 // Whether all tasks are kept or refused, by the answer.
 fn count_kept(answer: &[u64; 5], counts: &mut Counts) {

@@ -12,7 +12,7 @@ pub(crate) fn below(state: &mut u32, n: u32) -> u32
 }
 
 // A number from 1 to `most`, or 0 where there is none.
-pub(crate) fn up_to(state: &mut u32, most: u32) -> u32 {
+pub fn up_to(state: &mut u32, most: u32) -> u32 {
     if most == 0 {
         return 0;
     }

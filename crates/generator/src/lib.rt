@@ -1,4 +1,4 @@
-// What a fixed generator draws: instances, and tables for their plans, which are tried and counted.
+// What a fixed generator draws: instances, and tables for their plans; and the tally of what was drawn.
 mod buffers;
 mod deadlines;
 mod draw;
@@ -8,7 +8,6 @@ mod other_tables;
 mod site_words;
 mod start;
 pub mod tally;
-mod trials;
 
 pub use buffers::Choices;
 pub use buffers::PLAN_ROOM;
@@ -23,9 +22,8 @@ pub use buffers::tables_differ;
 pub use deadlines::count_deadlines;
 pub use deadlines::end_of_tasks;
 pub use deadlines::has_early_deadlines;
+pub use draw::up_to;
 pub use idle::count_idle;
 pub use instances::draw_instance;
+pub use other_tables::fill_table;
 pub use start::count_start;
-pub use trials::table_fails;
-pub use trials::try_answered;
-pub use trials::try_drawn_plans;

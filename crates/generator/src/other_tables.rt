@@ -143,13 +143,7 @@ fn draw_first(state: &mut u32) -> u32 {
 }
 
 // Fills an idle table for a plan, in an order that is drawn. A job may get fewer slots than it has ticks.
-pub(crate) fn fill_table(
-    table: &mut Table,
-    words: &[u32],
-    span: u32,
-    plan: &[u32],
-    state: &mut u32,
-) {
+pub fn fill_table(table: &mut Table, words: &[u32], span: u32, plan: &[u32], state: &mut u32) {
     let order = Order {
         turn: below(state, 4),
         first: draw_first(state),

@@ -1,8 +1,8 @@
 use borrow.Author.Needs.{needs}
 use Prim.Native.Nat.{_-_}
 use Rattle.ranges.specs.Limits.{mostTasks}
-use Rattle.generator.proofs.trials.draw_plan.Statement.{statement}
-use Rattle.generator.proofs.trials.draw_plan.Tie as tie
+use Rattle.trials.proofs.draw_plan.Statement.{statement}
+use Rattle.trials.proofs.draw_plan.Tie as tie
 
 abbrev Inv-loop : tie.InvT-loop
 Inv-loop plan₀ n choices state₀ i₀ plan state i = Unit {0}
