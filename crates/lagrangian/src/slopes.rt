@@ -38,11 +38,14 @@ pub(crate) fn at_most(a: u64, most: u64) -> u64
     if most < a { most } else { a }
 }
 
-// What is due by a tick with these ticks of a job of each item; nothing by a tick after the span.
+// What is due by a tick with these ticks of a job of each item; nothing by tick 0, which stands for none, or by a tick after the span.
 fn due_by(timed: Timed, tick: u32, column: [u32; MOST_ITEMS], timings: &[u32]) -> u64
     requires { ⌜ TimedItems timed (now timings) ⌝ }
     requires { ⌜ length column ≡ mostItems ⌝ }
 {
+    if tick == 0 {
+        return 0;
+    }
     if timed.span < tick {
         return 0;
     }

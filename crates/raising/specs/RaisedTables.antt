@@ -25,7 +25,7 @@ use Rattle.partition.specs.Tables.{SmallTable}
 
 -- how often a set is tried at most
 abbrev pub mostTries : ℕ
-mostTries = 14
+mostTries = 20
 
 -- of n items; `left` has how often each set, by its number, may still be tried
 pub record Raised (o : Options) (whole n : ℕ) (costs keys left : List ℕ) : Type 0 where

@@ -2,13 +2,16 @@
 use lagrangian::has_few_items;
 use lagrangian::size_of;
 use set_tables::MOST_CORE_COST;
-use values::MOST_ITEMS;
 use values::NO_COST;
 use values::Worth;
+ghost use Prim.Native.Nat.{_*_, _≤_};
+ghost use Rattle.assignment.specs.Limits.{mostItems};
+ghost use Rattle.assignment.specs.Words.{noCost};
+ghost use Rattle.raising.specs.RaisedTables.{mostTries};
 ghost use Rattle.raising.specs.TimedSites.{LimitReady, LimitAt, LimitOf};
 
 // How often a set is tried at most.
-pub(crate) const TRIES: u32 = 14;
+pub(crate) const TRIES: u32 = 20;
 
 // With so many tries left the cost of a set's entry is most often its least: a pattern of that cost is looked for, with the least key.
 pub(crate) const KEY_TRY: u32 = 2;
@@ -31,8 +34,29 @@ fn limit_at(cost: u64, key: u64) -> Worth
     }
 }
 
+// Where the tries left and the items of a set come to so many, a try would go as far above the entry as the entry is: it goes as far as
+// there is.
+const FEWEST_HALVINGS: usize = 19;
+
+// Sets with so many items are searched in shorter steps: the time of a search grows steeply with the distance from the least value.
+const MANY_ITEMS: usize = 10;
+
+// How far above its entry a set with many items is searched: with every second try twice as far, in between half as far again.
+fn room_of_many(size: usize, left: u32, low: u64) -> u64
+    requires { ⌜ (10 ≤ size) × (size ≤ mostItems) × (left ≤ mostTries) × (low ≤ noCost) ⌝ }
+    ensures { λ r. ⌜ r ≤ 2 * low ⌝ }
+{
+    let steps = 2 * size + left as usize - 18;
+    let halvings = steps / 2;
+    if steps % 2 == 0 {
+        return low >> halvings;
+    }
+    (low >> (halvings + 1)) + (low >> (halvings + 2))
+}
+
 // Up to where a set is searched, from its entry on: each try goes above the entry twice as far as the one before it, and for a set of one
-// item less twice as far too, since it takes less time; the last but one does not go above it, and the last goes as far as there is.
+// item less twice as far too, since it takes less time; with many items in shorter steps. The last try but one does not go above the entry,
+// and the last goes as far as there is.
 pub(crate) fn limit_of(items: usize, set: usize, left: u32, low: u64, key: u64) -> Worth
     requires { ⌜ LimitReady items left low key ⌝ }
     ensures { λ r. ⌜ LimitOf items left low key r ⌝ }
@@ -46,9 +70,13 @@ pub(crate) fn limit_of(items: usize, set: usize, left: u32, low: u64, key: u64) 
     if left == KEY_TRY {
         return limit_at(low + 1, key);
     }
-    let halvings = left as usize - 1 + size_of(items, set);
-    if halvings <= MOST_ITEMS {
+    let size = size_of(items, set);
+    if MANY_ITEMS <= size {
+        return limit_at(low + room_of_many(size, left, low) + 1, key);
+    }
+    let halvings = left as usize + size;
+    if halvings <= FEWEST_HALVINGS {
         return NO_LIMIT;
     }
-    limit_at(low + (low >> (halvings - MOST_ITEMS)) + 1, key)
+    limit_at(low + (low >> (halvings - FEWEST_HALVINGS)) + 1, key)
 }
