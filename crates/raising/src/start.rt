@@ -4,8 +4,9 @@ use core_tables::fill_sizes;
 use lagrangian::Timed;
 use lagrangian::relaxation_at;
 use partition::fill_weights;
-use set_tables::drop_unservable;
+use set_tables::drop_unserved;
 use set_tables::lift_all;
+use timed_parts::fewest_column;
 use values::MOST_SETS;
 use values::sets_of;
 ghost use mathlib.Core.Path.{_≡_};
@@ -58,5 +59,6 @@ pub(crate) fn fill_start(
     let idle = site.whole / site.span as u64;
     let weighed = relaxation_at(timed, site.span, idle, timings, cost);
     lift_all(site.items, weighed, &weights, costs, keys);
-    drop_unservable(timed, 0, 0, false, timings, costs);
+    let fewest = fewest_column(timed, timings);
+    drop_unserved(timed, fewest, 0, 0, false, timings, costs);
 }

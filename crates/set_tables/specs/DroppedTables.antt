@@ -1,21 +1,19 @@
--- A table that has no cost where a set cannot be served.
+-- A table that has no cost where a set is not served at given ticks of its items.
 use Prim.Native.Nat.{ℕ, _+_, _-_, _*_, _^_, _≤_, _<_}
+use mathlib.Core.Bool.{cond}
 use mathlib.Core.List.{List}
 use mathlib.Core.Logic.{_⊎_}
 use mathlib.Core.Path.{_≡_}
 use lib.ListN.{length, getD}
 use Rattle.assignment.specs.Words.{noCost}
 use Rattle.lagrangian.specs.declared.Timed.{Timed}
-use Rattle.timed_parts.specs.TickColumns.{NoneServes}
+use Rattle.timed_parts.specs.TickColumns.{servedAt}
 
--- a cost stays, or is none where no pattern serves the set
-pub data DroppedTo (timed : Timed) (timings : List ℕ) (set cost newCost : ℕ) : Type 0 where
-  stays : newCost ≡ cost → DroppedTo timed timings set cost newCost
-  dropped : NoneServes timed set timings → newCost ≡ noCost → DroppedTo timed timings set cost newCost
-
-pub record Dropped (timed : Timed) (timings before after : List ℕ) : Type 0 where
+-- of so many sets from one on: a cost stays where the set is served, and is none where it is not; the others are as they were
+pub record Dropped (timed : Timed) (timings column : List ℕ) (from size : ℕ) (before after : List ℕ) : Type 0 where
   pub places : length after ≡ length before
-  pub cost : (y : ℕ) → DroppedTo timed timings y (getD before y 0) (getD after y 0)
+  pub cost : (y : ℕ) → from ≤ y → y < from + size → getD after y 0 ≡ cond (servedAt timed timings column y) (getD before y 0) noCost
+  pub others : (y : ℕ) → (y < from) ⊎ (from + size ≤ y) → getD after y 0 ≡ getD before y 0
 
 -- so many costs from one on are none, the others are as they were
 pub record NoneFrom (from size : ℕ) (before after : List ℕ) : Type 0 where

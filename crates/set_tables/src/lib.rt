@@ -1,10 +1,10 @@
-// Tables with an entry for each set of items: the entries are raised by a relaxation, and are none where a set cannot be served. And the
-// sets that the cores run of a plan.
+// Tables with an entry for each set of items: the entries are raised by a relaxation, and are none where a set is not served. And the sets
+// that the cores run of a plan.
 mod dropping;
 mod lifting;
 mod sets;
 
-pub use dropping::drop_unservable;
+pub use dropping::drop_unserved;
 pub use lifting::MOST_CORE_COST;
 pub use lifting::lift_all;
 pub use sets::core_set;

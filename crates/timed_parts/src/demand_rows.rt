@@ -6,7 +6,6 @@ use lagrangian::MOST_TICKS;
 use lagrangian::Timed;
 use lagrangian::jobs_by;
 use values::MOST_ITEMS;
-use values::sets_of;
 ghost use mathlib.Core.Bool.{Bool, true};
 ghost use mathlib.Core.List.{List};
 ghost use mathlib.Core.Path.{_≡_};
@@ -54,8 +53,7 @@ pub fn fill_rows(timed: Timed, ticks: [u32; MOST_TICKS], timings: &[u32], rows: 
     requires { ⌜ length (now rows) ≡ rowWords ⌝ }
     ensures { λ _. ⌜ DemandRows timed (now (timings .entry)) mostTicks (now (rows .exit)) ⌝ }
 {
-    let every = sets_of(timed.items) - 1;
-    fill_row(MOST_TICKS, 0, fewest_column(timed, every, timings), rows);
+    fill_row(MOST_TICKS, 0, fewest_column(timed, timings), rows);
     let mut n = 0;
     while n < MOST_TICKS {
         let tick = tick_of_span(timed.span, ticks[n]);

@@ -17,7 +17,8 @@ pub use nodes::at_level;
 pub use nodes::next_level;
 pub use nodes::passed_over;
 pub use nodes::run_at;
-pub use servable::is_servable;
+pub use servable::fewest_column;
+pub use servable::is_served;
 use values::MOST_ITEMS;
 
 // A part of a pattern: the items before `item` have their level, those of the set `rest` are still to have one, `item` from

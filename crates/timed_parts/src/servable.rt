@@ -1,17 +1,15 @@
-// Whether a set of items can be served at all.
+// Whether the items of a set are served at given ticks of a job of each, and the fewest ticks of each.
 use crate::columns::unmet_of;
 use lagrangian::TIMING_WIDTH;
 use lagrangian::Timed;
 use values::MOST_ITEMS;
-use values::sets_of;
-ghost use mathlib.Core.Bool.{false};
 ghost use mathlib.Core.Path.{_≡_};
 ghost use Prim.Native.Nat.{_+_, _*_, _≤_, _<_};
 ghost use lib.ListN.{length};
 ghost use Rattle.assignment.specs.Limits.{mostItems, mostLevels};
 ghost use Rattle.lagrangian.specs.TimedItems.{TimedItems};
 ghost use Rattle.lagrangian.specs.TimedCores.{timingWidth};
-ghost use Rattle.timed_parts.specs.TickColumns.{inSet, FewestTicks, FewestColumn, NoneServes};
+ghost use Rattle.timed_parts.specs.TickColumns.{inSet, SetColumn, servedAt, FewestTicks, FewestColumn};
 
 fn fewer(a: u32, b: u32) -> u32
     ensures { λ r. ⌜ (r ≤ a) × (r ≤ b) ⌝ }
@@ -33,38 +31,51 @@ fn fewest_ticks(item: usize, levels: usize, timings: &[u32]) -> u32
     fewest
 }
 
-// The same where the item is in a set, else none.
-fn fewest_in_set(timed: Timed, set: usize, item: usize, timings: &[u32]) -> u32
+// The fewest ticks of a job of each item.
+pub fn fewest_column(timed: Timed, timings: &[u32]) -> [u32; MOST_ITEMS]
     requires { ⌜ TimedItems timed (now timings) ⌝ }
-    requires { ⌜ item < timed .items ⌝ }
-    ensures { λ r. ⌜ FewestTicks (now (timings .entry)) item (timed .levels) r ⌝ }
-    ensures { λ r. ⌜ (inSet (timed .items) set item ≡ 0 → r ≡ 0) ⌝ }
-{
-    if set / sets_of(timed.items - 1 - item) % 2 == 0 {
-        return 0;
-    }
-    fewest_ticks(item, timed.levels, timings)
-}
-
-// The fewest ticks of a job of each item of a set, none of the others.
-pub(crate) fn fewest_column(timed: Timed, set: usize, timings: &[u32]) -> [u32; MOST_ITEMS]
-    requires { ⌜ TimedItems timed (now timings) ⌝ }
-    ensures { λ r. ⌜ FewestColumn timed set (now (timings .entry)) (timed .items) r ⌝ }
+    ensures { λ r. ⌜ FewestColumn timed (now (timings .entry)) (timed .items) r ⌝ }
 {
     let mut column = [0; MOST_ITEMS];
     let mut i = 0;
     while i < timed.items {
-        column[i] = fewest_in_set(timed, set, i, timings);
+        column[i] = fewest_ticks(i, timed.levels, timings);
         i += 1;
     }
     column
 }
 
-// Whether the items of a set can all be served at their fewest ticks.
-pub fn is_servable(timed: Timed, set: usize, timings: &[u32]) -> bool
-    requires { ⌜ TimedItems timed (now timings) ⌝ }
-    ensures { λ r. ⌜ (r ≡ false → NoneServes timed set (now (timings .entry))) ⌝ }
+// These ticks where the item is in a set, else none.
+fn ticks_in_set(items: usize, set: usize, item: usize, ticks: u32) -> u32
+    requires { ⌜ (item < items) × (items ≤ mostItems) ⌝ }
+    ensures { λ r. ⌜ r ≡ inSet items set item * ticks ⌝ }
 {
-    let column = fewest_column(timed, set, timings);
-    unmet_of(timed, column, timings) == 0
+    if (set >> (items - 1 - item)) % 2 == 0 {
+        return 0;
+    }
+    ticks
+}
+
+// The column for the items of a set, none for the others.
+fn column_of_set(items: usize, set: usize, column: [u32; MOST_ITEMS]) -> [u32; MOST_ITEMS]
+    requires { ⌜ (items ≤ mostItems) × (length column ≡ mostItems) ⌝ }
+    ensures { λ r. ⌜ SetColumn items set column items r ⌝ }
+{
+    let mut of_set = [0; MOST_ITEMS];
+    let mut i = 0;
+    while i < items {
+        of_set[i] = ticks_in_set(items, set, i, column[i]);
+        i += 1;
+    }
+    of_set
+}
+
+// Whether the items of a set are all served at the ticks of a job of each that stand in the column.
+pub fn is_served(timed: Timed, set: usize, column: [u32; MOST_ITEMS], timings: &[u32]) -> bool
+    requires { ⌜ TimedItems timed (now timings) ⌝ }
+    requires { ⌜ length column ≡ mostItems ⌝ }
+    ensures { λ r. ⌜ r ≡ servedAt timed (now (timings .entry)) column set ⌝ }
+{
+    let of_set = column_of_set(timed.items, set, column);
+    unmet_of(timed, of_set, timings) == 0
 }

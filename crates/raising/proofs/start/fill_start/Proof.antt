@@ -1,9 +1,10 @@
--- `fill_start` lifts the lowest entries twice, and drops those of sets that cannot be served.
+-- `fill_start` lifts the lowest entries twice, and drops those of sets that are not served at their fewest ticks.
 use native.Mathlib.Omega.{arith}
 use borrow.Author.Needs.{needs}
 use Rattle.partition.specs.Tables.{room-for-sets}
 use Rattle.raising.specs.DroppedLaws.{site-dropped}
-use Rattle.set_tables.specs.DroppingLaws.{all-sets}
+use Rattle.timed_parts.specs.ServableLaws.{no-items-served}
+use Rattle.set_tables.specs.DroppingLaws.{all-sets, all-sets-dropped}
 use Rattle.raising.specs.LiftedLaws.{ready-to-lift, site-lifted}
 use Rattle.raising.specs.StartTables.{start-raised}
 use Rattle.raising.proofs.start.fill_start.Statement.{statement}
@@ -53,22 +54,25 @@ lift-all-requires-2 c κs =
     let table = site-lifted (pre .0) (c .before .before .before .before .before .before .before .before .before .before .relaxation-at .ensures) (start-raised (pre .0) (pre .1 .0) lowest) (c .before .before .before .before .before .before .lift-all .ensures) in
     (ready-to-lift (pre .0) (c .before .before .before .relaxation-at2 .ensures) table, (lowest .weighed .for-all, lowest .weighed .each))
 
-drop-unservable-requires : tie.Need-drop-unservable-requires
-drop-unservable-requires c κs =
-    let pre = c .before .before .before .before .before .before .before .before .before .before .before .before .before .before .before .before .before .before .before .pre in
-    let lowest = c .before .before .before .before .before .before .before .before .before .before .before .before .before .before .fill-lowest .ensures in
-    let first = c .before .before .before .before .before .before .before .before .lift-all .ensures in
-    let second = c .before .lift-all2 .ensures in
-    (pre .0 .timed .timed-items, all-sets _ (omega (arith, lowest .costs-for-all, first .costs-places, second .costs-places)))
+fewest-column-requires : tie.Need-fewest-column-requires
+fewest-column-requires c κs = c .before .before .before .before .before .before .before .before .before .before .before .before .before .before .before .before .before .before .pre .0 .timed .timed-items
+
+drop-unserved-requires : tie.Need-drop-unserved-requires
+drop-unserved-requires c κs =
+    let pre = c .before .before .before .before .before .before .before .before .before .before .before .before .before .before .before .before .before .before .before .before .pre in
+    let lowest = c .before .before .before .before .before .before .before .before .before .before .before .before .before .before .before .fill-lowest .ensures in
+    let first = c .before .before .before .before .before .before .before .before .before .lift-all .ensures in
+    let second = c .before .before .lift-all2 .ensures in
+    (pre .0 .timed .timed-items, (c .before .fewest-column .ensures .places, (all-sets _ (omega (arith, lowest .costs-for-all, first .costs-places, second .costs-places)), no-items-served _ _ _)))
 
 returns : tie.Need-returns
 returns c =
-    let start = c .before .before .before .before .before .before .before .before .before .before .before .before .before .before .before .before .before .before .before .before in
+    let start = c .before .before .before .before .before .before .before .before .before .before .before .before .before .before .before .before .before .before .before .before .before in
     let ready = start .pre .0 in
-    let lowest = start-raised ready (start .pre .1 .0) (c .before .before .before .before .before .before .before .before .before .before .before .before .before .before .before .fill-lowest .ensures) in
-    let first = site-lifted ready (c .before .before .before .before .before .before .before .before .before .before .before .before .before .relaxation-at .ensures) lowest (c .before .before .before .before .before .before .before .before .before .lift-all .ensures) in
-    let second = site-lifted ready (c .before .before .before .before .before .before .relaxation-at2 .ensures) first (c .before .before .lift-all2 .ensures) in
-    site-dropped (start .args .site) _ second (c .drop-unservable .ensures)
+    let lowest = start-raised ready (start .pre .1 .0) (c .before .before .before .before .before .before .before .before .before .before .before .before .before .before .before .before .fill-lowest .ensures) in
+    let first = site-lifted ready (c .before .before .before .before .before .before .before .before .before .before .before .before .before .before .relaxation-at .ensures) lowest (c .before .before .before .before .before .before .before .before .before .before .lift-all .ensures) in
+    let second = site-lifted ready (c .before .before .before .before .before .before .before .relaxation-at2 .ensures) first (c .before .before .before .lift-all2 .ensures) in
+    site-dropped (start .args .site) _ (ready .timed .timed-items) (c .before .before .fewest-column .ensures) second (all-sets-dropped (c .drop-unserved .ensures))
 
 pub fill-start-spec : {M : Type 1} → statement M
 fill-start-spec =
@@ -83,5 +87,6 @@ fill-start-spec =
     relaxation-at-requires-2
     slice-aggregate-lift-all-2
     lift-all-requires-2
-    drop-unservable-requires
+    fewest-column-requires
+    drop-unserved-requires
     returns)

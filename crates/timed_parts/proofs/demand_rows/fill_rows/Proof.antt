@@ -3,7 +3,6 @@ use Prim.Native.Nat.{_-_, _≤_}
 use mathlib.Core.Path.{_≡_, sym, _∙_}
 use native.Mathlib.Omega.{arith}
 use borrow.Author.Needs.{needs}
-use lib.Pow.{pow-pos}
 use Rattle.lagrangian.specs.PriceColumns.{mostTicks}
 use Rattle.timed_parts.specs.DemandRowLaws.{no-ticks-yet, one-tick-more}
 use Rattle.timed_parts.specs.DemandRows.{DemandRows}
@@ -11,16 +10,10 @@ use Rattle.timed_parts.proofs.demand_rows.fill_rows.Statement.{statemen
 use Rattle.timed_parts.proofs.demand_rows.fill_rows.Tie as tie
 
 abbrev Inv-loop : tie.InvT-loop
-Inv-loop timed timings rows₀ ticks every n₀ rows n = (n ≤ mostTicks) × DemandRows timed timings n rows
+Inv-loop timed timings rows₀ ticks n₀ rows n = (n ≤ mostTicks) × DemandRows timed timings n rows
 
 abbrev μ-loop : tie.MeasureT-loop
-μ-loop timed timings rows₀ ticks every n₀ rows n = mostTicks - n
-
-sets-of-requires : tie.Need-sets-of-requires Inv-loop μ-loop
-sets-of-requires c κs = search needs
-
-sub-every : tie.Need-sub-every Inv-loop μ-loop
-sub-every c = omega (arith, c .sets-of .ensures, pow-pos (c .before .before .before .args .timed .items))
+μ-loop timed timings rows₀ ticks n₀ rows n = mostTicks - n
 
 fewest-column-requires : tie.Need-fewest-column-requires Inv-loop μ-loop
 fewest-column-requires c κs = search needs
@@ -30,7 +23,7 @@ fill-row-requires c κs = search needs
 
 loop-holds : tie.Need-loop-holds Inv-loop μ-loop
 loop-holds c =
-    let start = c .before .before .before .before .before .before .before .before in
+    let start = c .before .before .before .before .before .before .before in
     (omega arith, no-ticks-yet (start .pre .0 .few-items) (c .before .before .fill-row .ensures) (start .pre .1) (c .before .before .before .before .fewest-column .ensures .fewest))
 
 mul-tick-of-span : tie.Need-mul-tick-of-span Inv-loop μ-loop
@@ -56,10 +49,10 @@ loop-less c = search needs
 
 loop-again : tie.Need-loop-again Inv-loop μ-loop
 loop-again c =
-    (omega arith, one-tick-more (c .before .before .before .before .before .before .before .before .before .before .before .before .before .before .before .before .pre .0 .few-items) (c .before .before .before .before .before .before .before .loop .inv .1) (omega arith) (c .before .before .before .before .before .tick-of-span .ensures) (c .before .before .before .before .jobs-by .ensures) (c .before .before .fill-row2 .ensures))
+    (omega arith, one-tick-more (c .before .before .before .before .before .before .before .before .before .before .before .before .before .before .before .pre .0 .few-items) (c .before .before .before .before .before .before .before .loop .inv .1) (omega arith) (c .before .before .before .before .before .tick-of-span .ensures) (c .before .before .before .before .jobs-by .ensures) (c .before .before .fill-row2 .ensures))
 
 same-length : tie.Need-same-length Inv-loop μ-loop
-same-length c = c .before .loop .inv .1 .places ∙ sym (c .before .before .before .before .before .before .before .before .before .before .pre .1)
+same-length c = c .before .loop .inv .1 .places ∙ sym (c .before .before .before .before .before .before .before .before .before .pre .1)
 
 returns : tie.Need-returns Inv-loop μ-loop
 returns c =
@@ -73,8 +66,6 @@ fill-rows-spec =
     (tie.spec
     Inv-loop
     μ-loop
-    sets-of-requires
-    sub-every
     fewest-column-requires
     fill-row-requires
     loop-holds

@@ -9,16 +9,16 @@ use Rattle.timed_parts.proofs.servable.fewest_column.Statement.{stateme
 use Rattle.timed_parts.proofs.servable.fewest_column.Tie as tie
 
 abbrev Inv-loop : tie.InvT-loop
-Inv-loop timed set timings column₀ i₀ column i = (i ≤ timed .items) × FewestColumn timed set timings i column
+Inv-loop timed timings column₀ i₀ column i = (i ≤ timed .items) × FewestColumn timed timings i column
 
 abbrev μ-loop : tie.MeasureT-loop
-μ-loop timed set timings column₀ i₀ column i = timed .items - i
+μ-loop timed timings column₀ i₀ column i = timed .items - i
 
 loop-holds : tie.Need-loop-holds Inv-loop μ-loop
 loop-holds c = (omega arith, no-column-yet)
 
-fewest-in-set-requires : tie.Need-fewest-in-set-requires Inv-loop μ-loop
-fewest-in-set-requires c κs = (c .before .before .before .before .pre, omega arith)
+fewest-ticks-requires : tie.Need-fewest-ticks-requires Inv-loop μ-loop
+fewest-ticks-requires c κs = search needs
 
 mul-column : tie.Need-mul-column Inv-loop μ-loop
 mul-column c = search needs
@@ -34,7 +34,7 @@ loop-less c = search needs
 
 loop-again : tie.Need-loop-again Inv-loop μ-loop
 loop-again c =
-    (omega arith, one-item-more (c .before .before .before .loop .inv .1) (omega (arith, c .before .before .before .before .before .pre .few-items)) (c .fewest-in-set .ensures .0) (c .fewest-in-set .ensures .1))
+    (omega arith, one-item-more (c .before .before .before .loop .inv .1) (omega (arith, c .before .before .before .before .before .pre .few-items)) (c .fewest-ticks .ensures))
 
 returns : tie.Need-returns Inv-loop μ-loop
 returns c =
@@ -49,7 +49,7 @@ fewest-column-spec =
     Inv-loop
     μ-loop
     loop-holds
-    fewest-in-set-requires
+    fewest-ticks-requires
     mul-column
     array-write-column
     add-i
