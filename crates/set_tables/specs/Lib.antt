@@ -3,3 +3,7 @@ pub mod LiftingLaws
 pub mod DroppedTables
 pub mod DroppingLaws
 pub mod CoreSets
+pub mod OwnPatterns
+pub mod OwnLevelLaws
+pub mod OwnColumnLaws
+pub mod OwnPatternLaws

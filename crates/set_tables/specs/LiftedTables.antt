@@ -22,11 +22,15 @@ pub record RoomToAdd (half amount : ℕ) (sums : List ℕ) : Type 0 where
   pub places : half + half ≤ length sums
   pub fits : (y : ℕ) → y < half → getD sums y 0 + amount < 2 ^ 64
 
+-- what an item adds to a sum at most, so that all items come to less than 2^64: 2^60
+abbrev pub mostAmount : ℕ
+mostAmount = 1152921504606846976
+
 -- what the sums of all sets of n items ask
 pub record SumsReady (n : ℕ) (least sums : List ℕ) : Type 0 where
   pub few-items : n ≤ mostItems
   pub places : length least ≡ mostItems
-  pub low : (i : ℕ) → getD least i 0 ≤ mostPriced
+  pub low : (i : ℕ) → getD least i 0 ≤ mostAmount
   pub sums-for-all : 2 ^ n ≤ length sums
   pub empty : getD sums 0 0 ≡ 0
 

@@ -15,9 +15,9 @@ use Rattle.assignment.specs.Limits.{mostItems}
 use Rattle.assignment.specs.SetLaws.{setNumber-below, numbered}
 use Rattle.assignment.specs.Sets.{setNumber}
 use Rattle.partition.specs.Moves.{WeightsBelow}
-use Rattle.lagrangian.specs.Lagrangians.{leastPriced, mostPriced}
+use Rattle.lagrangian.specs.Lagrangians.{leastPriced}
 use Rattle.lagrangian.specs.declared.Lagrangian.{Lagrangian}
-use Rattle.set_tables.specs.LiftedTables.{AddedBelow, RoomToAdd, SumsReady, NumberedBy, LiftedTo, LiftedBelow}
+use Rattle.set_tables.specs.LiftedTables.{mostAmount, AddedBelow, RoomToAdd, SumsReady, NumberedBy, LiftedTo, LiftedBelow}
 
 module _ {half amount : ℕ} {before : List ℕ} where
   pub none-added : AddedBelow half amount 0 before before
@@ -49,15 +49,15 @@ numbered-by-one-more {n} {amount} {f} {g} {before} {after} so-far added without 
     at (true ∷ S) of-items =
         added .more (setNumber n S) (setNumber-below n S) ∙ ap (λ (k : ℕ). k + amount) (so-far .at S (omega arith)) ∙ sym (with S)
 
-priced-at-most : (least : List ℕ) → ((i : ℕ) → getD least i 0 ≤ mostPriced) → (from : ℕ) (S : List Bool) →
-    leastPriced least from S ≤ length S * mostPriced
+priced-at-most : (least : List ℕ) → ((i : ℕ) → getD least i 0 ≤ mostAmount) → (from : ℕ) (S : List Bool) →
+    leastPriced least from S ≤ length S * mostAmount
 unfolding leastPriced
 priced-at-most least low from [] = omega arith
 priced-at-most least low from (false ∷ S) = omega (arith, priced-at-most least low (suc from) S)
 priced-at-most least low from (true ∷ S) = omega (arith, low from, priced-at-most least low (suc from) S)
 
-sum-at-most : {n : ℕ} (least : List ℕ) (from : ℕ) {sums : List ℕ} → ((i : ℕ) → getD least i 0 ≤ mostPriced) → n ≤ mostItems →
-    NumberedBy n (leastPriced least from) sums → (x : ℕ) → x < 2 ^ n → getD sums x 0 ≤ mostItems * mostPriced
+sum-at-most : {n : ℕ} (least : List ℕ) (from : ℕ) {sums : List ℕ} → ((i : ℕ) → getD least i 0 ≤ mostAmount) → n ≤ mostItems →
+    NumberedBy n (leastPriced least from) sums → (x : ℕ) → x < 2 ^ n → getD sums x 0 ≤ mostItems * mostAmount
 sum-at-most {n} least from low few so-far x under =
     let s = numbered n x under in
     let here = rw (s .number) at (so-far .at (s .set) (s .of-items)) in

@@ -2,9 +2,11 @@
 // that the cores run of a plan.
 mod dropping;
 mod lifting;
+mod own;
 mod sets;
 
 pub use dropping::drop_unserved;
 pub use lifting::MOST_CORE_COST;
 pub use lifting::lift_all;
+pub use own::fill_own;
 pub use sets::core_set;

@@ -28,7 +28,7 @@ fn add_item(half: usize, amount: u64, sums: &mut [u64])
 }
 
 // What the items of each set are priced at least.
-fn fill_sums(items: usize, least: [u64; MOST_ITEMS], sums: &mut [u64])
+pub(crate) fn fill_sums(items: usize, least: [u64; MOST_ITEMS], sums: &mut [u64])
     requires { ⌜ SumsReady items least (now sums) ⌝ }
     ensures { λ _. ⌜ NumberedBy items (leastPriced least 0) (now (sums .exit)) ⌝ }
 {

@@ -2,7 +2,7 @@
 -- set that has them is admitted.
 use Prim.Native.Nat.{ℕ, zero, suc, _+_, _-_, _*_, _/_, _%_, _^_, _≤_, _<_}
 use mathlib.Core.Bool.{Bool, true, false, cond}
-use mathlib.Core.List.{List, _∷_}
+use mathlib.Core.List.{List, [], _∷_}
 use mathlib.Core.Path.{_≡_, refl, sym, ap, _∙_}
 use native.Mathlib.Nat.{div-eq-of-lt, le-refl, le-trans, mul-add-div-right, mul-le-mul-right, zero-add, zero-div, pow-suc}
 use native.Mathlib.Omega.{arith}
@@ -41,22 +41,45 @@ first-bit-off true n i r l =
     let divided : (2 ^ n + r) / 2 ^ m ≡ 2 ^ suc i + r / 2 ^ m = rw power (mul-add-div-right (pow-pos m) (2 ^ suc i) r) in
     rw divided (omega (arith, pow-suc 2 i))
 
--- an item that a pattern does not run is not in its set
-pub not-run-not-in-set : {levels : ℕ} (n : ℕ) {S : List Bool} {pattern : List ℕ} → Keeps levels S pattern → length S ≡ n →
-    (i : ℕ) → i < n → getD pattern i 0 ≡ 0 → inSet n (setNumber n S) i ≡ 0
+-- the bits of a set's number are its flags
+flag-in-set : (n : ℕ) (S : List Bool) → length S ≡ n → (i : ℕ) → i < n → inSet n (setNumber n S) i ≡ cond (getD S i false) 1 0
 unfolding setNumber
-not-run-not-in-set zero keeps of-items i l out = absurd (omega arith)
-not-run-not-in-set (suc n) done of-items i l out = absurd (omega arith)
-not-run-not-in-set (suc n) {S = false ∷ S} (refused keeps) of-items zero l out =
+flag-in-set zero S of-items i l = absurd (omega arith)
+flag-in-set (suc n) [] of-items i l = absurd (omega arith)
+flag-in-set (suc n) (false ∷ S) of-items zero l =
     let all : suc n - 1 - 0 ≡ n = omega arith in
     rw (zero-add, all, div-eq-of-lt (setNumber-below n S)) refl
-not-run-not-in-set (suc n) (kept d h keeps) of-items zero l out = absurd (omega arith)
-not-run-not-in-set (suc n) {S = false ∷ S} (refused keeps) of-items (suc i) l out =
+flag-in-set (suc n) (true ∷ S) of-items zero l =
+    let all : suc n - 1 - 0 ≡ n = omega arith in
+    let one : 1 * 2 ^ n ≡ 2 ^ n = omega arith in
+    let divided : (2 ^ n + setNumber n S) / 2 ^ n ≡ 1 + setNumber n S / 2 ^ n = rw one at (mul-add-div-right (pow-pos n) 1 (setNumber n S)) in
+    rw (all, divided, div-eq-of-lt (setNumber-below n S)) refl
+flag-in-set (suc n) (b ∷ S) of-items (suc i) l =
     let same : suc n - 1 - suc i ≡ n - 1 - i = omega arith in
-    rw same (first-bit-off false n i (setNumber n S) (omega arith) ∙ not-run-not-in-set n keeps (omega arith) i (omega arith) out)
-not-run-not-in-set (suc n) {S = true ∷ S} (kept d h keeps) of-items (suc i) l out =
-    let same : suc n - 1 - suc i ≡ n - 1 - i = omega arith in
-    rw same (first-bit-off true n i (setNumber n S) (omega arith) ∙ not-run-not-in-set n keeps (omega arith) i (omega arith) out)
+    rw same (first-bit-off b n i (setNumber n S) (omega arith) ∙ flag-in-set n S (omega arith) i (omega arith))
+
+module _ {levels : ℕ} where
+  not-run-flag : {S : List Bool} {pattern : List ℕ} → Keeps levels S pattern → (i : ℕ) → getD pattern i 0 ≡ 0 → getD S i false ≡ false
+  not-run-flag done i out = refl
+  not-run-flag (refused keeps) zero out = refl
+  not-run-flag (kept d h keeps) zero out = absurd (omega arith)
+  not-run-flag (refused keeps) (suc i) out = not-run-flag keeps i out
+  not-run-flag (kept d h keeps) (suc i) out = not-run-flag keeps i out
+
+  run-flag : {S : List Bool} {pattern : List ℕ} → Keeps levels S pattern → (i l : ℕ) → getD pattern i 0 ≡ suc l → getD S i false ≡ true
+  run-flag done i l is = absurd (omega arith)
+  run-flag (refused keeps) zero l is = absurd (omega arith)
+  run-flag (kept d h keeps) zero l is = refl
+  run-flag (refused keeps) (suc i) l is = run-flag keeps i l is
+  run-flag (kept d h keeps) (suc i) l is = run-flag keeps i l is
+
+  -- an item is in a pattern's set where the pattern runs it, and else not
+  module _ (n : ℕ) {S : List Bool} {pattern : List ℕ} (keeps : Keeps levels S pattern) (of-items : length S ≡ n) (i : ℕ) (item : i < n) where
+    pub not-run-not-in-set : getD pattern i 0 ≡ 0 → inSet n (setNumber n S) i ≡ 0
+    not-run-not-in-set out = flag-in-set n S of-items i item ∙ rw (not-run-flag keeps i out) refl
+
+    run-in-set : (l : ℕ) → getD pattern i 0 ≡ suc l → inSet n (setNumber n S) i ≡ 1
+    run-in-set l is = flag-in-set n S of-items i item ∙ rw (run-flag keeps i l is) refl
 
 pub run-level-below : {levels : ℕ} {S : List Bool} {pattern : List ℕ} → Keeps levels S pattern → (i l : ℕ) → getD pattern i 0 ≡ suc l → l < levels
 run-level-below done i l is = absurd (omega arith)
@@ -187,3 +210,32 @@ module _ {timed : Timed} {timings column : List ℕ} (ready : TimedItems timed t
             ∙ fewer-ticks-meet (fewestTasks pattern) (patternTasks (timingsOf timings (timed .items)) pattern) refl (λ i. refl) (λ i. refl)
             (λ i l. no-fewer S of-items includes keeps i (rw (counted ready) at l)) (timed .span) met));
       }
+
+-- a pattern whose items have the column's ticks is admitted where its set is served so
+module _ {timed : Timed} {timings : List ℕ} (column : List ℕ) (ready : TimedItems timed timings) {S : List Bool} (of-items : length S ≡ timed .items)
+    {pattern : List ℕ} (keeps : Keeps (timed .levels) S pattern)
+    (have : (i l : ℕ) → i < timed .items → getD pattern i 0 ≡ suc l → getD column i 0 ≡ timingAt timings i .ticks l) where
+  column-ticks : (i : ℕ) → i < timed .items →
+      entryTicks (timingAt timings i) (getD pattern i 0) ≡ inSet (timed .items) (setNumber (timed .items) S) i * getD column i 0
+  unfolding entryTicks
+  column-ticks i l = go (getD pattern i 0) refl
+    where
+      go : (e : ℕ) → getD pattern i 0 ≡ e → entryTicks (timingAt timings i) e ≡ inSet (timed .items) (setNumber (timed .items) S) i * getD column i 0
+      go zero out = rw (not-run-not-in-set (timed .items) keeps of-items i l out) (omega arith)
+      go (suc level) is = rw (run-in-set (timed .items) keeps of-items i l level is) (omega (arith, have i level l is))
+
+  pattern-tasks : SameTasks (patternTasks (timingsOf timings (timed .items)) pattern) (setJobs timed timings column (setNumber (timed .items) S))
+  unfolding setJobs patternTasks
+  pattern-tasks =
+      record {
+        size = counted ready;
+        period = λ i l. ap (λ (t : _). t .period) (timing-of timings (timed .items) i (rw (counted ready) at l));
+        window = λ i l. ap (λ (t : _). t .window) (timing-of timings (timed .items) i (rw (counted ready) at l));
+        ticks = λ i l.
+            let item = rw (counted ready) at l in
+            rw (timing-of timings (timed .items) i item) (column-ticks i item);
+      }
+
+  pub pattern-served : (cost : List ℕ) → timedCore timed timings cost .admits pattern ≡ servedAt timed timings column (setNumber (timed .items) S)
+  unfolding servedAt
+  pattern-served cost = same-tasks-meet _ _ pattern-tasks (timed .span)

@@ -23,7 +23,7 @@ slice-aggregate-fill-sums c = search needs
 fill-sums-requires : tie.Need-fill-sums-requires Inv-loop μ-loop
 fill-sums-requires c κs =
     let ready = c .before .before .before .before .before .pre .0 in
-    record { few-items = ready .few-items; places = ready .places; low = ready .low; sums-for-all = pow-mono (ready .few-items); empty = refl }
+    record { few-items = ready .few-items; places = ready .places; low = λ i. omega (arith, ready .low i); sums-for-all = pow-mono (ready .few-items); empty = refl }
 
 sets-of-requires : tie.Need-sets-of-requires Inv-loop μ-loop
 sets-of-requires c κs = c .before .before .before .before .before .before .before .pre .0 .few-items
