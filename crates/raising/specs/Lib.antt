@@ -8,6 +8,7 @@ pub mod LeastKeys
 pub mod LowestTables
 pub mod TimedSites
 pub mod SiteLaws
+pub mod OwnSets
 pub mod StartTables
 pub mod LiftedLaws
 pub mod TriedLaws

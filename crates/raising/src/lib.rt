@@ -2,15 +2,20 @@
 // entries of the plan that they find are raised, until all of them are exact.
 mod limits;
 mod near;
+mod own;
 mod rounds;
 mod samples;
+mod small_sets;
 mod start;
 mod tries;
 
+use limits::TRIES;
+use own::settle_own;
 use rounds::least_in_rounds;
 use samples::lift_by_samples;
 use search::Found;
 use search::write_plan;
+use small_sets::search_small;
 use start::fill_start;
 use values::MOST_SETS;
 use values::NO_COST;
@@ -48,7 +53,19 @@ pub fn cheapest_in_time(
     let mut keys = [0u64; MOST_SETS];
     fill_start(site, timings, cost, &mut costs, &mut keys);
     lift_by_samples(site, timings, cost, &mut costs, &mut keys);
-    let best = least_in_rounds(site, timings, cost, refusal, must, &mut costs, &mut keys);
+    let mut left = [TRIES; MOST_SETS];
+    settle_own(site, timings, cost, &mut costs, &mut keys, &mut left);
+    search_small(site, timings, cost, &mut costs, &mut keys, &mut left);
+    let best = least_in_rounds(
+        site,
+        timings,
+        cost,
+        refusal,
+        must,
+        &mut costs,
+        &mut keys,
+        &mut left,
+    );
     if NO_COST <= best.cost {
         return Found::NoPlan;
     }

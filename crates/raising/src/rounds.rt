@@ -1,6 +1,5 @@
 // The rounds of the search.
 use crate::Site;
-use crate::limits::TRIES;
 use crate::near::raise_near;
 use crate::tries::try_set;
 use core_tables::charge_idle_once;
@@ -12,13 +11,10 @@ use values::MOST_SETS;
 use values::NO_COST;
 use values::Worth;
 ghost use Prim.Native.Nat.{_^_, _<_};
-ghost use lib.ListN.{replicate};
 ghost use Rattle.assignment.specs.Keys.{keyBase};
 ghost use Rattle.assignment.specs.SearchTheorem.{BestAnswers};
 ghost use Rattle.assignment.specs.Words.{noCost};
-ghost use Rattle.partition.specs.Tables.{mostSets};
 ghost use Rattle.values.specs.Worths.{worthOf};
-ghost use Rattle.raising.specs.RaisedTables.{mostTries};
 ghost use Rattle.raising.specs.Rounds.{RefusalsOffered, RoundReady, RoundFound};
 ghost use Rattle.raising.specs.TimedSites.{shapeOf, siteOptions, SiteReady, SiteRaised, SetsWeighed, SetsRaised};
 
@@ -97,15 +93,15 @@ pub(crate) fn least_in_rounds(
     must: &[bool],
     costs: &mut [u64; MOST_SETS],
     keys: &mut [u64; MOST_SETS],
+    left: &mut [u32; MOST_SETS],
 ) -> Worth
     requires { ⌜ SiteReady site (now timings) (now cost) ⌝ }
     requires { ⌜ RefusalsOffered (site .items) (now refusal) (now must) ⌝ }
-    requires { ⌜ SiteRaised site (now timings) (now cost) (now costs) (now keys) (replicate mostSets mostTries) ⌝ }
+    requires { ⌜ SiteRaised site (now timings) (now cost) (now costs) (now keys) (now left) ⌝ }
     ensures { λ r. ⌜ BestAnswers (siteOptions site (now (timings .entry)) (now (cost .entry)) (now (refusal .entry)) (now (must .entry))) (worthOf r) ⌝ }
     ensures { λ r. ⌜ (r .cost < noCost → r .key < keyBase ^ site .items) ⌝ }
 {
     let mut weights = [0u64; MOST_SETS];
-    let mut left = [TRIES; MOST_SETS];
     let mut near = [0u64; MOST_SETS];
     fill_weights(site.items, &mut weights);
     let mut waiting = FIRST_NEAR_ROUND;
@@ -118,7 +114,7 @@ pub(crate) fn least_in_rounds(
             site: site,
             key: best.key,
         };
-        let raised = raise_sets(found, timings, cost, &weights, costs, keys, &mut left);
+        let raised = raise_sets(found, timings, cost, &weights, costs, keys, left);
         if raised == 0 {
             return best;
         }
@@ -132,7 +128,7 @@ pub(crate) fn least_in_rounds(
             &weights,
             costs,
             keys,
-            &mut left,
+            left,
         );
     }
 }

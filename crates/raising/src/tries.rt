@@ -83,7 +83,7 @@ fn left_after(keyed: bool, left: u32, most: Worth, found: Worth) -> u32
 }
 
 // Searches a set up to its limit, for its least value or a higher entry.
-fn search_set(
+pub(crate) fn search_set(
     site: Site,
     set: usize,
     relaxed: Lagrangian,

@@ -12,10 +12,16 @@ fill-start-requires c κs = let offered = c .before .before .before .before .bef
 lift-by-samples-requires : tie.Need-lift-by-samples-requires
 lift-by-samples-requires c κs = (site-ready (c .before .before .before .before .before .before .before .before .before .before .pre .0), c .before .before .fill-start .ensures)
 
+settle-own-requires : tie.Need-settle-own-requires
+settle-own-requires c κs = (site-ready (c .before .before .before .before .before .before .before .before .before .before .before .before .before .before .pre .0), c .before .before .before .lift-by-samples .ensures)
+
+search-small-requires : tie.Need-search-small-requires
+search-small-requires c κs = (site-ready (c .before .before .before .before .before .before .before .before .before .before .before .before .before .before .before .before .before .before .pre .0), c .before .before .before .settle-own .ensures .0)
+
 least-in-rounds-requires : tie.Need-least-in-rounds-requires
 least-in-rounds-requires c κs =
-    let offered = c .before .before .before .before .before .before .before .before .before .before .before .before .before .pre .0 in
-    (site-ready offered, (offered .refusals, c .before .before .lift-by-samples .ensures))
+    let offered = c .before .before .before .before .before .before .before .before .before .before .before .before .before .before .before .before .before .before .before .before .before .before .pre .0 in
+    (site-ready offered, (offered .refusals, c .before .before .before .search-small .ensures))
 
 returns : tie.Need-returns
 returns c =
@@ -25,7 +31,7 @@ returns c =
 write-plan-requires : tie.Need-write-plan-requires
 write-plan-requires c κs =
     let best = c .before .before .before .least-in-rounds in
-    let pre = c .before .before .before .before .before .before .before .before .before .before .before .before .before .before .before .before .before .pre in
+    let pre = c .before .before .before .before .before .before .before .before .before .before .before .before .before .before .before .before .before .before .before .before .before .before .before .before .before .before .pre in
     (pre .0 .limits .items, (best .ensures .1 (c .before .if1 .left), pre .1))
 
 same-length : tie.Need-same-length
@@ -42,6 +48,8 @@ cheapest-in-time-spec =
     (tie.spec
     fill-start-requires
     lift-by-samples-requires
+    settle-own-requires
+    search-small-requires
     least-in-rounds-requires
     returns
     write-plan-requires
