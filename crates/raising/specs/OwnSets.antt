@@ -1,17 +1,15 @@
 -- Sets whose own patterns a core admits: what these are worth is the least of the set.
 use Prim.Native.Nat.{ℕ, _+_, _^_, _≤_, _<_}
-use mathlib.Core.Bool.{Bool, true, false, cond}
+use mathlib.Core.Bool.{Bool, true, false}
 use mathlib.Core.List.{List}
 use mathlib.Core.Logic.{_⊎_, inl, inr, _≢_}
-use mathlib.Core.Path.{_≡_, refl, sym, ap, _∙_}
+use mathlib.Core.Path.{_≡_, refl, _∙_}
 use native.Mathlib.Omega.{arith}
 use lib.ListN.{length, getD, set}
 use lib.Seq.{getD-set-same, getD-set-other}
-use Rattle.laws.specs.Truth.{false-not-true}
 use Rattle.assignment.specs.CoreTables.{Admitted, patternWorth}
 use Rattle.assignment.specs.KeyLaws.{keeps-in-base, keeps-length, key-below}
 use Rattle.assignment.specs.Keys.{keyBase, planKey}
-use Rattle.assignment.specs.Limits.{mostCoreCost}
 use Rattle.assignment.specs.SetLaws.{numbered}
 use Rattle.assignment.specs.Sets.{setNumber}
 use Rattle.assignment.specs.Values.{Least}
@@ -21,7 +19,7 @@ use Rattle.lagrangian.specs.TimedCores.{timedOptions}
 use Rattle.lagrangian.specs.TimedItems.{timedCore}
 use Rattle.set_tables.specs.OwnPatternLaws.{own-first, own-kept}
 use Rattle.set_tables.specs.OwnPatterns.{ownPattern, OwnTable}
-use Rattle.raising.specs.RaisedTables.{Raised, same-or-other, in-tries}
+use Rattle.raising.specs.RaisedTables.{same-or-other, in-tries}
 use Rattle.raising.specs.RaisingLaws.{LeastOfSet, least-entry, one-more-tried}
 use Rattle.raising.specs.TimedSites.{timedOf, coreOf, SiteReady, SiteRaised}
 use Rattle.raising.specs.declared.Site.{Site}

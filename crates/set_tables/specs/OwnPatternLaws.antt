@@ -33,7 +33,7 @@ use Rattle.timed_parts.specs.TickColumns.{servedAt}
 use Rattle.set_tables.specs.DroppedTables.{Dropped}
 use Rattle.set_tables.specs.LiftedTables.{NumberedBy}
 use Rattle.set_tables.specs.OwnLevelLaws.{own-below, own-comes-first}
-use Rattle.set_tables.specs.OwnPatterns.{isWithin, ownLevel, ownFrom, ownPattern, OwnUpTo, OwnTable}
+use Rattle.set_tables.specs.OwnPatterns.{ownLevel, ownFrom, ownPattern, OwnUpTo, OwnTable}
 use Rattle.set_tables.specs.declared.own.OwnColumns.{OwnColumns}
 
 -- one entry of a pattern in place of another

@@ -1,5 +1,5 @@
 -- `search_small` leaves a table of lower values behind, whichever sets are small.
-use Prim.Native.Nat.{_-_, _≤_}
+use Prim.Native.Nat.{_-_}
 use native.Mathlib.Omega.{arith}
 use borrow.Author.Needs.{needs}
 use Rattle.partition.specs.Tables.{room-for-sets}

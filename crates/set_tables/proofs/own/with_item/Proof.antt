@@ -1,9 +1,9 @@
 -- `with_item` adds the columns' entries of one item.
-use Prim.Native.Nat.{suc, _+_, _-_, _*_, _^_, _≤_}
-use mathlib.Core.Path.{_≡_, refl, ap}
+use Prim.Native.Nat.{_+_, _*_, _≤_}
+use mathlib.Core.Path.{refl, ap}
 use native.Mathlib.Omega.{arith}
 use borrow.Author.Needs.{needs}
-use Rattle.assignment.specs.Keys.{keyBase}
+use denote.Ref.{now}
 use Rattle.lagrangian.specs.TimedCores.{timingAt}
 use Rattle.set_tables.specs.LiftedTables.{mostAmount}
 use Rattle.set_tables.specs.OwnColumnLaws.{digit-low, one-column-more}
@@ -76,7 +76,7 @@ unfolding timingAt
 returns c =
     let level = c .before .before .before .before .before .before .before .own-level .ensures .0 in
     one-column-more (c .before .before .before .before .before .before .before .before .before .before .pre .1 .1) (omega (arith, c .before .before .before .before .before .before .before .before .before .before .pre .1 .0, c .before .before .before .before .before .before .before .before .before .before .pre .0 .timed-items .few-items))
-    (rw level refl) (rw level at (c .before .before .before .own-cost .ensures .0)) (c .before .before .before .own-cost .ensures .1) (rw (level, c .keys-of .ensures) refl) (low c)
+    (ap (timingAt (now (c .before .before .before .before .before .before .before .before .before .before .args .timings)) (c .before .before .before .before .before .before .before .before .before .before .args .item) .ticks) level) (rw level at (c .before .before .before .own-cost .ensures .0)) (c .before .before .before .own-cost .ensures .1) (rw (level, c .keys-of .ensures) refl) (low c)
 
 pub with-item-spec : {M : Type 1} → statement M
 with-item-spec =
