@@ -4,7 +4,7 @@ use lagrangian::size_of;
 use set_tables::MOST_CORE_COST;
 use values::NO_COST;
 use values::Worth;
-ghost use Prim.Native.Nat.{_*_, _≤_};
+ghost use Prim.Native.Nat.{ℕ, _*_, _≤_, _<_};
 ghost use Rattle.assignment.specs.Limits.{mostItems};
 ghost use Rattle.assignment.specs.Words.{noCost};
 ghost use Rattle.raising.specs.RaisedTables.{mostTries};
@@ -79,4 +79,15 @@ pub(crate) fn limit_of(items: usize, set: usize, left: u32, low: u64, key: u64) 
         return NO_LIMIT;
     }
     limit_at(low + (low >> (halvings - FEWEST_HALVINGS)) + 1, key)
+}
+
+// Before the first round a search goes one part in 32 above the entry.
+const FIRST_SHIFT: usize = 5;
+
+// Up to where a set is searched before the first round, whichever it is.
+pub(crate) fn first_limit(low: u64, key: u64) -> Worth
+    requires { ⌜ low ≤ noCost ⌝ }
+    ensures { λ r. ⌜ ((n tries : ℕ) → LimitReady n tries low key → 1 < tries → LimitOf n tries low key r) ⌝ }
+{
+    limit_at(low + (low >> FIRST_SHIFT) + 1, key)
 }

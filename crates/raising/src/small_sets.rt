@@ -1,6 +1,8 @@
-// Small sets are searched before the first round: their entries are then bounds in the searches of larger ones.
+// Small sets are searched before the first round, up to a limit a little above their entries.
 use crate::Site;
-use crate::tries::search_set;
+use crate::limits::KEY_TRY;
+use crate::limits::first_limit;
+use crate::tries::search_up_to;
 use lagrangian::Lagrangian;
 use lagrangian::Timed;
 use lagrangian::relaxation_at;
@@ -13,8 +15,8 @@ ghost use Prim.Native.Nat.{_^_, _<_};
 ghost use Rattle.lagrangian.specs.Lagrangians.{Relaxes};
 ghost use Rattle.raising.specs.TimedSites.{timedOf, SiteReady, SiteRaised, SetsWeighed};
 
-// Sets with so many items at most are searched, in some 3 microseconds each. Those with one item more, 220 of twelve items, would take as long
-// as all rounds of most sites.
+// Sets with so many items at most are searched, in some 3 microseconds each. With one item more there are 220 of twelve items, and searching
+// them takes longer than it saves.
 const SMALL_ITEMS: usize = 2;
 
 // Searches a set that is small, unless its entry is exact or none.
@@ -36,7 +38,7 @@ fn search_if_small(
     requires { ⌜ Relaxes (timedOf site) (now timings) (now cost) relaxed ⌝ }
     ensures { λ _. ⌜ SiteRaised site (now (timings .entry)) (now (cost .entry)) (now (costs .exit)) (now (keys .exit)) (now (left .exit)) ⌝ }
 {
-    if left[set] == 0 {
+    if left[set] < KEY_TRY {
         return;
     }
     if NO_COST <= costs[set] {
@@ -45,9 +47,11 @@ fn search_if_small(
     if SMALL_ITEMS < size_of(site.items, set) {
         return;
     }
-    search_set(
+    let most = first_limit(costs[set], weights[set]);
+    search_up_to(
         site,
         set,
+        most,
         relaxed,
         timings,
         cost,

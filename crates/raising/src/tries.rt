@@ -18,7 +18,7 @@ ghost use lib.ListN.{getD};
 ghost use Rattle.assignment.specs.Words.{noCost};
 ghost use Rattle.lagrangian.specs.Lagrangians.{Relaxes};
 ghost use Rattle.lagrangian.specs.TimedItems.{TimedReady};
-ghost use Rattle.raising.specs.TimedSites.{timedOf, SiteReady, SiteRaised, SetsWeighed, TriesAfter, SetTried};
+ghost use Rattle.raising.specs.TimedSites.{timedOf, SiteReady, SiteRaised, SetsWeighed, LimitOf, TriesAfter, SetTried};
 
 // Whether a search is to find keys too: where there is no limit, where only a key is looked for, and where a search for costs alone would try
 // no fewer levels.
@@ -82,8 +82,44 @@ fn left_after(keyed: bool, left: u32, most: Worth, found: Worth) -> u32
     left - 1
 }
 
-// Searches a set up to its limit, for its least value or a higher entry.
-pub(crate) fn search_set(
+// Searches a set up to a limit, for its least value or a higher entry.
+pub(crate) fn search_up_to(
+    site: Site,
+    set: usize,
+    most: Worth,
+    relaxed: Lagrangian,
+    timings: &[u32],
+    cost: &[u64],
+    weights: &[u64],
+    costs: &mut [u64],
+    keys: &mut [u64],
+    left: &mut [u32],
+)
+    requires { ⌜ SiteReady site (now timings) (now cost) ⌝ }
+    requires { ⌜ SetsWeighed (site .items) (now weights) ⌝ }
+    requires { ⌜ SiteRaised site (now timings) (now cost) (now costs) (now keys) (now left) ⌝ }
+    requires { ⌜ set < 2 ^ site .items ⌝ }
+    requires { ⌜ 0 < getD (now left) set 0 ⌝ }
+    requires { ⌜ Relaxes (timedOf site) (now timings) (now cost) relaxed ⌝ }
+    requires { ⌜ LimitOf (site .items) (getD (now left) set 0) (getD (now costs) set 0) (getD (now weights) set 0) most ⌝ }
+    ensures { λ _. ⌜ SetTried site (now (timings .entry)) (now (cost .entry)) (now (costs .exit)) (now (keys .exit))
+        (now (left .entry)) (now (left .exit)) ⌝ }
+{
+    let timed = Timed {
+        items: site.items,
+        levels: site.levels,
+        span: site.span,
+    };
+    let keyed = wants_key(timed, set, left[set], most, timings, cost);
+    let bounded = Bounded { timed, relaxed };
+    let found = least_up_to(bounded, set, keyed, most, timings, cost, costs, keys);
+    costs[set] = found.cost;
+    keys[set] = key_after(keyed, found.key, weights[set]);
+    left[set] = left_after(keyed, left[set], most, found);
+}
+
+// Searches a set up to the limit of its next try.
+fn search_set(
     site: Site,
     set: usize,
     relaxed: Lagrangian,
@@ -103,18 +139,19 @@ pub(crate) fn search_set(
     ensures { λ _. ⌜ SetTried site (now (timings .entry)) (now (cost .entry)) (now (costs .exit)) (now (keys .exit))
         (now (left .entry)) (now (left .exit)) ⌝ }
 {
-    let timed = Timed {
-        items: site.items,
-        levels: site.levels,
-        span: site.span,
-    };
     let most = limit_of(site.items, set, left[set], costs[set], weights[set]);
-    let keyed = wants_key(timed, set, left[set], most, timings, cost);
-    let bounded = Bounded { timed, relaxed };
-    let found = least_up_to(bounded, set, keyed, most, timings, cost, costs, keys);
-    costs[set] = found.cost;
-    keys[set] = key_after(keyed, found.key, weights[set]);
-    left[set] = left_after(keyed, left[set], most, found);
+    search_up_to(
+        site,
+        set,
+        most,
+        relaxed,
+        timings,
+        cost,
+        weights,
+        costs,
+        keys,
+        left,
+    );
 }
 
 // Tries a set; its relaxation raises the others' entries.

@@ -1,12 +1,11 @@
--- `search_set` searches a set up to a limit, and stores what it found.
+-- `search_set` searches a set up to the limit of its next try.
 use Prim.Native.Nat.{_<_}
 use native.Mathlib.Nat.{le-trans}
 use native.Mathlib.Omega.{arith}
 use borrow.Author.Needs.{needs}
 use Rattle.partition.specs.Tables.{room-for-sets}
-use Rattle.raising.specs.RaisedTables.{in-costs, in-keys, in-tries}
-use Rattle.raising.specs.SiteLaws.{lower-for-sets}
-use Rattle.raising.specs.TriedLaws.{ready-for-limit, set-tried}
+use Rattle.raising.specs.RaisedTables.{in-costs, in-tries}
+use Rattle.raising.specs.TriedLaws.{ready-for-limit}
 use Rattle.raising.proofs.tries.search_set.Statement.{statement}
 use Rattle.raising.proofs.tries.search_set.Tie as tie
 
@@ -17,83 +16,27 @@ mul-limit-of : tie.Need-mul-limit-of
 mul-limit-of c = omega (arith, few-sets (c .before .before .before .before .before .before))
 
 slice-read-limit-of : tie.Need-slice-read-limit-of
-slice-read-limit-of c = in-tries (c .before .before .before .before .before .before .before .pre .1 .1 .0) _ (c .before .before .before .before .before .before .before .pre .1 .1 .1 .0)
+slice-read-limit-of c = let pre = c .before .before .before .before .before .before .before .pre in in-tries (pre .1 .1 .0) _ (pre .1 .1 .1 .0)
 
 mul-limit-of-2 : tie.Need-mul-limit-of-2
 mul-limit-of-2 c = omega (arith, few-sets (c .before .before .before .before .before .before .before))
 
 slice-read-limit-of-2 : tie.Need-slice-read-limit-of-2
-slice-read-limit-of-2 c = in-costs (c .before .before .before .before .before .before .before .before .pre .1 .1 .0) _ (c .before .before .before .before .before .before .before .before .pre .1 .1 .1 .0)
+slice-read-limit-of-2 c = let pre = c .before .before .before .before .before .before .before .before .pre in in-costs (pre .1 .1 .0) _ (pre .1 .1 .1 .0)
 
 mul-limit-of-3 : tie.Need-mul-limit-of-3
 mul-limit-of-3 c = omega (arith, few-sets (c .before .before .before .before .before .before .before .before))
 
 shared-slice-read-limit-of : tie.Need-shared-slice-read-limit-of
-shared-slice-read-limit-of c = omega (arith, c .before .before .before .before .before .before .before .before .before .pre .1 .0 .for-all, c .before .before .before .before .before .before .before .before .before .pre .1 .1 .1 .0)
+shared-slice-read-limit-of c = let pre = c .before .before .before .before .before .before .before .before .before .pre in omega (arith, pre .1 .0 .for-all, pre .1 .1 .1 .0)
 
 limit-of-requires : tie.Need-limit-of-requires
-limit-of-requires c κs =
-    let pre = c .before .before .before .before .before .before .before .before .before .pre in
-    ready-for-limit (pre .0) (pre .1 .0) (pre .1 .1 .0) (pre .1 .1 .1 .0)
+limit-of-requires c κs = let pre = c .before .before .before .before .before .before .before .before .before .pre in ready-for-limit (pre .0) (pre .1 .0) (pre .1 .1 .0) (pre .1 .1 .1 .0)
 
-mul-wants-key : tie.Need-mul-wants-key
-mul-wants-key c = omega (arith, few-sets (c .before .before .before .before .before .before .before .before .before .before))
-
-slice-read-wants-key : tie.Need-slice-read-wants-key
-slice-read-wants-key c = in-tries (c .before .before .before .before .before .before .before .before .before .before .before .pre .1 .1 .0) _ (c .before .before .before .before .before .before .before .before .before .before .before .pre .1 .1 .1 .0)
-
-wants-key-requires : tie.Need-wants-key-requires
-wants-key-requires c κs = c .before .before .before .before .before .before .before .before .before .before .before .pre .0 .timed
-
-least-up-to-requires : tie.Need-least-up-to-requires
-least-up-to-requires c κs =
-    let pre = c .before .before .before .before .before .before .before .before .before .before .before .before .before .before .pre in
-    let limit = c .before .before .before .before .limit-of .ensures in (
-      pre .0 .timed,
-      (
-        record { table = lower-for-sets (pre .0) (pre .1 .1 .0); relaxation = pre .1 .1 .1 .1 .1 },
-        (pre .1 .1 .1 .0, record { at-most-none = limit .at-most-none; real = λ real. limit .cost real .1; digits = limit .digits }),
-      ),
-    )
-
-mul-costs : tie.Need-mul-costs
-mul-costs c = omega (arith, few-sets (c .before .before .before .before .before .before .before .before .before .before .before .before .before .before .before))
-
-slice-write-costs : tie.Need-slice-write-costs
-slice-write-costs c = in-costs (c .before .before .before .before .before .before .before .before .before .before .before .before .before .before .before .pre .1 .1 .0) _ (c .before .before .before .before .before .before .before .before .before .before .before .before .before .before .before .pre .1 .1 .1 .0)
-
-mul-key-after : tie.Need-mul-key-after
-mul-key-after c = omega (arith, few-sets (c .before .before .before .before .before .before .before .before .before .before .before .before .before .before .before))
-
-shared-slice-read-key-after : tie.Need-shared-slice-read-key-after
-shared-slice-read-key-after c = omega (arith, c .before .before .before .before .before .before .before .before .before .before .before .before .before .before .before .before .pre .1 .0 .for-all, c .before .before .before .before .before .before .before .before .before .before .before .before .before .before .before .before .pre .1 .1 .1 .0)
-
-key-after-requires : tie.Need-key-after-requires
-key-after-requires c κs = search needs
-
-mul-keys : tie.Need-mul-keys
-mul-keys c = omega (arith, few-sets (c .before .before .before .before .before .before .before .before .before .before .before .before .before .before .before .before .before))
-
-slice-write-keys : tie.Need-slice-write-keys
-slice-write-keys c = in-keys (c .before .before .before .before .before .before .before .before .before .before .before .before .before .before .before .before .before .pre .1 .1 .0) _ (c .before .before .before .before .before .before .before .before .before .before .before .before .before .before .before .before .before .pre .1 .1 .1 .0)
-
-mul-left-after : tie.Need-mul-left-after
-mul-left-after c = omega (arith, few-sets (c .before .before .before .before .before .before .before .before .before .before .before .before .before .before .before .before .before))
-
-slice-read-left-after : tie.Need-slice-read-left-after
-slice-read-left-after c = in-tries (c .before .before .before .before .before .before .before .before .before .before .before .before .before .before .before .before .before .before .pre .1 .1 .0) _ (c .before .before .before .before .before .before .before .before .before .before .before .before .before .before .before .before .before .before .pre .1 .1 .1 .0)
-
-left-after-requires : tie.Need-left-after-requires
-left-after-requires c κs = (
-  c .before .before .before .before .before .before .before .before .before .before .before .before .before .before .before .before .before .before .pre .1 .1 .1 .1 .0,
-  (c .before .before .before .before .before .before .before .before .limit-of .ensures .not-last, λ unkeyed. c .before .before .before .before .before .before .wants-key .ensures unkeyed .0),
-)
-
-mul-left : tie.Need-mul-left
-mul-left c = omega (arith, few-sets (c .before .before .before .before .before .before .before .before .before .before .before .before .before .before .before .before .before .before .before))
-
-slice-write-left : tie.Need-slice-write-left
-slice-write-left c = in-tries (c .before .before .before .before .before .before .before .before .before .before .before .before .before .before .before .before .before .before .before .pre .1 .1 .0) _ (c .before .before .before .before .before .before .before .before .before .before .before .before .before .before .before .before .before .before .before .pre .1 .1 .1 .0)
+search-up-to-requires : tie.Need-search-up-to-requires
+search-up-to-requires c κs =
+    let pre = c .before .before .before .before .before .before .before .before .before .before .before .before .before .pre in
+    (pre .0, (pre .1 .0, (pre .1 .1 .0, (pre .1 .1 .1 .0, (pre .1 .1 .1 .1 .0, (pre .1 .1 .1 .1 .1, c .before .before .before .limit-of .ensures))))))
 
 same-length : tie.Need-same-length
 same-length c = search needs
@@ -105,11 +48,7 @@ same-length-3 : tie.Need-same-length-3
 same-length-3 c = search needs
 
 returns : tie.Need-returns
-returns c =
-    let pre = c .before .before .before .before .before .before .before .before .before .before .before .before .before .before .before .before .before .before .before .pre in
-    let found = c .before .before .before .before .least-up-to .ensures in
-    set-tried (pre .0) (pre .1 .0) (pre .1 .1 .0) (pre .1 .1 .1 .0) (c .before .before .before .before .before .before .before .before .before .limit-of .ensures) (found .1 .1) (c .left-after .ensures)
-    (c .before .before .key-after .ensures) (λ unkeyed. c .before .before .before .before .before .before .before .wants-key .ensures unkeyed .1) (found .0) (found .1 .0)
+returns c = search needs
 
 pub search-set-spec : {M : Type 1} → statement M
 search-set-spec =
@@ -122,22 +61,7 @@ search-set-spec =
     mul-limit-of-3
     shared-slice-read-limit-of
     limit-of-requires
-    mul-wants-key
-    slice-read-wants-key
-    wants-key-requires
-    least-up-to-requires
-    mul-costs
-    slice-write-costs
-    mul-key-after
-    shared-slice-read-key-after
-    key-after-requires
-    mul-keys
-    slice-write-keys
-    mul-left-after
-    slice-read-left-after
-    left-after-requires
-    mul-left
-    slice-write-left
+    search-up-to-requires
     same-length
     same-length-2
     same-length-3
