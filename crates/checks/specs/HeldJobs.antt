@@ -20,9 +20,9 @@ use Rattle.instance.specs.Node.{Problem, levelCount, taskCount, taskAt, noTask,
 use Rattle.instance.specs.Valid.{Valid}
 use Rattle.instance.specs.declared.Instance.{Instance}
 use Rattle.instance.specs.declared.Task.{Task}
-use Rattle.checks.specs.JobCountLaws.{right-iff}
-use Rattle.checks.specs.JobCounts.{slotsHeld, countJob, HasItsTicks}
-use Rattle.checks.specs.declared.count.CountKind.the-variants.{Right}
+use Rattle.job_counts.specs.JobCountLaws.{right-iff}
+use Rattle.job_counts.specs.JobCounts.{slotsHeld, countJob, HasItsTicks}
+use Rattle.job_counts.specs.declared.CountKind.the-variants.{Right}
 use Rattle.checks.specs.Checks.{jobSlots, lateSlots, isServed}
 use Rattle.plan_rules.specs.AllowedPlans.{AllowedPlan}
 use Rattle.tables.specs.HeldTables.{row-within-table}

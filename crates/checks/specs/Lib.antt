@@ -1,8 +1,5 @@
 pub mod Checks
 pub mod NamedSlots
-pub mod JobCounts
-pub mod JobCountLaws
-pub mod JobCountSteps
 pub mod CheckLaws
 pub mod Outcomes
 pub mod RefusalLaws

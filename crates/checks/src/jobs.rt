@@ -1,9 +1,9 @@
 // The test of a given table's jobs: the refusal 10.
-use crate::count::CountKind;
-use crate::count::count_job;
 use dispatch::Slot;
 use instance::Instance;
 use instance::Task;
+use job_counts::CountKind;
+use job_counts::count_job;
 use plan_rules::core_of;
 use plan_rules::jobs_in;
 use plan_rules::level_of;

@@ -1,12 +1,8 @@
 // The checks of a given table: of its slots alone, and of its slots and jobs.
 mod check;
-mod count;
 mod jobs;
 mod slots;
 
 pub use check::check_table;
 pub use check::table_passes;
-pub use count::CountKind;
-pub use count::Counted;
-pub use count::count_job;
 pub use slots::check_slots;

@@ -1,14 +1,14 @@
 -- Document 02 (e), "Counting stops at the first tick too many": what is promised of the count of a job, over the slots of its
 -- core's row from its release to the next, of which `window` stand before its due tick. Its words are defined in `JobCounts` of
--- crate `checks`.
+-- crate `job_counts`.
 use Prim.Native.Nat.{ℕ, _≤_}
 use mathlib.Core.List.{List, [], _∷_, map}
 use mathlib.Core.Logic.{_↔_}
 use mathlib.Core.Path.{_≡_, refl}
 use lib.ListN.{length, take}
-use Rattle.checks.specs.JobCountLaws.{right-iff, over-iff, over-in-front-iff-read, reads-all-unless-over}
-use Rattle.checks.specs.JobCounts.{kindNumber, countJob, TooMany, HasItsTicks}
-use Rattle.checks.specs.declared.count.CountKind.the-variants.{Short, Right, Over}
+use Rattle.job_counts.specs.JobCountLaws.{right-iff, over-iff, over-in-front-iff-read, reads-all-unless-over}
+use Rattle.job_counts.specs.JobCounts.{kindNumber, countJob, TooMany, HasItsTicks}
+use Rattle.job_counts.specs.declared.CountKind.the-variants.{Short, Right, Over}
 
 pub record CountExact (slots : List ℕ) (number window ticks : ℕ) : Type 0 where
   pub numbers : map kindNumber (Short ∷ Right ∷ Over ∷ []) ≡ 0 ∷ 1 ∷ 2 ∷ []

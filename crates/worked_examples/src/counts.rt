@@ -1,8 +1,8 @@
 // The count of one job's slots.
 use crate::numbers::MOST_NUMBERS;
 use crate::numbers::slots_of;
-use checks::CountKind;
-use checks::Counted;
+use job_counts::CountKind;
+use job_counts::Counted;
 use printing::print_filled;
 use ranges::Slot;
 
@@ -19,7 +19,7 @@ fn print_counted(counted: Counted) {
 fn count_front(number: Slot, window: u32, ticks: u32, slots: &[Slot; MOST_NUMBERS], n: usize) {
     let all = &slots[..];
     if n <= all.len() {
-        print_counted(checks::count_job(&all[0..n], number, window as usize, ticks as usize));
+        print_counted(job_counts::count_job(&all[0..n], number, window as usize, ticks as usize));
     }
 }
 

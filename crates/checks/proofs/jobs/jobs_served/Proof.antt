@@ -8,8 +8,8 @@ use lib.ListN.{length}
 use borrow.Author.Count.{below-none, below-more}
 use Rattle.laws.specs.SearchFacts.{every-iff}
 use Rattle.laws.specs.Truth.{not-true-is-false}
+use Rattle.job_counts.specs.declared.CountKind.the-variants.{Right}
 use Rattle.checks.specs.HeldJobs.{jobServedAt, jobsServed, job-within, right-in-table}
-use Rattle.checks.specs.declared.count.CountKind.the-variants.{Right}
 use borrow.Author.Needs.{needs}
 use Rattle.checks.proofs.jobs.jobs_served.Statement.{statement}
 use Rattle.checks.proofs.jobs.jobs_served.Tie as tie

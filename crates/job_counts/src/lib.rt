@@ -1,7 +1,7 @@
 // The count of one job's slots, which ends at the first slot too many.
-use dispatch::Slot;
+use ranges::Slot;
 ghost use mathlib.Core.Path.{_≡_};
-ghost use Rattle.checks.specs.JobCounts.{countJob, kindNumber, CountEnds};
+ghost use Rattle.job_counts.specs.JobCounts.{countJob, kindNumber, CountEnds};
 
 // Whether a job has fewer slots than it must have, as many, or one too many.
 pub enum CountKind {

@@ -16,10 +16,10 @@ use Rattle.laws.specs.FirstLaws.{IsFirst, first-is-first}
 use Rattle.laws.specs.Search.{first, count}
 use Rattle.laws.specs.SearchFacts.{count-same}
 use Rattle.laws.specs.Truth.{and-is-true, false-not-true, or-is-true}
-use Rattle.checks.specs.JobCounts.{kindNumber, slotsHeld, isTooMany, countJob, TooMany, CountEnds, HasItsTicks}
-use Rattle.checks.specs.declared.count.CountKind.{CountKind}
-use Rattle.checks.specs.declared.count.CountKind.the-variants.{Short, Right, Over}
-use Rattle.checks.specs.declared.count.Counted.{Counted}
+use Rattle.job_counts.specs.JobCounts.{kindNumber, slotsHeld, isTooMany, countJob, TooMany, CountEnds, HasItsTicks}
+use Rattle.job_counts.specs.declared.CountKind.{CountKind}
+use Rattle.job_counts.specs.declared.CountKind.the-variants.{Short, Right, Over}
+use Rattle.job_counts.specs.declared.Counted.{Counted}
 
 kind-right : (k : CountKind) → kindNumber k ≡ 1 → k ≡ Right
 kind-right Short e = absurd (omega arith)

@@ -9,9 +9,9 @@ use mathlib.Core.Path.{_≡_}
 use lib.Dec.{leb, ltb, eqb}
 use lib.ListN.{length, getD}
 use Rattle.laws.specs.Search.{first, count}
-use Rattle.checks.specs.declared.count.CountKind.{CountKind}
-use Rattle.checks.specs.declared.count.CountKind.the-variants.{Short, Right, Over}
-use Rattle.checks.specs.declared.count.Counted.{Counted}
+use Rattle.job_counts.specs.declared.CountKind.{CountKind}
+use Rattle.job_counts.specs.declared.CountKind.the-variants.{Short, Right, Over}
+use Rattle.job_counts.specs.declared.Counted.{Counted}
 
 -- a number for each answer
 abbrev pub kindNumber : CountKind → ℕ

@@ -14,10 +14,10 @@ use Rattle.laws.specs.FirstLaws.{first-unique}
 use Rattle.laws.specs.Search.{first, count}
 use Rattle.laws.specs.SearchFacts.{first-of-none}
 use Rattle.laws.specs.Truth.{not-true-is-false}
-use Rattle.checks.specs.JobCountLaws.{too-many-iff, held-with-next, count-ends}
-use Rattle.checks.specs.JobCounts.{kindNumber, slotsHeld, isTooMany, countJob, TooMany, CountEnds}
-use Rattle.checks.specs.declared.count.CountKind.the-variants.{Short, Right, Over}
-use Rattle.checks.specs.declared.count.Counted.{Counted}
+use Rattle.job_counts.specs.JobCountLaws.{too-many-iff, held-with-next, count-ends}
+use Rattle.job_counts.specs.JobCounts.{kindNumber, slotsHeld, isTooMany, countJob, TooMany, CountEnds}
+use Rattle.job_counts.specs.declared.CountKind.the-variants.{Short, Right, Over}
+use Rattle.job_counts.specs.declared.Counted.{Counted}
 
 -- the first x slots are read: none is too many, and so many ticks are left
 pub record CountedUpTo (slots : List ℕ) (number window ticks left x : ℕ) : Type 0 where

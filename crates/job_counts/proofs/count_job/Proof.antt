@@ -4,9 +4,9 @@ use mathlib.Core.Logic.{⊎-elim, inl, inr}
 use lib.ListN.{length}
 use borrow.Author.Needs.{needs}
 use borrow.Author.Tests.{leb-true, leb-false}
-use Rattle.checks.specs.JobCountSteps.{CountedUpTo, counting-begins, other-slot-passed, its-slot-passed, slot-too-many-is-over, all-ticks-is-right, ticks-left-is-short, count-is-promised}
-use Rattle.checks.proofs.count.count_job.Statement.{statement}
-use Rattle.checks.proofs.count.count_job.Tie as tie
+use Rattle.job_counts.specs.JobCountSteps.{CountedUpTo, counting-begins, other-slot-passed, its-slot-passed, slot-too-many-is-over, all-ticks-is-right, ticks-left-is-short, count-is-promised}
+use Rattle.job_counts.proofs.count_job.Statement.{statement}
+use Rattle.job_counts.proofs.count_job.Tie as tie
 
 abbrev Inv-loop : tie.InvT-loop
 Inv-loop slots number window ticks left₀ x₀ left x = CountedUpTo slots number window ticks left x

@@ -1,0 +1,3 @@
+pub mod JobCounts
+pub mod JobCountLaws
+pub mod JobCountSteps
