@@ -2,6 +2,7 @@
 // them: whatever they are, the prices stay within their budget.
 use crate::Timed;
 use crate::exceeded::exceeded_tick;
+use crate::multipliers::MOST_TICKS;
 use crate::multipliers::Multipliers;
 use crate::part_bounds::Part;
 use crate::part_bounds::PartBound;
@@ -29,7 +30,8 @@ const PATIENCE: usize = 10;
 
 const STEPS_PER_TICK: usize = 4;
 
-// Steps aim at first at so much more than the first bound: one part in 64. A gain is at least one part in 16 of what steps aim at.
+// Steps aim at first at a bound that is higher by one part in 64 of what the first weights gain: what the items cost whatever is weighed, such as the idle
+// energy of a span, says nothing of that. A gain is at least one part in 16 of what steps aim at.
 const FIRST_AIM: u64 = 64;
 
 const LEAST_GAIN: u64 = 16;
@@ -164,6 +166,27 @@ fn steps_at_most(further: bool) -> usize
     if further { STEPS } else { FEW_STEPS }
 }
 
+// How far the bound of weights is above that without any.
+fn gain_of(
+    timed: Timed,
+    part: Part,
+    weighed: Multipliers,
+    value: u64,
+    timings: &[u32],
+    cost: &[u64],
+) -> u64
+    requires { ⌜ TimedReady timed (now timings) (now cost) ⌝ }
+    requires { ⌜ SmallPart part ⌝ }
+    requires { ⌜ Placed weighed ⌝ }
+    ensures { λ r. ⌜ r ≤ value ⌝ }
+{
+    let ticks = weighed.ticks;
+    let weights = [0; MOST_TICKS];
+    let unweighed = Multipliers { ticks, weights };
+    let without = bound_at(timed, part, unweighed, timings, cost);
+    less_or_none(value, without.value)
+}
+
 // The best weights of some steps from given ones on, for a part; `further` says whether further ticks are weighed.
 pub(crate) fn ascended(
     timed: Timed,
@@ -179,11 +202,12 @@ pub(crate) fn ascended(
     ensures { λ r. ⌜ Placed r ⌝ }
 {
     let value = bound_at(timed, part, first, timings, cost).value;
+    let gain = gain_of(timed, part, first, value, timings, cost);
     let mut ascent = Ascent {
         next: first,
         best: first,
         value,
-        aim: value / FIRST_AIM,
+        aim: gain / FIRST_AIM,
         stalled: 0,
         further,
     };

@@ -5,13 +5,16 @@ use Rattle.lagrangian.proofs.ascent.ascended.Statement.{statement}
 use Rattle.lagrangian.proofs.ascent.ascended.Tie as tie
 
 abbrev Inv-loop : tie.InvT-loop
-Inv-loop timed part further timings cost value ascent₀ most n₀ ascent n = (n ≤ most) × (most ≤ 150) × SmallAscent ascent × (ascent .stalled < patience)
+Inv-loop timed part further timings cost value gain ascent₀ most n₀ ascent n = (n ≤ most) × (most ≤ 150) × SmallAscent ascent × (ascent .stalled < patience)
 
 abbrev μ-loop : tie.MeasureT-loop
-μ-loop timed part further timings cost value ascent₀ most n₀ ascent n = most - n
+μ-loop timed part further timings cost value gain ascent₀ most n₀ ascent n = most - n
 
 bound-at-requires : tie.Need-bound-at-requires Inv-loop μ-loop
 bound-at-requires c κs = search needs
+
+gain-of-requires : tie.Need-gain-of-requires Inv-loop μ-loop
+gain-of-requires c κs = search needs
 
 steps-at-most-requires : tie.Need-steps-at-most-requires Inv-loop μ-loop
 steps-at-most-requires c κs = search needs
@@ -44,6 +47,7 @@ ascended-spec =
     Inv-loop
     μ-loop
     bound-at-requires
+    gain-of-requires
     steps-at-most-requires
     loop-holds
     returns
