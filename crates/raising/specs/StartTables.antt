@@ -40,6 +40,7 @@ site-ready o =
       limits = o .limits;
       some-level = o .some-level;
       timed = o .timed;
+      whole-limited = o .whole-limited;
       counted =
           record {
             at-least = o .counted;
@@ -47,11 +48,12 @@ site-ready o =
           };
     }
 
-pub start-raised : {site : Site} {timings cost costs keys : List ℕ} → SiteReady site timings cost → site .whole ≤ mostCost →
+pub start-raised : {site : Site} {timings cost costs keys : List ℕ} → SiteReady site timings cost →
     LowestTable (site .items) (site .whole) costs keys → SiteRaised site timings cost costs keys (replicate mostSets mostTries)
 unfolding coreOf timedOptions
-start-raised {site} ready limited table =
+start-raised {site} ready table =
     let few = ready .limits .items in
+    let limited = ready .whole-limited in
     record {
       small = lowest-small few limited table;
       keyed = lowest-keyed few limited table (ready .some-level);

@@ -7,7 +7,7 @@ use mathlib.Core.List.{List, []}
 use lib.ListN.{length, getD}
 use Rattle.assignment.specs.Assignment.{Options}
 use Rattle.assignment.specs.Keys.{keyBase}
-use Rattle.assignment.specs.Limits.{mostCoreCost, mostItems}
+use Rattle.assignment.specs.Limits.{mostCost, mostCoreCost, mostItems}
 use Rattle.assignment.specs.Words.{noCost}
 use Rattle.knapsack.specs.Offered.{offersOf}
 use Rattle.partition.specs.Moves.{WeightsBelow}
@@ -45,6 +45,7 @@ pub record SiteReady (site : Site) (timings cost : List ℕ) : Type 0 where
   pub limits : ShapeLimited (shapeOf site)
   pub some-level : 1 ≤ site .levels
   pub timed : TimedReady (timedOf site) timings cost
+  pub whole-limited : site .whole ≤ mostCost
   pub counted : CostsCounted (site .whole) (site .items) (coreOf site timings cost)
 
 -- the table as the search in rounds keeps it

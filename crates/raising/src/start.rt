@@ -10,9 +10,7 @@ use timed_parts::fewest_column;
 use values::MOST_SETS;
 use values::sets_of;
 ghost use mathlib.Core.Path.{_≡_};
-ghost use Prim.Native.Nat.{_≤_};
 ghost use lib.ListN.{getD, replicate};
-ghost use Rattle.assignment.specs.Limits.{mostCost};
 ghost use Rattle.partition.specs.Tables.{mostSets};
 ghost use Rattle.raising.specs.LowestTables.{LowestReady, LowestTable};
 ghost use Rattle.raising.specs.RaisedTables.{mostTries};
@@ -43,7 +41,6 @@ pub(crate) fn fill_start(
     keys: &mut [u64; MOST_SETS],
 )
     requires { ⌜ SiteReady site (now timings) (now cost) ⌝ }
-    requires { ⌜ site .whole ≤ mostCost ⌝ }
     requires { ⌜ getD (now costs) 0 0 ≡ 0 ⌝ }
     ensures { λ _. ⌜ SiteRaised site (now (timings .entry)) (now (cost .entry)) (now (costs .exit)) (now (keys .exit)) (replicate mostSets mostTries) ⌝ }
 {

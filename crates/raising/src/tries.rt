@@ -139,7 +139,14 @@ fn search_set(
     ensures { λ _. ⌜ SetTried site (now (timings .entry)) (now (cost .entry)) (now (costs .exit)) (now (keys .exit))
         (now (left .entry)) (now (left .exit)) ⌝ }
 {
-    let most = limit_of(site.items, set, left[set], costs[set], weights[set]);
+    let most = limit_of(
+        site.items,
+        site.whole,
+        set,
+        left[set],
+        costs[set],
+        weights[set],
+    );
     search_up_to(
         site,
         set,

@@ -7,7 +7,7 @@ use Rattle.raising.proofs.cheapest_in_time.Statement.{statement}
 use Rattle.raising.proofs.cheapest_in_time.Tie as tie
 
 fill-start-requires : tie.Need-fill-start-requires
-fill-start-requires c κs = let offered = c .before .before .before .before .before .before .before .pre .0 in (site-ready offered, (offered .whole-limited, refl))
+fill-start-requires c κs = let offered = c .before .before .before .before .before .before .before .pre .0 in (site-ready offered, refl)
 
 lift-by-samples-requires : tie.Need-lift-by-samples-requires
 lift-by-samples-requires c κs = (site-ready (c .before .before .before .before .before .before .before .before .before .before .pre .0), c .before .before .fill-start .ensures)

@@ -22,10 +22,13 @@ limit-at-requires : tie.Need-limit-at-requires
 limit-at-requires c κs = search needs
 
 returns-3 : tie.Need-returns-3
-returns-3 c = limit-above (c .before .before .before .before .before .pre) (omega arith) (omega (arith, c .before .if3 .taken)) (c .limit-at .ensures)
+returns-3 c = limit-above (c .before .before .before .before .before .pre .0) (omega arith) (omega (arith, c .before .if3 .taken)) (c .limit-at .ensures)
 
 size-of-requires : tie.Need-size-of-requires
 size-of-requires c κs = search needs
+
+net-of-idle-requires : tie.Need-net-of-idle-requires
+net-of-idle-requires c κs = search needs
 
 room-of-many-requires : tie.Need-room-of-many-requires
 room-of-many-requires c κs = search needs
@@ -40,7 +43,7 @@ limit-at-requires-2 : tie.Need-limit-at-requires-2
 limit-at-requires-2 c κs = search needs
 
 returns-4 : tie.Need-returns-4
-returns-4 c = limit-above (c .before .before .before .before .before .before .before .before .pre) (omega arith) (omega (arith, c .before .before .before .before .if3 .left, c .before .before .before .before .before .if2 .left)) (c .limit-at2 .ensures)
+returns-4 c = limit-above (c .before .before .before .before .before .before .before .before .before .pre .0) (omega arith) (omega (arith, c .before .before .before .before .before .if3 .left, c .before .before .before .before .before .before .if2 .left)) (c .limit-at2 .ensures)
 
 add-halvings : tie.Need-add-halvings
 add-halvings c = search needs
@@ -56,19 +59,19 @@ shr-limit-at c = search needs
 
 add-limit-at-4 : tie.Need-add-limit-at-4
 add-limit-at-4 c =
-    let start = c .before .before .before .before .before .before .before in
-    omega (arith, div-le-self (start .args .low) (2 ^ (start .args .left + c .before .before .size-of .result - 19)), start .pre)
+    let start = c .before .before .before .before .before .before .before .before in
+    omega (arith, div-le-self (c .before .before .net-of-idle .result) (2 ^ (start .args .left + c .before .before .before .size-of .result - 22)), c .before .before .net-of-idle .ensures, start .pre .0)
 
 add-limit-at-5 : tie.Need-add-limit-at-5
 add-limit-at-5 c =
-    let start = c .before .before .before .before .before .before .before in
-    omega (arith, div-le-self (start .args .low) (2 ^ (start .args .left + c .before .before .size-of .result - 19)), start .pre)
+    let start = c .before .before .before .before .before .before .before .before in
+    omega (arith, div-le-self (c .before .before .net-of-idle .result) (2 ^ (start .args .left + c .before .before .before .size-of .result - 22)), c .before .before .net-of-idle .ensures, start .pre .0)
 
 limit-at-requires-3 : tie.Need-limit-at-requires-3
 limit-at-requires-3 c κs = search needs
 
 returns-6 : tie.Need-returns-6
-returns-6 c = limit-above (c .before .before .before .before .before .before .before .before .pre) (omega arith) (omega (arith, c .before .before .before .before .if3 .left, c .before .before .before .before .before .if2 .left)) (c .limit-at3 .ensures)
+returns-6 c = limit-above (c .before .before .before .before .before .before .before .before .before .pre .0) (omega arith) (omega (arith, c .before .before .before .before .before .if3 .left, c .before .before .before .before .before .before .if2 .left)) (c .limit-at3 .ensures)
 
 pub limit-of-spec : {M : Type 1} → statement M
 limit-of-spec =
@@ -81,6 +84,7 @@ limit-of-spec =
     limit-at-requires
     returns-3
     size-of-requires
+    net-of-idle-requires
     room-of-many-requires
     add-limit-at-2
     add-limit-at-3

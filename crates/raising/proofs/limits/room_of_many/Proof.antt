@@ -21,7 +21,7 @@ shr-result : tie.Need-shr-result
 shr-result c = search needs
 
 returns : tie.Need-returns
-returns c = omega (arith, div-le-self (c .before .args .low) (2 ^ (steps (c .before) / 2)))
+returns c = omega (arith, div-le-self (c .before .args .net) (2 ^ (steps (c .before) / 2)))
 
 add-result : tie.Need-add-result
 add-result c = search needs
@@ -36,10 +36,10 @@ shr-result-3 : tie.Need-shr-result-3
 shr-result-3 c = search needs
 
 add-result-3 : tie.Need-add-result-3
-add-result-3 c = omega (arith, div-le-self (c .before .args .low) (2 ^ (steps (c .before) / 2 + 1)), div-le-self (c .before .args .low) (2 ^ (steps (c .before) / 2 + 2)), c .before .pre)
+add-result-3 c = omega (arith, div-le-self (c .before .args .net) (2 ^ (steps (c .before) / 2 + 1)), div-le-self (c .before .args .net) (2 ^ (steps (c .before) / 2 + 2)), c .before .pre)
 
 returns-2 : tie.Need-returns-2
-returns-2 c = omega (arith, div-le-self (c .before .args .low) (2 ^ (steps (c .before) / 2 + 1)), div-le-self (c .before .args .low) (2 ^ (steps (c .before) / 2 + 2)))
+returns-2 c = omega (arith, div-le-self (c .before .args .net) (2 ^ (steps (c .before) / 2 + 1)), div-le-self (c .before .args .net) (2 ^ (steps (c .before) / 2 + 2)))
 
 pub room-of-many-spec : {M : Type 1} → statement M
 room-of-many-spec =

@@ -16,10 +16,10 @@ fill-lowest-requires c κs =
     let few = pre .0 .limits .items in
     record {
       few-items = few;
-      whole-limited = pre .1 .0;
+      whole-limited = pre .0 .whole-limited;
       costs-for-all = omega (arith, room-for-sets few);
       keys-for-all = omega (arith, room-for-sets few);
-      empty = pre .1 .1;
+      empty = pre .1;
     }
 
 relaxation-at-requires : tie.Need-relaxation-at-requires
@@ -32,7 +32,7 @@ lift-all-requires : tie.Need-lift-all-requires
 lift-all-requires c κs =
     let pre = c .before .before .before .before .before .before .before .before .before .before .pre in
     let lowest = c .before .before .before .before .before .fill-lowest .ensures in
-    let table = start-raised (pre .0) (pre .1 .0) lowest in
+    let table = start-raised (pre .0) lowest in
     (ready-to-lift (pre .0) (c .before .before .before .relaxation-at .ensures) table, (lowest .weighed .for-all, lowest .weighed .each))
 
 cast-idle : tie.Need-cast-idle
@@ -51,7 +51,7 @@ lift-all-requires-2 : tie.Need-lift-all-requires-2
 lift-all-requires-2 c κs =
     let pre = c .before .before .before .before .before .before .before .before .before .before .before .before .before .before .before .before .before .pre in
     let lowest = c .before .before .before .before .before .before .before .before .before .before .before .before .fill-lowest .ensures in
-    let table = site-lifted (pre .0) (c .before .before .before .before .before .before .before .before .before .before .relaxation-at .ensures) (start-raised (pre .0) (pre .1 .0) lowest) (c .before .before .before .before .before .before .lift-all .ensures) in
+    let table = site-lifted (pre .0) (c .before .before .before .before .before .before .before .before .before .before .relaxation-at .ensures) (start-raised (pre .0) lowest) (c .before .before .before .before .before .before .lift-all .ensures) in
     (ready-to-lift (pre .0) (c .before .before .before .relaxation-at2 .ensures) table, (lowest .weighed .for-all, lowest .weighed .each))
 
 fewest-column-requires : tie.Need-fewest-column-requires
@@ -69,7 +69,7 @@ returns : tie.Need-returns
 returns c =
     let start = c .before .before .before .before .before .before .before .before .before .before .before .before .before .before .before .before .before .before .before .before .before in
     let ready = start .pre .0 in
-    let lowest = start-raised ready (start .pre .1 .0) (c .before .before .before .before .before .before .before .before .before .before .before .before .before .before .before .before .fill-lowest .ensures) in
+    let lowest = start-raised ready (c .before .before .before .before .before .before .before .before .before .before .before .before .before .before .before .before .fill-lowest .ensures) in
     let first = site-lifted ready (c .before .before .before .before .before .before .before .before .before .before .before .before .before .before .relaxation-at .ensures) lowest (c .before .before .before .before .before .before .before .before .before .before .lift-all .ensures) in
     let second = site-lifted ready (c .before .before .before .before .before .before .before .relaxation-at2 .ensures) first (c .before .before .before .lift-all2 .ensures) in
     site-dropped (start .args .site) _ (ready .timed .timed-items) (c .before .before .fewest-column .ensures) second (all-sets-dropped (c .drop-unserved .ensures))

@@ -31,7 +31,7 @@ shared-slice-read-limit-of : tie.Need-shared-slice-read-limit-of
 shared-slice-read-limit-of c = let pre = c .before .before .before .before .before .before .before .before .before .pre in omega (arith, pre .1 .0 .for-all, pre .1 .1 .1 .0)
 
 limit-of-requires : tie.Need-limit-of-requires
-limit-of-requires c κs = let pre = c .before .before .before .before .before .before .before .before .before .pre in ready-for-limit (pre .0) (pre .1 .0) (pre .1 .1 .0) (pre .1 .1 .1 .0)
+limit-of-requires c κs = let pre = c .before .before .before .before .before .before .before .before .before .pre in (ready-for-limit (pre .0) (pre .1 .0) (pre .1 .1 .0) (pre .1 .1 .1 .0), pre .0 .whole-limited)
 
 search-up-to-requires : tie.Need-search-up-to-requires
 search-up-to-requires c κs =
