@@ -7,11 +7,9 @@ pub mod TimedItems
 pub mod Lagrangians
 pub mod PriceColumns
 pub mod PricedLevels
-pub mod Exceeded
-pub mod Ascents
+pub mod Multipliers
 pub mod FrontKeyLaws
 pub mod AdmittedLaws
 pub mod LagrangianLaws
 pub mod PriceLaws
-pub mod AscentLaws
 pub mod PricedLevelLaws

@@ -3,9 +3,7 @@ use crate::Timed;
 use crate::relaxation::cheapest_level;
 use values::KEY_BASE;
 use values::MOST_ITEMS;
-ghost use mathlib.Core.Path.{_≡_};
 ghost use Prim.Native.Nat.{_≤_, _<_, _^_};
-ghost use lib.ListN.{length};
 ghost use Rattle.assignment.specs.Keys.{keyBase};
 ghost use Rattle.assignment.specs.Limits.{mostItems, mostLevels};
 ghost use Rattle.lagrangian.specs.TimedItems.{TimedReady};
@@ -16,24 +14,6 @@ pub fn is_in_set(items: usize, set: usize, item: usize) -> bool
     requires { ⌜ (item < items) × (items ≤ mostItems) ⌝ }
 {
     (set >> (items - 1 - item)) & 1 == 1
-}
-
-// The ticks of a job at the cheapest level of an item of the set; 0 for the others.
-fn ticks_in_set(
-    timed: Timed,
-    set: usize,
-    item: usize,
-    price: u64,
-    timings: &[u32],
-    cost: &[u64],
-) -> u32
-    requires { ⌜ TimedReady timed (now timings) (now cost) ⌝ }
-    requires { ⌜ (item < timed .items) × (price ≤ mostPrice) ⌝ }
-{
-    if !is_in_set(timed.items, set, item) {
-        return 0;
-    }
-    cheapest_level(timed, item, price, timings, cost).ticks
 }
 
 // The choice of an item in a key: its cheapest level, where it is in the set.
@@ -53,27 +33,6 @@ fn choice_in_set(
         return 0;
     }
     cheapest_level(timed, item, price, timings, cost).level as u64 + 1
-}
-
-// The ticks of a job of each item of the set at its cheapest level.
-pub(crate) fn cheapest_ticks(
-    timed: Timed,
-    set: usize,
-    prices: [u64; MOST_ITEMS],
-    timings: &[u32],
-    cost: &[u64],
-) -> [u32; MOST_ITEMS]
-    requires { ⌜ TimedReady timed (now timings) (now cost) ⌝ }
-    requires { ⌜ LowPrices prices ⌝ }
-    ensures { λ r. ⌜ length r ≡ mostItems ⌝ }
-{
-    let mut ticks = [0; MOST_ITEMS];
-    let mut i = 0;
-    while i < timed.items {
-        ticks[i] = ticks_in_set(timed, set, i, prices[i], timings, cost);
-        i += 1;
-    }
-    ticks
 }
 
 // The key of the levels that are cheapest at these prices.

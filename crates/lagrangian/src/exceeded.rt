@@ -1,124 +1,85 @@
 // The tick that is exceeded most by what is due, as a share of the ticks up to it. It tells which tick to weigh, and nothing is claimed
-// of it: sums are cut off where they are large.
+// of it.
 use crate::TIMING_WIDTH;
 use crate::Timed;
 use values::ENTRIES;
 use values::MOST_ITEMS;
-ghost use Prim.Native.Nat.{_+_, _≤_, _<_};
-ghost use lib.ListN.{length};
+ghost use Prim.Native.Nat.{_≤_};
 ghost use Rattle.ranges.specs.Limits.{mostPeriod, mostSpan};
-ghost use Rattle.assignment.specs.Limits.{mostItems};
-ghost use Rattle.lagrangian.specs.Exceeded.{mostDue, SmallExceeded};
 ghost use Rattle.lagrangian.specs.TimedItems.{TimedItems};
-ghost use mathlib.Core.Path.{_≡_};
 
-// Sums above this are cut off: 2^48.
-const MOST_DUE: u64 = 0x1_0000_0000_0000;
+// Up to this share a tick counts as met.
+const MOST_SHARE: f64 = 1.000001;
 
-// A tick, and what is due by it.
-struct Due {
-    tick: u32,
-    due: u64,
-}
-
-// What is due by the ticks so far, the one that is exceeded most, and its tick, or 0.
+// What is due by the ticks so far, and the one that is exceeded most, or 0, with its share.
 struct MostExceeded {
-    sum: u64,
-    most: Due,
+    due: f64,
     tick: u32,
-}
-
-fn sum_cut_off(a: u64, b: u64) -> u64
-    ensures { λ r. ⌜ r ≤ mostDue + mostDue ⌝ }
-{
-    if MOST_DUE < a {
-        return MOST_DUE;
-    }
-    if MOST_DUE < b {
-        return MOST_DUE;
-    }
-    a + b
+    share: f64,
 }
 
 // Adds the ticks of each job of an item where it is due.
-fn add_jobs(span: u32, period: u32, window: u32, ticks: u32, due: &mut [u64])
+fn add_jobs(span: u32, period: u32, window: u32, ticks: f64, due: &mut [f64; ENTRIES])
     requires { ⌜ (1 ≤ period) × (period ≤ mostPeriod) × (window ≤ mostPeriod) × (span ≤ mostSpan) ⌝ }
-    requires { ⌜ span < length (now due) ⌝ }
 {
     let mut tick = window;
     while tick <= span {
-        due[tick as usize] = sum_cut_off(due[tick as usize], ticks as u64);
+        due[tick as usize] = due[tick as usize] + ticks;
         tick += period;
     }
 }
 
-// Whether more is due by a tick than there are ticks up to it, and by a larger share than by another.
-fn is_exceeded_more(here: Due, most: Due) -> bool
-    requires { ⌜ (here .tick ≤ mostSpan) × (most .tick ≤ mostSpan) ⌝ }
-    requires { ⌜ (here .due ≤ mostDue + mostDue) × (most .due ≤ mostDue + mostDue) ⌝ }
-{
-    if here.due <= here.tick as u64 {
-        return false;
-    }
-    most.due * (here.tick as u64) < here.due * (most.tick as u64)
-}
-
 // With one tick more by which something is due.
-fn with_due(known: MostExceeded, tick: u32, due: u64) -> MostExceeded
-    requires { ⌜ SmallExceeded known ⌝ }
-    requires { ⌜ tick ≤ mostSpan ⌝ }
-    ensures { λ r. ⌜ SmallExceeded r ⌝ }
+fn with_due(known: MostExceeded, tick: u32, more: f64) -> MostExceeded
+    requires { ⌜ (known .tick ≤ mostSpan) × (tick ≤ mostSpan) ⌝ }
+    ensures { λ r. ⌜ r .tick ≤ mostSpan ⌝ }
 {
-    let most = known.most;
-    let sum = sum_cut_off(known.sum, due);
-    let here = Due { tick, due: sum };
-    if is_exceeded_more(here, most) {
-        return MostExceeded {
-            sum,
-            most: here,
-            tick,
-        };
+    let due = known.due + more;
+    let share = due / tick as f64;
+    if known.share < share {
+        return MostExceeded { due, tick, share };
     }
     MostExceeded {
-        sum,
-        most,
+        due,
         tick: known.tick,
+        share: known.share,
     }
 }
 
 // The tick that is exceeded most, by what is due at each tick; 0 where none is.
-fn most_exceeded(span: u32, due: &[u64]) -> u32
-    requires { ⌜ (span ≤ mostSpan) × (span < length (now due)) ⌝ }
+fn most_exceeded(span: u32, due: &[f64; ENTRIES]) -> u32
+    requires { ⌜ span ≤ mostSpan ⌝ }
+    ensures { λ r. ⌜ r ≤ mostSpan ⌝ }
 {
     let mut known = MostExceeded {
-        sum: 0,
-        most: Due { tick: 1, due: 1 },
+        due: 0.0,
         tick: 0,
+        share: MOST_SHARE,
     };
     let mut tick = 0;
     while tick < span {
         tick += 1;
         let here = due[tick as usize];
-        if 0 < here {
+        if 0.0 < here {
             known = with_due(known, tick, here);
         }
     }
     known.tick
 }
 
-// The tick that is exceeded most where each item has the column's ticks to a job; 0 where none is.
-pub(crate) fn exceeded_tick(timed: Timed, column: [u32; MOST_ITEMS], timings: &[u32]) -> u32
+// The tick that is exceeded most where jobs have these ticks; 0 where none is.
+pub(crate) fn exceeded_tick(timed: Timed, ticks: &[f64; MOST_ITEMS], timings: &[u32]) -> u32
     requires { ⌜ TimedItems timed (now timings) ⌝ }
-    requires { ⌜ length column ≡ mostItems ⌝ }
+    ensures { λ r. ⌜ r ≤ mostSpan ⌝ }
 {
-    let mut due = [0u64; ENTRIES];
+    let mut due = [0.0; ENTRIES];
     let mut i = 0;
     while i < timed.items {
         add_jobs(
             timed.span,
             timings[i * TIMING_WIDTH],
             timings[i * TIMING_WIDTH + 1],
-            column[i],
+            ticks[i],
             &mut due,
         );
         i += 1;

@@ -1,25 +1,25 @@
 // The Lagrangian relaxation of one core whose jobs are due at given ticks: ticks have weights, and by them a tick of a job of each item has
 // a price. It bounds what every set of items costs there, whichever ticks are weighed; and ticks and weights are chosen for a set.
-mod ascent;
 mod choices;
 mod exceeded;
+mod fitting;
+mod level_mixes;
+mod means;
 mod multipliers;
-mod part_bounds;
-mod places;
+mod parts;
 mod prices;
 mod relaxation;
 mod set_sizes;
-mod slopes;
+mod tick_rows;
 mod weights;
 mod windows;
 
-use ascent::ascended;
 pub use choices::cheapest_key;
 pub use choices::is_in_set;
+use fitting::fitted;
 pub use multipliers::MOST_TICKS;
-use multipliers::Multipliers;
-use multipliers::best_multipliers;
-pub use part_bounds::Part;
+pub use parts::Part;
+use parts::part_of_set;
 pub use prices::jobs_by;
 use relaxation::lagrangian_of;
 pub use set_sizes::FEW_ITEMS;
@@ -29,7 +29,7 @@ use values::MOST_ITEMS;
 use values::MOST_LEVELS;
 pub use windows::is_within_window;
 ghost use mathlib.Core.Path.{_≡_};
-ghost use Rattle.lagrangian.specs.Ascents.{SmallPart};
+ghost use Rattle.lagrangian.specs.Multipliers.{PlacedPart};
 ghost use Rattle.lagrangian.specs.Lagrangians.{Relaxes};
 ghost use Rattle.lagrangian.specs.TimedItems.{TimedReady};
 
@@ -44,14 +44,13 @@ pub struct Timed {
 pub const TIMING_WIDTH: usize = MOST_LEVELS + 2;
 
 // Prices of a tick of a job of each item, such that the ticks of an admitted pattern come to no more than the budget; and what each
-// item costs at least, its ticks at their price included. `ticks` are those that were weighed, or 0, and `weights` their weights: parts of
-// patterns are tested at them, and nothing is claimed of them. They were chosen for parts of which so many items are fixed.
+// item costs at least, its ticks at their price included. `ticks` are those that were weighed, or 0: parts of patterns are tested at them, and
+// nothing is claimed of them. The prices were chosen for parts of which so many items are fixed.
 pub struct Lagrangian {
     pub prices: [u64; MOST_ITEMS],
     pub least: [u64; MOST_ITEMS],
     pub budget: u64,
     pub ticks: [u32; MOST_TICKS],
-    pub weights: [u64; MOST_TICKS],
     pub fixed: usize,
 }
 
@@ -78,29 +77,20 @@ pub fn relaxation_of(timed: Timed, set: usize, timings: &[u32], cost: &[u64]) ->
     requires { ⌜ TimedReady timed (now timings) (now cost) ⌝ }
     ensures { λ r. ⌜ Relaxes timed (now (timings .entry)) (now (cost .entry)) r ⌝ }
 {
-    let weighed = best_multipliers(timed, set, timings, cost);
+    let weighed = fitted(
+        timed,
+        part_of_set(set),
+        [0; MOST_TICKS],
+        true,
+        timings,
+        cost,
+    );
     let ticks = weighed.ticks;
     let weights = weighed.weights;
     lagrangian_of(timed, 0, ticks, weights, timings, cost)
 }
 
-// Better weights of the same ticks for a part.
-fn refit_weights(
-    timed: Timed,
-    part: Part,
-    ticks: [u32; MOST_TICKS],
-    weights: [u64; MOST_TICKS],
-    timings: &[u32],
-    cost: &[u64],
-) -> [u64; MOST_TICKS]
-    requires { ⌜ TimedReady timed (now timings) (now cost) ⌝ }
-    requires { ⌜ SmallPart part ⌝ }
-{
-    let first = Multipliers { ticks, weights };
-    ascended(timed, part, first, false, timings, cost).weights
-}
-
-// The relaxation of the same ticks as another's, with weights that are better for a part.
+// The relaxation of the same ticks as another's, with the weights that are best for a part.
 pub fn relaxation_from(
     timed: Timed,
     relaxed: Lagrangian,
@@ -109,12 +99,13 @@ pub fn relaxation_from(
     cost: &[u64],
 ) -> Lagrangian
     requires { ⌜ TimedReady timed (now timings) (now cost) ⌝ }
-    requires { ⌜ SmallPart part ⌝ }
+    requires { ⌜ PlacedPart part ⌝ }
     ensures { λ r. ⌜ Relaxes timed (now (timings .entry)) (now (cost .entry)) r ⌝ }
     ensures { λ r. ⌜ r .fixed ≡ part .fixed ⌝ }
 {
-    let ticks = relaxed.ticks;
-    let before = relaxed.weights;
-    let weights = refit_weights(timed, part, ticks, before, timings, cost);
+    let given = relaxed.ticks;
+    let weighed = fitted(timed, part, given, false, timings, cost);
+    let ticks = weighed.ticks;
+    let weights = weighed.weights;
     lagrangian_of(timed, part.fixed, ticks, weights, timings, cost)
 }

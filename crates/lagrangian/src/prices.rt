@@ -68,7 +68,7 @@ fn raised_price(price: u64, weight: u64, jobs: u32) -> u64
 }
 
 // The prices of so many items raised by a weight for each of their jobs.
-pub(crate) fn raised_prices(
+fn raised_prices(
     items: usize,
     prices: [u64; MOST_ITEMS],
     weight: u64,

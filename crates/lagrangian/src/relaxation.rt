@@ -104,7 +104,6 @@ pub(crate) fn lagrangian_of(
         least,
         budget: known.budget,
         ticks,
-        weights,
         fixed,
     }
 }

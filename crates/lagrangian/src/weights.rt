@@ -1,95 +1,53 @@
-// The weight that a tick needs so that not too much is due by it at the cheapest levels of a set.
-use crate::Timed;
-use crate::choices::cheapest_ticks;
-use crate::prices::raised_prices;
-use values::MOST_ITEMS;
+// The weights of ticks, read off a dictionary: what one tick more of each would save.
+use crate::multipliers::MOST_TICKS;
+use crate::tick_rows::FIRST_SLACK;
+use simplex::Dictionary;
+use simplex::MOST_ENTRIES;
+use std::num::truncating_f64_to_u64;
 ghost use mathlib.Core.Path.{_≡_};
-ghost use Prim.Native.Nat.{_+_, _*_, _≤_};
 ghost use lib.ListN.{length};
-ghost use Rattle.ranges.specs.Limits.{mostSpan, mostWord};
-ghost use Rattle.assignment.specs.Limits.{mostItems};
-ghost use Rattle.lagrangian.specs.TimedItems.{TimedReady};
-ghost use Rattle.lagrangian.specs.PriceColumns.{mostWeight, FewJobs, LowPrices};
+ghost use Rattle.simplex.specs.Dictionaries.{Sized};
+ghost use Rattle.lagrangian.specs.PriceColumns.{mostTicks};
 
-// The first bit of the weights that are tried.
-const FIRST_BIT: u64 = 0x8000_0000;
-
-// What the weight of a tick is fitted to: the set, the tick, the jobs of each item that are due by it, and the prices without it.
-pub(crate) struct Fitting {
-    pub(crate) set: usize,
-    pub(crate) tick: u32,
-    pub(crate) jobs: [u32; MOST_ITEMS],
-    pub(crate) prices: [u64; MOST_ITEMS],
-}
-
-fn ticks_of_jobs(ticks: u32, jobs: u32) -> u64
-    requires { ⌜ jobs ≤ mostSpan ⌝ }
-    ensures { λ r. ⌜ r ≤ mostWord * mostSpan ⌝ }
-{
-    ticks as u64 * jobs as u64
-}
-
-// The ticks of so many jobs of each item.
-pub(crate) fn due_of(items: usize, ticks: [u32; MOST_ITEMS], jobs: [u32; MOST_ITEMS]) -> u64
-    requires { ⌜ items ≤ mostItems ⌝ }
-    requires { ⌜ length ticks ≡ mostItems ⌝ }
-    requires { ⌜ FewJobs jobs ⌝ }
-{
-    let mut due = 0;
-    let mut i = 0;
-    while i < items {
-        due += ticks_of_jobs(ticks[i], jobs[i]);
-        i += 1;
+// The nearest whole number; 0 where there is none, or a large one.
+fn whole(x: f64) -> u64 {
+    let above = x + 0.5;
+    if above > -1.0 {
+        if above < 18446744073709551616.0 {
+            return truncating_f64_to_u64(above);
+        }
     }
-    due
+    0
 }
 
-// Whether with this weight too much is due by the tick at the cheapest levels.
-fn is_too_much(timed: Timed, fitting: Fitting, weight: u64, timings: &[u32], cost: &[u64]) -> bool
-    requires { ⌜ TimedReady timed (now timings) (now cost) ⌝ }
-    requires { ⌜ FewJobs (fitting .jobs) × LowPrices (fitting .prices) ⌝ }
-    requires { ⌜ weight ≤ mostWeight ⌝ }
+// Writes the weight of a tick, where a column's variable is what is left of it.
+fn fill_weight(ticks: [u32; MOST_TICKS], variable: usize, cost: f64, weights: &mut [u64])
+    requires { ⌜ (length ticks ≡ mostTicks) × (length (now weights) ≡ mostTicks) ⌝ }
 {
-    let jobs = fitting.jobs;
-    let before = fitting.prices;
-    let prices = raised_prices(timed.items, before, weight, jobs);
-    let ticks = cheapest_ticks(timed, fitting.set, prices, timings, cost);
-    (fitting.tick as u64) < due_of(timed.items, ticks, jobs)
+    if variable < FIRST_SLACK {
+        return;
+    }
+    let place = variable - FIRST_SLACK;
+    if MOST_TICKS <= place {
+        return;
+    }
+    weights[place] = whole(cost / ticks[place] as f64);
 }
 
-// The weight with one bit more, where even then too much is due.
-fn with_bit(
-    timed: Timed,
-    fitting: Fitting,
-    weight: u64,
-    bit: u64,
-    timings: &[u32],
-    cost: &[u64],
-) -> u64
-    requires { ⌜ TimedReady timed (now timings) (now cost) ⌝ }
-    requires { ⌜ FewJobs (fitting .jobs) × LowPrices (fitting .prices) ⌝ }
-    requires { ⌜ weight + bit ≤ mostWeight ⌝ }
-    ensures { λ r. ⌜ r ≤ weight + bit ⌝ }
+// Writes the weights of the ticks: what one more of each would save.
+pub(crate) fn fill_weights(
+    dictionary: Dictionary,
+    ticks: [u32; MOST_TICKS],
+    entries: &[f64; MOST_ENTRIES],
+    weights: &mut [u64],
+)
+    requires { ⌜ Sized dictionary ⌝ }
+    requires { ⌜ (length ticks ≡ mostTicks) × (length (now weights) ≡ mostTicks) ⌝ }
 {
-    if is_too_much(timed, fitting, weight + bit, timings, cost) {
-        return weight + bit;
+    let mut column = 1;
+    while column < dictionary.columns {
+        let variable = dictionary.nonbasic[column];
+        fill_weight(ticks, variable, entries[column], weights);
+        column += 1;
     }
-    weight
-}
-
-// The least weight with which not too much is due by the tick at the cheapest levels, bit by bit.
-pub(crate) fn least_weight(timed: Timed, fitting: Fitting, timings: &[u32], cost: &[u64]) -> u64
-    requires { ⌜ TimedReady timed (now timings) (now cost) ⌝ }
-    requires { ⌜ FewJobs (fitting .jobs) × LowPrices (fitting .prices) ⌝ }
-{
-    if !is_too_much(timed, fitting, 0, timings, cost) {
-        return 0;
-    }
-    let mut weight = 0;
-    let mut bit = FIRST_BIT;
-    while 0 < bit {
-        weight = with_bit(timed, fitting, weight, bit, timings, cost);
-        bit = bit / 2;
-    }
-    weight + 1
 }

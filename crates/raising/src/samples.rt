@@ -19,9 +19,9 @@ ghost use Rattle.raising.specs.TimedSites.{SiteReady, SiteRaised, SetsWe
 // How many items each of the few sets has.
 const SAMPLE_ITEMS: usize = 4;
 
-// Of the sets with so many items every 25th is taken, 19 where there are twelve items. With these random sites take nineteen twentieths of
-// the time that they take with none; twice as many take as much time as they save.
-const SAMPLE_STEP: usize = 25;
+// Of the sets with so many items every eighth is taken, 61 where there are twelve items. With these random sites take nine tenths of
+// the time that they take with none.
+const SAMPLE_STEP: usize = 8;
 
 // How many sets with so many items are left up to the next that is taken, once this set was seen; 0 where it is that one.
 fn steps_after(items: usize, set: usize, steps: usize) -> usize

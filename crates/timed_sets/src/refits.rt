@@ -34,7 +34,7 @@ pub(crate) fn is_refit_due(bounded: Bounded, node: Node) -> bool
     !has_few_items(bounded.timed.items, node.rest)
 }
 
-// The relaxation of the same ticks, with weights that are better for what goes on from the node.
+// The relaxation of the same ticks, with the weights that are best for what goes on from the node.
 pub(crate) fn refitted(
     timed: Timed,
     relaxed: Lagrangian,
@@ -51,7 +51,6 @@ pub(crate) fn refitted(
     let part = Part {
         fixed: node.item,
         open: node.rest,
-        cost: node.cost,
         ticks,
     };
     relaxation_from(timed, relaxed, part, timings, cost)

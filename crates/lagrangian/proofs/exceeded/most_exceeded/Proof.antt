@@ -1,18 +1,17 @@
 use Prim.Native.Nat.{_-_, _≤_}
-use native.Mathlib.Omega.{arith}
 use borrow.Author.Needs.{needs}
-use Rattle.lagrangian.specs.Exceeded.{SmallExceeded}
+use Rattle.ranges.specs.Limits.{mostSpan}
 use Rattle.lagrangian.proofs.exceeded.most_exceeded.Statement.{statement}
 use Rattle.lagrangian.proofs.exceeded.most_exceeded.Tie as tie
 
 abbrev Inv-loop : tie.InvT-loop
-Inv-loop span due known₀ tick₀ known tick = (tick ≤ span) × SmallExceeded known
+Inv-loop span due known₀ tick₀ known tick = (tick ≤ span) × (known .tick ≤ mostSpan)
 
 abbrev μ-loop : tie.MeasureT-loop
 μ-loop span due known₀ tick₀ known tick = span - tick
 
 loop-holds : tie.Need-loop-holds Inv-loop μ-loop
-loop-holds c = (omega arith, record { tick = omega arith; due = omega arith })
+loop-holds c = search needs
 
 add-tick : tie.Need-add-tick Inv-loop μ-loop
 add-tick c = search needs
@@ -23,8 +22,8 @@ cast-here c = search needs
 mul-here : tie.Need-mul-here Inv-loop μ-loop
 mul-here c = search needs
 
-shared-slice-read-here : tie.Need-shared-slice-read-here Inv-loop μ-loop
-shared-slice-read-here c = search needs
+element-copy-out-here : tie.Need-element-copy-out-here Inv-loop μ-loop
+element-copy-out-here c = search needs
 
 with-due-requires : tie.Need-with-due-requires Inv-loop μ-loop
 with-due-requires c κs = search needs
@@ -54,7 +53,7 @@ most-exceeded-spec =
     add-tick
     cast-here
     mul-here
-    shared-slice-read-here
+    element-copy-out-here
     with-due-requires
     loop-less
     loop-again

@@ -8,11 +8,11 @@ use Rattle.lagrangian.proofs.relaxation.lagrangian_of.Statement.{statem
 use Rattle.lagrangian.proofs.relaxation.lagrangian_of.Tie as tie
 
 abbrev Inv-loop : tie.InvT-loop
-Inv-loop timed fixed ticks weights timings cost known prices least₀ i₀ least i =
+Inv-loop timed fixed ticks timings cost known prices least₀ i₀ least i =
     (i ≤ timed .items) × LeastOfEach (timed .levels) timings cost (known .prices) i least
 
 abbrev μ-loop : tie.MeasureT-loop
-μ-loop timed fixed ticks weights timings cost known prices least₀ i₀ least i = timed .items - i
+μ-loop timed fixed ticks timings cost known prices least₀ i₀ least i = timed .items - i
 
 prices-of-requires : tie.Need-prices-of-requires Inv-loop μ-loop
 prices-of-requires c κs = search needs
