@@ -8,7 +8,7 @@ use simplex::Dictionary;
 use simplex::MOST_COLUMNS;
 use simplex::MOST_ENTRIES;
 use simplex::MOST_ROWS;
-use simplex::row_of;
+use simplex::row_times;
 use simplex::take_off;
 use simplex::with_row;
 use values::MOST_ITEMS;
@@ -109,8 +109,8 @@ fn take_off_basic(
     while other < dictionary.rows {
         let variable = dictionary.basic[other];
         let share = share_of_variable(timed, variable, tick, jobs, timings);
-        let others = row_of(columns, other, entries);
-        take_off(columns, row, share, &others, entries);
+        let others = row_times(columns, other, share, entries);
+        take_off(columns, row, 1.0, &others, entries);
         other += 1;
     }
 }

@@ -7,7 +7,7 @@ mod pivots;
 use choosing::entering_column;
 use choosing::leaving_row;
 use pivots::pivot;
-pub use pivots::row_of;
+pub use pivots::row_times;
 pub use pivots::take_off;
 ghost use Prim.Native.Nat.{_<_};
 ghost use Rattle.simplex.specs.Dictionaries.{mostRows, mostColumns, Sized};

@@ -2,20 +2,28 @@
 use crate::Dictionary;
 use crate::MOST_COLUMNS;
 use crate::MOST_ENTRIES;
+ghost use mathlib.Core.Path.{_≡_};
 ghost use Prim.Native.Nat.{_≤_, _<_};
+ghost use lib.ListN.{length};
 ghost use Rattle.simplex.specs.Dictionaries.{mostRows, mostColumns, Sized};
 
-// The entries of a row.
-pub fn row_of(columns: usize, row: usize, entries: &[f64; MOST_ENTRIES]) -> [f64; MOST_COLUMNS]
+// The entries of a row, times a factor.
+pub fn row_times(
+    columns: usize,
+    row: usize,
+    factor: f64,
+    entries: &[f64; MOST_ENTRIES],
+) -> [f64; MOST_COLUMNS]
     requires { ⌜ (columns ≤ mostColumns) × (row < mostRows) ⌝ }
+    ensures { λ r. ⌜ length r ≡ mostColumns ⌝ }
 {
-    let mut copied = [0.0; MOST_COLUMNS];
+    let mut multiplied = [0.0; MOST_COLUMNS];
     let mut column = 0;
     while column < columns {
-        copied[column] = entries[row * MOST_COLUMNS + column];
+        multiplied[column] = entries[row * MOST_COLUMNS + column] * factor;
         column += 1;
     }
-    copied
+    multiplied
 }
 
 // Takes other entries, times a factor, off those of a row.
@@ -46,12 +54,7 @@ fn solved_row(
     requires { ⌜ (columns ≤ mostColumns) × (row < mostRows) × (entered < mostColumns) ⌝ }
 {
     let over = 1.0 / entries[row * MOST_COLUMNS + entered];
-    let mut solved = [0.0; MOST_COLUMNS];
-    let mut column = 0;
-    while column < columns {
-        solved[column] = entries[row * MOST_COLUMNS + column] * over;
-        column += 1;
-    }
+    let mut solved = row_times(columns, row, over, entries);
     solved[entered] = over;
     solved
 }

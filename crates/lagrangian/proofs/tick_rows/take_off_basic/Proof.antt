@@ -21,8 +21,8 @@ element-copy-out-variable c = search needs
 share-of-variable-requires : tie.Need-share-of-variable-requires Inv-loop μ-loop
 share-of-variable-requires c κs = search needs
 
-row-of-requires : tie.Need-row-of-requires Inv-loop μ-loop
-row-of-requires c κs = search needs
+row-times-requires : tie.Need-row-times-requires Inv-loop μ-loop
+row-times-requires c κs = search needs
 
 take-off-requires : tie.Need-take-off-requires Inv-loop μ-loop
 take-off-requires c κs = search needs
@@ -49,7 +49,7 @@ take-off-basic-spec =
     mul-variable
     element-copy-out-variable
     share-of-variable-requires
-    row-of-requires
+    row-times-requires
     take-off-requires
     add-other
     loop-less
