@@ -59,7 +59,7 @@ fn bound_comes_first(
 }
 
 // Whether something that goes on from the node can come before the best so far: not where a bound of it does not, and not where the
-// node is overdue, which is tested once for all levels of the next item.
+// node is overdue. That is tested once for all levels of the next item: from one level to the next only the best so far may change.
 pub(crate) fn is_promising(
     bounded: Bounded,
     node: Node,
@@ -77,14 +77,14 @@ pub(crate) fn is_promising(
         DemandRows (bounded .timed) timings mostTicks (now (rows .entry)) → Stands (bounded .timed) timings cost node q T → r ≡ false →
         NothingBefore (bounded .timed) timings cost node q T best) ⌝ }
 {
+    if 0 < node.level {
+        return true;
+    }
     if !bound_comes_first(bounded.timed, node, best, lowcosts, lowkeys) {
         return false;
     }
     if !relaxed_is_cheaper(bounded, node, best) {
         return false;
-    }
-    if 0 < node.level {
-        return true;
     }
     !is_overdue(bounded.timed, node, rows)
 }
