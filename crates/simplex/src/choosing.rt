@@ -4,8 +4,8 @@ use crate::MOST_ENTRIES;
 ghost use Prim.Native.Nat.{_≤_, _<_};
 ghost use Rattle.simplex.specs.Dictionaries.{mostRows, mostColumns};
 
-// A variable counts as below 0 from here on, and an entry of its row.
-const TOLERANCE: f64 = 0.0000001;
+// What is nearer to 0 counts as 0, for variables and for entries.
+const LEAST_VALUE: f64 = 0.0000001;
 
 const LEAST_ENTRY: f64 = 0.000000001;
 
@@ -33,7 +33,7 @@ pub(crate) fn leaving_row(rows: usize, entries: &[f64; MOST_ENTRIES]) -> usize
 {
     let mut best = Chosen {
         at: 0,
-        value: 0.0 - TOLERANCE,
+        value: 0.0 - LEAST_VALUE,
     };
     let mut row = 1;
     while row < rows {
@@ -43,8 +43,9 @@ pub(crate) fn leaving_row(rows: usize, entries: &[f64; MOST_ENTRIES]) -> usize
     best.at
 }
 
-// The column whose cost stays above 0 with the others if it enters, by its entry in the row that is left.
-fn sooner_column(best: Chosen, column: usize, entry: f64, cost: f64) -> Chosen
+// The column with the lower ratio of its cost to its entry in the row that is left: where another enters, the cost of this one falls below
+// 0. Only columns with an entry below 0 raise the row's variable.
+fn lower_ratio(best: Chosen, column: usize, entry: f64, cost: f64) -> Chosen
     requires { ⌜ (best .at < mostColumns) × (column < mostColumns) ⌝ }
     ensures { λ r. ⌜ r .at < mostColumns ⌝ }
 {
@@ -75,7 +76,7 @@ pub(crate) fn entering_column(columns: usize, row: usize, entries: &[f64; MOST_E
     let mut best = Chosen { at: 0, value: 0.0 };
     let mut column = 1;
     while column < columns {
-        best = sooner_column(
+        best = lower_ratio(
             best,
             column,
             entries[row * MOST_COLUMNS + column],

@@ -55,7 +55,7 @@ pub fn with_column(dictionary: Dictionary, variable: usize) -> Dictionary
     after
 }
 
-// Pivots are few; more come only of rounding.
+// Some twenty pivots are enough; more come of rounding, or of variables that take turns.
 const MOST_PIVOTS: usize = 60;
 
 // Pivots until no basic variable is below 0. Where no cost was below 0 before, none is then, and the sum of costs is least.
@@ -63,19 +63,19 @@ pub fn restored(dictionary: Dictionary, entries: &mut [f64; MOST_ENTRIES]) -> Di
     requires { ⌜ Sized dictionary ⌝ }
     ensures { λ r. ⌜ Sized r ⌝ }
 {
-    let mut now = dictionary;
+    let mut after = dictionary;
     let mut pivots = 0;
     while pivots < MOST_PIVOTS {
-        let row = leaving_row(now.rows, entries);
+        let row = leaving_row(after.rows, entries);
         if row == 0 {
-            return now;
+            return after;
         }
-        let column = entering_column(now.columns, row, entries);
+        let column = entering_column(after.columns, row, entries);
         if column == 0 {
-            return now;
+            return after;
         }
-        now = pivot(now, row, column, entries);
+        after = pivot(after, row, column, entries);
         pivots += 1;
     }
-    now
+    after
 }

@@ -5,10 +5,10 @@ use Rattle.simplex.proofs.restored.Statement.{statement}
 use Rattle.simplex.proofs.restored.Tie as tie
 
 abbrev Inv-loop : tie.InvT-loop
-Inv-loop entries₀ now₀ pivots₀ entries now pivots = Sized now
+Inv-loop entries₀ after₀ pivots₀ entries after pivots = Sized after
 
 abbrev μ-loop : tie.MeasureT-loop
-μ-loop entries₀ now₀ pivots₀ entries now pivots = 60 - pivots
+μ-loop entries₀ after₀ pivots₀ entries after pivots = 60 - pivots
 
 loop-holds : tie.Need-loop-holds Inv-loop μ-loop
 loop-holds c = search needs

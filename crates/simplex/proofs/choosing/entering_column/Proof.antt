@@ -13,26 +13,26 @@ abbrev μ-loop : tie.MeasureT-loop
 loop-holds : tie.Need-loop-holds Inv-loop μ-loop
 loop-holds c = search needs
 
-mul-sooner-column : tie.Need-mul-sooner-column Inv-loop μ-loop
-mul-sooner-column c = search needs
+mul-lower-ratio : tie.Need-mul-lower-ratio Inv-loop μ-loop
+mul-lower-ratio c = search needs
 
-add-sooner-column : tie.Need-add-sooner-column Inv-loop μ-loop
-add-sooner-column c = search needs
+add-lower-ratio : tie.Need-add-lower-ratio Inv-loop μ-loop
+add-lower-ratio c = search needs
 
-mul-sooner-column-2 : tie.Need-mul-sooner-column-2 Inv-loop μ-loop
-mul-sooner-column-2 c = search needs
+mul-lower-ratio-2 : tie.Need-mul-lower-ratio-2 Inv-loop μ-loop
+mul-lower-ratio-2 c = search needs
 
-element-copy-out-sooner-column : tie.Need-element-copy-out-sooner-column Inv-loop μ-loop
-element-copy-out-sooner-column c = search needs
+element-copy-out-lower-ratio : tie.Need-element-copy-out-lower-ratio Inv-loop μ-loop
+element-copy-out-lower-ratio c = search needs
 
-mul-sooner-column-3 : tie.Need-mul-sooner-column-3 Inv-loop μ-loop
-mul-sooner-column-3 c = search needs
+mul-lower-ratio-3 : tie.Need-mul-lower-ratio-3 Inv-loop μ-loop
+mul-lower-ratio-3 c = search needs
 
-element-copy-out-sooner-column-2 : tie.Need-element-copy-out-sooner-column-2 Inv-loop μ-loop
-element-copy-out-sooner-column-2 c = search needs
+element-copy-out-lower-ratio-2 : tie.Need-element-copy-out-lower-ratio-2 Inv-loop μ-loop
+element-copy-out-lower-ratio-2 c = search needs
 
-sooner-column-requires : tie.Need-sooner-column-requires Inv-loop μ-loop
-sooner-column-requires c κs = search needs
+lower-ratio-requires : tie.Need-lower-ratio-requires Inv-loop μ-loop
+lower-ratio-requires c κs = search needs
 
 add-column : tie.Need-add-column Inv-loop μ-loop
 add-column c = search needs
@@ -53,13 +53,13 @@ entering-column-spec =
     Inv-loop
     μ-loop
     loop-holds
-    mul-sooner-column
-    add-sooner-column
-    mul-sooner-column-2
-    element-copy-out-sooner-column
-    mul-sooner-column-3
-    element-copy-out-sooner-column-2
-    sooner-column-requires
+    mul-lower-ratio
+    add-lower-ratio
+    mul-lower-ratio-2
+    element-copy-out-lower-ratio
+    mul-lower-ratio-3
+    element-copy-out-lower-ratio-2
+    lower-ratio-requires
     add-column
     loop-less
     loop-again
