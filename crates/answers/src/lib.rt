@@ -12,7 +12,7 @@ use refusals::{Refusal, Verdict, refusal_number, refusal_place};
 
 // Reading: the refusal's number and place, both 0 where the text is an instance; and how large that is, all 0 where it is none.
 #[repr(C)]
-#[derive(Drop)]
+#[derive(Clone, Copy)]
 pub struct Site {
     pub refusal: u64,
     pub place: u64,
@@ -24,7 +24,7 @@ pub struct Site {
 
 // Planning: the refusal's number and place, both 0 where there is a plan; and what the plan comes to, all 0 where there is none.
 #[repr(C)]
-#[derive(Drop)]
+#[derive(Clone, Copy)]
 pub struct Planned {
     pub refusal: u64,
     pub place: u64,
@@ -35,7 +35,7 @@ pub struct Planned {
 
 // Checking: the refusal's number and place, both 0 where the table passes.
 #[repr(C)]
-#[derive(Drop)]
+#[derive(Clone, Copy)]
 pub struct Checked {
     pub refusal: u64,
     pub place: u64,
@@ -43,7 +43,7 @@ pub struct Checked {
 
 // Listing: the refusal's number and place, both 0 where there is a listing; and how many bytes it has, 0 where there is none.
 #[repr(C)]
-#[derive(Drop)]
+#[derive(Clone, Copy)]
 pub struct Listed {
     pub refusal: u64,
     pub place: u64,
@@ -52,7 +52,7 @@ pub struct Listed {
 
 // Dispatching: the refusal's number and place, both 0 where the call is accepted; and the task to run, 0 for none.
 #[repr(C)]
-#[derive(Drop)]
+#[derive(Clone, Copy)]
 pub struct TaskToRun {
     pub refusal: u64,
     pub place: u64,
@@ -62,7 +62,7 @@ pub struct TaskToRun {
 // Asking a calendar: the refusal's number and place, both 0 where it is answered; and the plan that holds, 0 for none, with the days
 // to the next entry, 0 where none follows; both 0 where it is refused.
 #[repr(C)]
-#[derive(Drop)]
+#[derive(Clone, Copy)]
 pub struct Ruled {
     pub refusal: u64,
     pub place: u64,

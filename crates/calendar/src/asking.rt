@@ -12,7 +12,7 @@ use formats::{cursor_at_start, end_next};
 use refusals::{Refusal, Verdict};
 
 // Whether there is such a question, and then its day.
-#[derive(Drop)]
+#[derive(Clone, Copy)]
 struct Asked {
     exists: bool,
     day: u32,

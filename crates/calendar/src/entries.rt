@@ -10,27 +10,27 @@ use crate::{Date, Entry, PlanDays};
 use formats::{Cursor, refuse_unless, word_next};
 use refusals::Refusal;
 
-#[derive(Drop)]
+#[derive(Clone, Copy)]
 struct DateGot {
     date: Date,
     cursor: Cursor,
 }
 
-#[derive(Drop)]
+#[derive(Clone, Copy)]
 struct HoursGot {
     entry: Entry,
     cursor: Cursor,
 }
 
 // An entry and its day.
-#[derive(Drop)]
+#[derive(Clone, Copy)]
 struct EntryGot {
     entry: Entry,
     number: u32,
     cursor: Cursor,
 }
 
-#[derive(Drop)]
+#[derive(Clone, Copy)]
 pub(crate) struct EntriesGot {
     pub(crate) ruled: PlanDays,
     pub(crate) cursor: Cursor,

@@ -8,7 +8,7 @@ mod hours;
 pub use asking::plan_at;
 use refusals::Refusal;
 
-#[derive(Drop)]
+#[derive(Clone, Copy)]
 pub struct Date {
     pub year: u32,
     pub month: u32,
@@ -16,7 +16,7 @@ pub struct Date {
 }
 
 // From its date on, a plan that holds on each day from the opening minute up to, but without, the closing one.
-#[derive(Drop)]
+#[derive(Clone, Copy)]
 pub struct Entry {
     pub date: Date,
     pub opening: u32,
@@ -25,13 +25,13 @@ pub struct Entry {
 }
 
 // The plan that holds, 0 for none, and the days to the next entry, 0 where none follows.
-#[derive(Drop)]
+#[derive(Clone, Copy)]
 pub struct PlanDays {
     pub plan: u32,
     pub days: u32,
 }
 
-#[derive(Drop)]
+#[derive(Clone, Copy)]
 pub enum PlanAt {
     Plan(PlanDays),
     Refused(Refusal),

@@ -10,7 +10,7 @@ use values::Worth;
 pub const WIDTH: usize = 3;
 
 // The points of one list.
-#[derive(Drop)]
+#[derive(Clone, Copy)]
 pub(crate) struct Part {
     pub(crate) from: usize,
     pub(crate) to: usize,

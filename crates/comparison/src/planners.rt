@@ -7,7 +7,7 @@ use prices::Priced;
 use refusals::Refusal;
 
 // How many elements of each buffer are lent.
-#[derive(Drop)]
+#[derive(Clone, Copy)]
 pub(crate) struct Rooms {
     pub(crate) plan: usize,
     pub(crate) table: usize,

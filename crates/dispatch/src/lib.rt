@@ -1,5 +1,7 @@
 // Earliest deadline first on one core, and the row of slots that it gives. What the core runs stands in columns: for each of
 // its tasks a number, a period, a window and the ticks of a job; and what each still has to run.
+#![tactic(auto)]
+
 ghost use Rattle.std.specs.Prelude.{cond, ◌≡◌, ℕ, ◌+◌, ◌-◌, ◌*◌, ◌/◌, ◌%◌, ◌≤◌, ◌<◌, eqb, length, get_or};
 ghost use Rattle.ranges.specs.Limits.{most_period, most_span, most_word};
 ghost use Rattle.dispatch.specs.Columns.{ColumnsOk, DuesOk, PeriodsOk, column_row, due_in};
@@ -152,7 +154,7 @@ fn run_for(task: usize, ticks: u32, left: &mut [u32])
 }
 
 // The task that runs, counted from 1, or 0 for none; and the tick up to which it runs.
-#[derive(Drop)]
+#[derive(Clone, Copy)]
 struct Run {
     task: usize,
     end: u32,

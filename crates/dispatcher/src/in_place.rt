@@ -6,7 +6,7 @@ use crate::dispatching::dispatch;
 use refusals::Verdict;
 
 // What a call answers where the next state takes the place of the one lent: the task to run, 0 for none.
-#[derive(Drop)]
+#[derive(Clone, Copy)]
 pub struct TickAnswer {
     pub verdict: Verdict,
     pub task: u32,

@@ -14,7 +14,7 @@ pub use ticks::dispatch_prepared;
 // Where a core's dispatching stands: the next tick; for each task, by its number, the ticks that its job has left; and the task that
 // ran last, 0 for none.
 #[repr(C)]
-#[derive(Drop)]
+#[derive(Clone, Copy)]
 pub struct DispatchState {
     pub tick: u32,
     pub left: [u32; ranges::MOST_TASKS as usize],
@@ -22,7 +22,7 @@ pub struct DispatchState {
 }
 
 // What a call answers: the task to run, 0 for none, and the next state; where it is refused, no task and the state as handed in.
-#[derive(Drop)]
+#[derive(Clone, Copy)]
 pub struct Dispatched {
     pub verdict: Verdict,
     pub task: u32,

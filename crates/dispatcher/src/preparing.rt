@@ -11,7 +11,7 @@ use refusals::{Refusal, Verdict};
 
 // The columns of the core's kept tasks, of which the first `count` places are filled, and the span.
 #[repr(C)]
-#[derive(Drop)]
+#[derive(Clone, Copy)]
 pub struct PreparedCore {
     pub span: u32,
     pub count: usize,
@@ -22,7 +22,7 @@ pub struct PreparedCore {
 }
 
 // The core, without a task and with span 0 where it is refused.
-#[derive(Drop)]
+#[derive(Clone, Copy)]
 pub struct Prepared {
     pub verdict: Verdict,
     pub core: PreparedCore,

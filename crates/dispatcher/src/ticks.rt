@@ -17,7 +17,7 @@ use refusals::{Refusal, Verdict};
 use tick_steps::{Best, due_at, earlier, is_over, is_released, next_tick, ready_ticks};
 
 // The ticks left once an early end is applied and the jobs of a tick are released, and the column of the task that then runs, counted from 1, or 0 for none.
-#[derive(Drop)]
+#[derive(Clone, Copy)]
 struct Chosen {
     left: [u32; MOST_TASKS as usize],
     column: usize,

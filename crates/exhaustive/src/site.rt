@@ -4,7 +4,7 @@ use refusals::Verdict;
 
 // The number and place of the refusal of its words, 0 where they are accepted; and its sizes, which are 0 where they are
 // refused: tasks, levels, ticks of the span, slots of a table, and the largest choice of a plan.
-#[derive(Drop)]
+#[derive(Clone, Copy)]
 pub struct Site {
     pub refusal: u64,
     pub place: u64,

@@ -4,7 +4,7 @@ use prices::Price;
 // The answer as five numbers: the refusal's number and place, energy, penalty and cost; and how many plans were tried, how
 // many of them were priced, which is not refused, how many of these cost as little as the best, of how many pricing finds another
 // core that does not fit than is found tick by tick, and whether all were tried.
-#[derive(Drop)]
+#[derive(Clone, Copy)]
 pub struct Tried {
     pub answer: [u64; 5],
     pub tried: u64,

@@ -6,7 +6,7 @@ use refusals::Verdict;
 pub use word::{cursor_at_start, end_next, list_ends, refuse_unless, word_next};
 
 // Where the next word stands; what it says beside a refusal has no meaning.
-#[derive(Drop)]
+#[derive(Clone, Copy)]
 pub struct Cursor {
     pub verdict: Verdict,
     pub at: usize,
@@ -14,7 +14,7 @@ pub struct Cursor {
 
 // A word and the cursor after it. Beside a refusal the word is the largest that was asked for, so that what is reckoned of it
 // stays in range.
-#[derive(Drop)]
+#[derive(Clone, Copy)]
 pub struct Got {
     pub value: u32,
     pub cursor: Cursor,

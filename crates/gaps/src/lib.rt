@@ -3,7 +3,7 @@
 
 // What a gap costs: idle power for each of its ticks where the core stays awake; the switching energy where it sleeps, which takes
 // at least the switching time.
-#[derive(Drop)]
+#[derive(Clone, Copy)]
 pub struct SleepCosts {
     pub idle: u64,
     pub energy: u64,
@@ -11,7 +11,7 @@ pub struct SleepCosts {
 }
 
 // What gaps come to: the energy drawn in them, and how many of them are slept through.
-#[derive(Drop)]
+#[derive(Clone, Copy)]
 pub struct Slept {
     pub energy: u64,
     pub sleeps: u32,

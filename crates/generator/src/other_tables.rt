@@ -9,7 +9,7 @@ const FROM_THE_END: u32 = 24;
 
 // The task that comes first, the slot of a window that each job tries first, and whether the windows go on after the due ticks, up
 // to the next release: then the check may have to refuse the table.
-#[derive(Drop)]
+#[derive(Clone, Copy)]
 struct Order {
     turn: u32,
     first: u32,
@@ -17,7 +17,7 @@ struct Order {
 }
 
 // A kept task: its number, its row's first slot, and the slot of a window that it tries first.
-#[derive(Drop)]
+#[derive(Clone, Copy)]
 struct Kept {
     number: Slot,
     row: u32,

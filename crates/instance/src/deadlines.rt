@@ -9,14 +9,14 @@ use crate::Task;
 use formats::{Cursor, Got, list_ends, refuse_unless, word_next};
 use refusals::Refusal;
 
-#[derive(Drop)]
+#[derive(Clone, Copy)]
 struct DeadlineGot {
     task: Task,
     cursor: Cursor,
 }
 
 // The tasks with their deadlines; the places behind them are all zero.
-#[derive(Drop)]
+#[derive(Clone, Copy)]
 pub(crate) struct DeadlinesGot {
     pub(crate) tasks: [Task; ranges::MOST_TASKS as usize],
     pub(crate) cursor: Cursor,

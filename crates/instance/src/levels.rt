@@ -4,14 +4,14 @@ ghost use Rattle.instance.specs.Sections.{LevelWithinLimits, GetsLevel, GetsLeve
 use crate::Level;
 use formats::{Cursor, word_next};
 
-#[derive(Drop)]
+#[derive(Clone, Copy)]
 struct LevelGot {
     level: Level,
     cursor: Cursor,
 }
 
 // `count` levels stand at the front of the array, and the others are all zero.
-#[derive(Drop)]
+#[derive(Clone, Copy)]
 pub(crate) struct LevelsGot {
     pub(crate) count: usize,
     pub(crate) levels: [Level; ranges::MOST_LEVELS as usize],

@@ -9,7 +9,7 @@ use refusals::Verdict;
 pub use site::read_instance;
 
 // A clock level: cycles run in a tick, and power drawn in a busy tick.
-#[derive(Drop)]
+#[derive(Clone, Copy)]
 pub struct Level {
     pub speed: u32,
     pub power: u32,
@@ -17,7 +17,7 @@ pub struct Level {
 
 // A task: its period in ticks, the cycles of a job, the penalty for each job not run, and the ticks from a job's release to its
 // due tick.
-#[derive(Drop)]
+#[derive(Clone, Copy)]
 pub struct Task {
     pub period: u32,
     pub cycles: u32,
@@ -25,7 +25,7 @@ pub struct Task {
     pub deadline: u32,
 }
 
-#[derive(Drop)]
+#[derive(Clone, Copy)]
 pub struct Weights {
     pub energy: u32,
     pub penalty: u32,
@@ -33,7 +33,7 @@ pub struct Weights {
 
 // An accepted instance; `idle` is the power that an awake core draws in an idle tick, `start` the ticks in which each job begins by
 // setting the clock. Only the first `levelcount` levels and `taskcount` tasks are its own; the others are all zero.
-#[derive(Drop)]
+#[derive(Clone, Copy)]
 pub struct Instance {
     pub weights: Weights,
     pub cores: u32,
@@ -47,7 +47,7 @@ pub struct Instance {
 }
 
 // The instance that a list of words is; all zero where the list is refused.
-#[derive(Drop)]
+#[derive(Clone, Copy)]
 pub struct InstanceRead {
     pub verdict: Verdict,
     pub instance: Instance,

@@ -13,7 +13,7 @@ use crate::{Instance, InstanceRead, Level, Task, Weights};
 use formats::{Cursor, Got, cursor_at_start, end_next, word_next};
 use refusals::{Refusal, Verdict};
 
-#[derive(Drop)]
+#[derive(Clone, Copy)]
 struct SettingsGot {
     weights: Weights,
     cores: u32,

@@ -11,7 +11,7 @@ use formats::{Cursor, Got, refuse_unless, word_next};
 use refusals::Refusal;
 
 // A task, and the span with it.
-#[derive(Drop)]
+#[derive(Clone, Copy)]
 struct TaskGot {
     task: Task,
     span: u32,
@@ -19,7 +19,7 @@ struct TaskGot {
 }
 
 // `count` tasks stand at the front of the array, and the others are all zero.
-#[derive(Drop)]
+#[derive(Clone, Copy)]
 pub(crate) struct TasksGot {
     pub(crate) count: usize,
     pub(crate) tasks: [Task; ranges::MOST_TASKS as usize],

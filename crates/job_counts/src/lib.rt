@@ -5,7 +5,7 @@ ghost use Rattle.job_counts.specs.JobCounts.{count_job, kind_number, CountEnds};
 use ranges::Slot;
 
 // Whether a job has fewer slots than it must have, as many, or one too many.
-#[derive(Drop)]
+#[derive(Clone, Copy)]
 pub enum CountKind {
     Short,
     Right,
@@ -13,7 +13,7 @@ pub enum CountKind {
 }
 
 // What the count of a job answers, and how many slots it read.
-#[derive(Drop)]
+#[derive(Clone, Copy)]
 pub struct Counted {
     pub kind: CountKind,
     pub read: usize,

@@ -8,14 +8,14 @@ ghost use Rattle.assignment.specs.Words.{no_cost};
 use values::STRIDE;
 
 // A core's levels, and the most load that it takes.
-#[derive(Drop)]
+#[derive(Clone, Copy)]
 pub struct Core {
     pub levels: usize,
     pub capacity: usize,
 }
 
 // An item on a core, in front of `places` others, and its weight in a key.
-#[derive(Drop)]
+#[derive(Clone, Copy)]
 pub struct Front {
     pub core: Core,
     pub item: usize,
@@ -24,7 +24,7 @@ pub struct Front {
 }
 
 // An item at a level: its load and cost there, and what it adds to a key.
-#[derive(Drop)]
+#[derive(Clone, Copy)]
 pub struct Choice {
     pub load: usize,
     pub cost: u64,

@@ -30,7 +30,7 @@ const MANY_OFFERS: usize = LISTS + 18432 * WIDTH;
 // Sets that agree on their last `places` items, the part of their number that these make up being `index`, on a core. The other
 // items are `ahead`, the first of them, `listed` in number, with lists of their choices; `bit` and `digit` are the weights
 // of the last item ahead in a set's number and in a key.
-#[derive(Drop)]
+#[derive(Clone, Copy)]
 pub(crate) struct Branch {
     pub(crate) core: Core,
     pub(crate) listed: usize,

@@ -11,7 +11,7 @@ use values::{ENTRIES, MOST_ITEMS};
 const MOST_SHARE: f64 = 1.000001;
 
 // What is due by the ticks so far, and the one that is exceeded most, or 0, with its share.
-#[derive(Drop)]
+#[derive(Clone, Copy)]
 struct MostExceeded {
     due: f64,
     tick: u32,

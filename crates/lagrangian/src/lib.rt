@@ -31,7 +31,7 @@ use values::{MOST_ITEMS, MOST_LEVELS};
 pub use windows::is_within_window;
 
 // How many items and levels there are, and how many ticks a span has.
-#[derive(Drop)]
+#[derive(Clone, Copy)]
 pub struct Timed {
     pub items: usize,
     pub levels: usize,
@@ -44,7 +44,7 @@ pub const TIMING_WIDTH: usize = MOST_LEVELS + 2;
 // Prices of a tick of a job of each item, such that the ticks of an admitted pattern come to no more than the budget; and what each
 // item costs at least, its ticks at their price included. `ticks` are those that were weighed, or 0: parts of patterns are tested at them, and
 // nothing is claimed of them. The prices were chosen for parts of which so many items are fixed.
-#[derive(Drop)]
+#[derive(Clone, Copy)]
 pub struct Lagrangian {
     pub prices: [u64; MOST_ITEMS],
     pub least: [u64; MOST_ITEMS],

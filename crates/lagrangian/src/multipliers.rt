@@ -9,7 +9,7 @@ use crate::prices::{Prices, free, with_tick};
 pub const MOST_TICKS: usize = 8;
 
 // The ticks that are weighed, and their weights.
-#[derive(Drop)]
+#[derive(Clone, Copy)]
 pub(crate) struct Multipliers {
     pub(crate) ticks: [u32; MOST_TICKS],
     pub(crate) weights: [u64; MOST_TICKS],

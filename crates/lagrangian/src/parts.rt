@@ -5,7 +5,7 @@ use values::MOST_ITEMS;
 
 // The first `fixed` items have these ticks to a job; those of the set `open`, which come after them, are still to have a level. A set of which
 // no item has its level is such a part.
-#[derive(Drop)]
+#[derive(Clone, Copy)]
 pub struct Part {
     pub fixed: usize,
     pub open: usize,

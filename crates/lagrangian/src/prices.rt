@@ -19,7 +19,7 @@ const MOST_PRICE: u64 = 0x1000_0000_0000;
 const MOST_BUDGET: u64 = 0x400_0000_0000_0000;
 
 // The price of a tick of a job of each item, and what the ticks of an admitted pattern come to at most.
-#[derive(Drop)]
+#[derive(Clone, Copy)]
 pub(crate) struct Prices {
     pub(crate) prices: [u64; MOST_ITEMS],
     pub(crate) budget: u64,

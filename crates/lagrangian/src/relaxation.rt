@@ -14,7 +14,7 @@ use values::{MOST_ITEMS, STRIDE};
 const MOST_PRICED: u64 = 0x200_0000_0000_0000;
 
 // A level of an item, the ticks of a job there, and what it costs with these at their price.
-#[derive(Drop)]
+#[derive(Clone, Copy)]
 pub(crate) struct PricedLevel {
     pub(crate) level: usize,
     pub(crate) ticks: u32,

@@ -10,7 +10,7 @@ ghost use Rattle.light.specs.Picks.{Cheaper, PickedBelow};
 use values::{NO_COST, STRIDE};
 
 // A choice of an item, with what it puts on core 0 and what it costs. A load above the capacity stands for none.
-#[derive(Drop)]
+#[derive(Clone, Copy)]
 pub(crate) struct Pick {
     pub(crate) choice: u64,
     pub(crate) load: u64,

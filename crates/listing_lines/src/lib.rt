@@ -10,7 +10,7 @@ pub use plans::put_plan;
 use refusals::Refusal;
 
 // What listing a plan answers: how many bytes were put, or why none were.
-#[derive(Drop)]
+#[derive(Clone, Copy)]
 pub enum PlanListed {
     Bytes(usize),
     Refused(Refusal),

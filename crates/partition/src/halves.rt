@@ -10,7 +10,7 @@ use crate::near::note_plans;
 use values::{MOST_SETS, Worth, sets_of};
 
 // The items, and by how much choices on the upper cores are larger.
-#[derive(Drop)]
+#[derive(Clone, Copy)]
 pub struct Halves {
     pub items: usize,
     pub shift: u64,

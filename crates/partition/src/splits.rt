@@ -8,7 +8,7 @@ use values::{NO_COST, lower};
 
 // The sets that add some of the last items to the set s, `size` in number. The parts of each add some of those items to the sets
 // t, of the one table, and r, of the other. The set s has the items of both: adding them up at each split would take longer.
-#[derive(Drop)]
+#[derive(Clone, Copy)]
 pub(crate) struct Split {
     pub(crate) size: usize,
     pub(crate) s: usize,

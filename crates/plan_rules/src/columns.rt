@@ -10,7 +10,7 @@ use instance::Instance;
 
 // The first `count` places of the columns are of a task each: its number, its period, the window and the ticks of a job, and
 // the power of its level.
-#[derive(Drop)]
+#[derive(Clone, Copy)]
 pub struct KeptTasks {
     pub count: usize,
     pub numbers: [Slot; ranges::MOST_TASKS as usize],

@@ -11,14 +11,14 @@ use plan_rules::{kept_tasks, of_all_jobs};
 use refusals::Refusal;
 
 // What a plan comes to over one span.
-#[derive(Drop)]
+#[derive(Clone, Copy)]
 pub struct Price {
     pub energy: u64,
     pub penalty: u64,
     pub cost: u64,
 }
 
-#[derive(Drop)]
+#[derive(Clone, Copy)]
 pub enum Priced {
     Cost(Price),
     Refused(Refusal),

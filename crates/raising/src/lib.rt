@@ -24,7 +24,7 @@ use start::fill_start;
 use values::{MOST_SETS, NO_COST};
 
 // How many items there are, and how many cores and levels for each; the span, and what the idle ticks of a whole span cost.
-#[derive(Drop)]
+#[derive(Clone, Copy)]
 pub struct Site {
     pub items: usize,
     pub cores: usize,

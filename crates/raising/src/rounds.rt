@@ -20,7 +20,7 @@ use values::{MOST_SETS, NO_COST, Worth};
 const FIRST_NEAR_ROUND: usize = 2;
 
 // A plan that was found, by its key.
-#[derive(Drop)]
+#[derive(Clone, Copy)]
 pub(crate) struct Candidate {
     pub(crate) site: Site,
     pub(crate) key: u64,

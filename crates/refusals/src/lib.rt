@@ -4,7 +4,7 @@ ghost use Rattle.refusals.specs.Refusals.{number_of, place_of};
 
 // Why an input is turned down, a case for each row of document 01's table of refusals and each number of document 02, with its
 // place.
-#[derive(Drop)]
+#[derive(Clone, Copy)]
 pub enum Refusal {
     Text(usize),
     WordCount(usize),
@@ -23,7 +23,7 @@ pub enum Refusal {
     NoSuchQuestion,
 }
 
-#[derive(Drop)]
+#[derive(Clone, Copy)]
 pub enum Verdict {
     Accepted,
     Refused(Refusal),

@@ -12,14 +12,14 @@ pub use plan::write_plan;
 use values::NO_COST;
 
 // How many items there are, and how many cores and levels for each.
-#[derive(Drop)]
+#[derive(Clone, Copy)]
 pub struct Shape {
     pub items: usize,
     pub cores: usize,
     pub levels: usize,
 }
 
-#[derive(Drop)]
+#[derive(Clone, Copy)]
 pub enum Found {
     // The cost of the best plan.
     Cheapest(u64),

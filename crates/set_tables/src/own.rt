@@ -11,7 +11,7 @@ use lagrangian::{TIMING_WIDTH, Timed, is_within_window};
 use values::{MOST_ITEMS, STRIDE, keys_of};
 
 // Of each item at its own level: the ticks of a job, the cost, and its choice as a digit of a key.
-#[derive(Drop)]
+#[derive(Clone, Copy)]
 pub(crate) struct OwnColumns {
     pub(crate) ticks: [u32; MOST_ITEMS],
     pub(crate) costs: [u64; MOST_ITEMS],

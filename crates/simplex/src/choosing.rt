@@ -10,7 +10,7 @@ const LEAST_VALUE: f64 = 0.0000001;
 const LEAST_ENTRY: f64 = 0.000000001;
 
 // A row or a column, and what it was chosen by; 0 where there is none.
-#[derive(Drop)]
+#[derive(Clone, Copy)]
 struct Chosen {
     at: usize,
     value: f64,

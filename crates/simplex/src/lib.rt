@@ -21,7 +21,7 @@ pub const MOST_ENTRIES: usize = MOST_ROWS * MOST_COLUMNS;
 // Which variables are basic, one for each row but the first, and which are not, one for each column but the first. A basic variable is the
 // first entry of its row less the others, each times the variable of its column. The first row has in place of that what the sum of costs
 // rises by with each column's variable; its first entry is the sum's negative where these are all 0.
-#[derive(Drop)]
+#[derive(Clone, Copy)]
 pub struct Dictionary {
     pub rows: usize,
     pub columns: usize,

@@ -10,7 +10,7 @@ use ranges::Slot;
 
 // How far along a row: whether a busy slot was met, how many idle slots came before the first one, how many have come since the
 // last, and what the gaps between busy slots come to.
-#[derive(Drop)]
+#[derive(Clone, Copy)]
 struct Walk {
     met: bool,
     leading: u64,

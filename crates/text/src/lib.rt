@@ -6,7 +6,7 @@ use refusals::Refusal;
 pub use words::words_of_text;
 
 // How many words a text holds.
-#[derive(Drop)]
+#[derive(Clone, Copy)]
 pub enum TextRead {
     Words(usize),
     Refused(Refusal),

@@ -19,7 +19,7 @@ const MOST_WORD: u64 = 4_294_967_295;
 
 // What stands in a text after a position: a number and the position after its last digit, the text's end, or the offset
 // of a fault.
-#[derive(Drop)]
+#[derive(Clone, Copy)]
 pub(crate) enum Token {
     Number(u32, usize),
     End,

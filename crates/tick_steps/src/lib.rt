@@ -5,7 +5,7 @@ ghost use Rattle.ranges.specs.Limits.{most_tasks};
 ghost use Rattle.tick_steps.specs.Choosing.{Earlier};
 
 // The column of a task, counted from 1, or 0 for none, and the tick at which it is due.
-#[derive(Drop)]
+#[derive(Clone, Copy)]
 pub struct Best {
     pub column: usize,
     pub due: u64,

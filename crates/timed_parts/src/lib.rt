@@ -16,7 +16,7 @@ use values::MOST_ITEMS;
 
 // A part of a pattern: the items before `item` have their level, those of the set `rest` are still to have one, `item` from
 // `level` on. What the part costs, its key, and the ticks of a job of each item.
-#[derive(Drop)]
+#[derive(Clone, Copy)]
 pub struct Node {
     pub item: usize,
     pub level: usize,
@@ -27,7 +27,7 @@ pub struct Node {
 }
 
 // What leaves parts out of a search beside the table of lower values.
-#[derive(Drop)]
+#[derive(Clone, Copy)]
 pub struct Bounded {
     pub timed: Timed,
     pub relaxed: Lagrangian,

@@ -46,7 +46,7 @@ fn dispatch_text(
 }
 
 // What the call answers, in numbers, and the next state.
-#[derive(Drop)]
+#[derive(Clone, Copy)]
 struct TextDispatched {
     answer: TaskToRun,
     state: DispatchState,

@@ -12,7 +12,7 @@ use text::{TextRead, words_of_text};
 
 // A prepared core, and where its dispatching stands.
 #[repr(C)]
-#[derive(Drop)]
+#[derive(Clone, Copy)]
 pub struct PreparedNode {
     pub core: PreparedCore,
     pub state: DispatchState,
@@ -55,7 +55,7 @@ fn node_after(verdict: Verdict, core: PreparedCore, before: PreparedNode) -> Pre
 }
 
 // What preparing answers, in numbers, and the node after it.
-#[derive(Drop)]
+#[derive(Clone, Copy)]
 struct NodePrepared {
     answer: Checked,
     node: PreparedNode,
@@ -89,7 +89,7 @@ pub extern "C" fn towhepamu_prepare(
 }
 
 // What a tick answers, in numbers, and the node after it.
-#[derive(Drop)]
+#[derive(Clone, Copy)]
 struct NodeTicked {
     answer: TaskToRun,
     node: PreparedNode,

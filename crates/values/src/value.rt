@@ -8,7 +8,7 @@ ghost use Rattle.values.specs.Worths.{lesser_worth};
 pub const NO_COST: u64 = 0x4000_0000_0000_0000;
 
 // A cost and a key, as two numbers.
-#[derive(Drop)]
+#[derive(Clone, Copy)]
 pub struct Worth {
     pub cost: u64,
     pub key: u64,

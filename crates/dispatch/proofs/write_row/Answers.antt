@@ -1,0 +1,59 @@
+use mathlib.Core.Path.{refl, ap, ◌∙◌}
+use native.Mathlib.Omega.{arith}
+use borrow.Author.Rules.{rules}
+use Rattle.dispatch.specs.Columns.{column_row}
+use Rattle.dispatch.specs.RowLaws.{row_starts, row_goes_on, row_ends, ran_is_task}
+use Rattle.dispatch.proofs.write_row.Goals as goal
+
+pub loop-tick-init : goal.loop-tick-init
+loop-tick-init c =
+    let pre = c.requires in
+    (search rules, search rules, refl, refl, row_starts _ _ _ _ pre.columns_ok _ _ pre.by_index)
+
+pub release_due-soonest-requires : goal.release_due-soonest-requires
+release_due-soonest-requires c =
+    let pre = c.requires in
+    let ok = pre.columns_ok in
+    let inv = c.loop-tick.invariant in record { periods_ok = ok.dues_ok.periods_ok; ticks_len = ok.one_job_each; periods_in_bounds = omega (arith, pre.periods_in_bounds, inv.2); tick_lt_end = (c.loop-tick-test.true, inv.1); no_release = inv.4.no_release }
+
+pub run_earliest-run-requires : goal.run_earliest-run-requires
+run_earliest-run-requires c =
+    let pre = c.requires in
+    let released = c.release_due-soonest.ensures in record { dues_ok = pre.columns_ok.dues_ok; most_period_bound = omega (arith, pre.slots_len_bound, c.loop-tick-test.true); periods_in_bounds = omega (arith, released.released.same_length, pre.periods_in_bounds, c.loop-tick.invariant.2); tick_lt_soonest = released.next_release.later }
+
+pub slot_of-requires : goal.slot_of-requires
+slot_of-requires c =
+    let ok = c.requires.columns_ok in
+    omega (arith, ran_is_task c.run_earliest-run.ensures, ok.one_number_each)
+
+pub fill-requires : goal.fill-requires
+fill-requires c =
+    let until = c.run_earliest-run.ensures.until in
+    let next = c.release_due-soonest.ensures.next_release in
+    let at = c.loop-tick in
+    (omega (arith, until.later), omega (arith, until.within, next.within, at.invariant.3))
+
+pub loop-tick-smaller : goal.loop-tick-smaller
+loop-tick-smaller c =
+    let until = c.run_earliest-run.ensures.until in
+    omega (arith, until.later, c.loop-tick-test.true)
+
+pub loop-tick-preserved : goal.loop-tick-preserved
+loop-tick-preserved c =
+    let ok = c.requires.columns_ok in
+    let inv = c.loop-tick.invariant in
+    let released = c.release_due-soonest.ensures in
+    let ran = c.run_earliest-run.ensures in
+    let filled = c.fill.ensures in
+    let shows = rw c.slot_of.ensures at filled in (
+      omega (arith, ran.until.within, released.next_release.within),
+      released.next_release.within,
+      omega (arith, ran.ran.same_length, released.released.same_length, inv.2),
+      filled.same_length ∙ inv.3,
+      row_goes_on _ _ _ _ ok _ _ _ _ _ _ _ _ _ _ inv.4 released.released released.next_release ran shows,
+    )
+
+pub returns : goal.returns
+returns c =
+    let inv = c.loop-tick.invariant in
+    row_ends _ _ _ _ c.loop-tick.tick _ _ _ (omega (arith, inv.3)) inv.4 ∙ ap (column_row _ _ _ _) inv.3
