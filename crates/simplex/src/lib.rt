@@ -1,6 +1,8 @@
 // The dual simplex method for small linear programs: the least sum of costs of variables, none below 0, that some equations tie. A program
 // stands in a dictionary, in floating point. Nothing is claimed of what the method comes to, since sums are rounded: it is for callers
 // whom any numbers serve, and who ask for good ones.
+#![tactic(auto)]
+
 mod choosing;
 mod pivots;
 
