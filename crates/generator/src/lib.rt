@@ -1,4 +1,6 @@
 // What a fixed generator draws: instances, and tables for their plans; and the tally of what was drawn.
+#![tactic(auto)]
+
 mod buffers;
 mod deadlines;
 mod draw;
