@@ -31,8 +31,7 @@ fn check_slots_of_words(words: &[u32], plan: &[u8], table: &[u8]) -> Verdict
 }
 
 // Whether a table is as long as it must be for the instance that a text is, and its slots name tasks kept on their cores.
-#[unsafe(no_mangle)]
-pub extern "C" fn towhepamu_check_slots(text: &[u8], plan: &[u8], table: &[u8]) -> Checked
+pub fn towhepamu_check_slots(text: &[u8], plan: &[u8], table: &[u8]) -> Checked
     ensures { result ≡ checked_of (text_slot_check_outcome text.now plan.now table.now) }
 {
     let mut words = [0; MOST_TEXT_WORDS as usize];
@@ -43,8 +42,7 @@ pub extern "C" fn towhepamu_check_slots(text: &[u8], plan: &[u8], table: &[u8]) 
 }
 
 // Whether a table is one of the plan's for the instance that a text is.
-#[unsafe(no_mangle)]
-pub extern "C" fn towhepamu_check(text: &[u8], plan: &[u8], table: &[u8]) -> Checked
+pub fn towhepamu_check(text: &[u8], plan: &[u8], table: &[u8]) -> Checked
     ensures { result ≡ checked_of (text_check_outcome text.now plan.now table.now) }
 {
     let mut words = [0; MOST_TEXT_WORDS as usize];

@@ -71,8 +71,7 @@ fn dispatch_numbers(
 }
 
 // The task that runs on a core in the state's tick; the next state takes the place of the one lent.
-#[unsafe(no_mangle)]
-pub extern "C" fn towhepamu_dispatch(
+pub fn towhepamu_dispatch(
     text: &[u8],
     plan: &[u8],
     core: u32,

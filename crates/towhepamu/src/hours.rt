@@ -10,8 +10,7 @@ use ranges::MOST_TEXT_WORDS;
 use text::{TextRead, words_of_text};
 
 // The plan that holds, and the days to the calendar's next entry.
-#[unsafe(no_mangle)]
-pub extern "C" fn towhepamu_calendar(
+pub fn towhepamu_calendar(
     text: &[u8],
     year: u32,
     month: u32,

@@ -7,8 +7,7 @@ use answers::{Listed, listed_of};
 use listings::list_plan;
 
 // Writes what the listing program prints for a text that has a plan to the front of the lent buffer.
-#[unsafe(no_mangle)]
-pub extern "C" fn towhepamu_list(text: &[u8], out: &mut [u8]) -> Listed
+pub fn towhepamu_list(text: &[u8], out: &mut [u8]) -> Listed
     ensures value { result ≡ listed_of (list_outcome text.now out.old).answer }
     ensures out_after { out.new ≡ (list_outcome text.now out.old).out }
 {

@@ -74,8 +74,7 @@ fn prepare_numbers(text: &[u8], plan: &[u8], core: u32, before: PreparedNode) ->
 }
 
 // Prepares a core of a plan for the instance that a text is; the node takes the place of the one lent.
-#[unsafe(no_mangle)]
-pub extern "C" fn towhepamu_prepare(
+pub fn towhepamu_prepare(
     text: &[u8],
     plan: &[u8],
     core: u32,
@@ -110,8 +109,7 @@ fn tick_numbers(node: PreparedNode, ended: bool) -> NodeTicked
 }
 
 // The task that runs in the node's tick; the next state takes the place of the one there.
-#[unsafe(no_mangle)]
-pub extern "C" fn towhepamu_tick(node: &mut PreparedNode, ended: bool) -> TaskToRun
+pub fn towhepamu_tick(node: &mut PreparedNode, ended: bool) -> TaskToRun
     ensures { NodeTicks node.old ended result node.new }
 {
     let ticked = tick_numbers(*node, ended);

@@ -51,8 +51,7 @@ fn plan_words(words: &[u32], choices: &mut [u8], table: &mut [u8]) -> Priced
 }
 
 // Writes the plan of least cost and its table to the fronts of the lent buffers.
-#[unsafe(no_mangle)]
-pub extern "C" fn towhepamu_plan(text: &[u8], plan: &mut [u8], table: &mut [u8]) -> Planned
+pub fn towhepamu_plan(text: &[u8], plan: &mut [u8], table: &mut [u8]) -> Planned
     ensures value { result ≡ planned_of (text_plan_outcome text.now plan.old table.old).answer }
     ensures plan_after { plan.new ≡ (text_plan_outcome text.now plan.old table.old).plan }
     ensures table_after { table.new ≡ (text_plan_outcome text.now plan.old table.old).table }

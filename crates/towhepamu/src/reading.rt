@@ -22,8 +22,7 @@ fn read_words(words: &[u32]) -> Site
 }
 
 // Whether a text is an instance, and how large that is.
-#[unsafe(no_mangle)]
-pub extern "C" fn towhepamu_read(text: &[u8]) -> Site
+pub fn towhepamu_read(text: &[u8]) -> Site
     ensures { result ≡ site_of (text_read_outcome text.now) }
 {
     let mut words = [0; MOST_TEXT_WORDS as usize];

@@ -30,8 +30,7 @@ fn sleep_words(
 }
 
 // Writes the least idle energy of each core and the number of its sleeps to the fronts of the lent lists.
-#[unsafe(no_mangle)]
-pub extern "C" fn towhepamu_sleep(
+pub fn towhepamu_sleep(
     text: &[u8],
     plan: &[u8],
     table: &[u8],
