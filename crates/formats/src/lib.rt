@@ -1,5 +1,7 @@
 // Taking words from a list, each tested as it is taken. A cursor goes from word to word by value, and keeps the first
 // refusal: once it holds one, nothing more is taken.
+#![tactic(auto)]
+
 mod word;
 
 use refusals::Verdict;

@@ -1,4 +1,6 @@
 // The refusals of the papers, each with its number and its place, and the verdict of a test.
+#![tactic(auto)]
+
 ghost use Rattle.std.specs.Prelude.{◌≡◌};
 ghost use Rattle.refusals.specs.Refusals.{number_of, place_of};
 
