@@ -1,5 +1,7 @@
 // Whether a core's tasks can all be served: whether by some tick of a span more is due than there are ticks up to it. What the core
 // runs stands in columns: for each of its tasks a period, a window and the ticks of a job.
+#![tactic(auto)]
+
 ghost use Rattle.std.specs.Prelude.{false, ◌≡◌, ◌+◌, ◌-◌, ◌/◌, ◌≤◌, ◌<◌, length};
 ghost use Rattle.ranges.specs.Limits.{most_span, most_word};
 ghost use Rattle.dispatch.specs.Columns.{column_tasks};

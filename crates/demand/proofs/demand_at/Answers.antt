@@ -1,0 +1,65 @@
+use Prim.Native.Nat.{ℕ, ◌+◌, ◌*◌, ◌≤◌}
+use mathlib.Core.Path.{◌≡◌, refl, ap, ap₂, ◌∙◌}
+use native.Mathlib.Numerals.{add-one}
+use native.Mathlib.Omega.{arith}
+use borrow.Author.Rules.{rules}
+use lib.ListN.{length, get_or}
+use Rattle.laws.specs.Sums.{sum}
+use Rattle.ranges.specs.Limits.{most_span, most_tasks, most_word}
+use Rattle.dispatch.specs.Columns.{column_tasks}
+use Rattle.edf.specs.Demand.{demand_at, jobs_due, ticks_due}
+use Rattle.edf.specs.JobsDueLaws.{period_above_0}
+use Rattle.demand.specs.ColumnDemandLaws.{demand_so_far_at_most}
+use Rattle.demand.proofs.demand_at.Goals as goal
+use Rattle.demand.proofs.demand_at.Goals.{After-jobs_due}
+
+its_ticks : (c : goal.After-jobs_due) →
+    let args = c.args in
+    let i = c.loop-i.i in
+    get_or args.ticks.now i 0 * c.jobs_due.result
+    ≡ ticks_due (column_tasks args.periods.now args.windows.now args.ticks.now) args.tick i
+unfolding jobs_due
+its_ticks c =
+    let args = c.args in
+    let i = c.loop-i.i in
+    ap (λ (jobs : ℕ). get_or args.ticks.now i 0 * jobs) c.jobs_due.ensures
+
+-- what is added up so far, and the next term
+so_far : (c : goal.After-jobs_due) →
+    let args = c.args in
+    let its = ticks_due (column_tasks args.periods.now args.windows.now args.ticks.now) args.tick in
+    let i = c.loop-i.i in
+    sum its i + its i ≤ most_tasks * (most_word * most_span)
+so_far c =
+    let start = c in
+    demand_so_far_at_most start.args.periods.now start.args.windows.now start.args.ticks.now start.requires.job_columns
+    (λ j. omega (arith, start.type_inv.ticks j)) start.args.tick start.requires.tick_le_most_span _
+    c.loop-i-test.true
+
+pub loop-i-init : goal.loop-i-init
+unfolding sum
+loop-i-init c = (search rules, refl)
+
+pub jobs_due-requires : goal.jobs_due-requires
+jobs_due-requires c =
+    let ok = c.requires.job_columns in
+    let below = c.loop-i-test.true in record { period_nonzero = (period_above_0 ok.well_formed _ below, ok.well_formed.window_within_period _ below); period_bound = omega (arith, ok.period_at_most _ below, c.requires.tick_le_most_span) }
+
+pub overflow_mul-due : goal.overflow_mul-due
+overflow_mul-due c = omega (arith, its_ticks (goal.at.overflow_mul-due c).After-jobs_due, so_far (goal.at.overflow_mul-due c).After-jobs_due)
+
+pub overflow_add-due : goal.overflow_add-due
+overflow_add-due c = omega (arith, its_ticks (goal.at.overflow_add-due c).After-jobs_due, so_far (goal.at.overflow_add-due c).After-jobs_due, c.loop-i.invariant.1)
+
+pub loop-i-preserved : goal.loop-i-preserved
+unfolding sum
+loop-i-preserved c =
+    (search rules, rw add-one (ap₂ ◌+◌ c.loop-i.invariant.1 (its_ticks (goal.at.loop-i-preserved c).After-jobs_due)))
+
+pub returns : goal.returns
+unfolding demand_at
+returns c =
+    let args = c.args in
+    let its = ticks_due (column_tasks args.periods.now args.windows.now args.ticks.now) args.tick in
+    let all : c.loop-i.i ≡ length args.ticks.now = omega arith in
+    c.loop-i.invariant.1 ∙ ap (sum its) all

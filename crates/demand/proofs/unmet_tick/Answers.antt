@@ -1,0 +1,14 @@
+use borrow.Author.Rules.{rules}
+use Rattle.demand.specs.UnmetTickLaws.{end_of_span_decides, found_unmet}
+use Rattle.demand.proofs.unmet_tick.Goals as goal
+
+pub returns-then-span-demand_at : goal.returns-then-span-demand_at
+returns-then-span-demand_at c =
+    let ok = c.requires in
+    found_unmet _ _ _ ok.whole_periods.span_above_0 (search rules) (rw c.demand_at.ensures at c.if-span-demand_at.true)
+
+pub returns : goal.returns
+returns c =
+    let ok = c.requires in
+    let none_early = c.some_due_early.ensures c.if-some_due_early.false in
+    end_of_span_decides _ _ _ _ ok none_early (rw c.demand_at.ensures at c.if-span-demand_at.false)
