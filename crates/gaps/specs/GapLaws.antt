@@ -4,7 +4,7 @@ use Rattle.std.specs.Prelude.{ℕ, zero, suc, ◌+◌, ◌-◌, ◌≤◌, ◌<�
 use Rattle.std.proofs.Math.Bool.{true, false, cond}
 use Rattle.std.proofs.Math.Logic.{⊎_elim}
 use Rattle.std.proofs.Math.Path.{refl, sym}
-use Rattle.std.proofs.Common.{ap, subst, ◌∙◌, add-suc, add-zero, suc-add}
+use Rattle.std.proofs.Common.{subst, ◌∙◌, add-suc, add-zero, suc-add}
 use native.Mathlib.Omega.{arith}
 use Rattle.laws.specs.Below.{lt_or_le}
 use Rattle.laws.specs.Truth.{false_not_true}

@@ -3,13 +3,12 @@ use Prim.Native.Nat.{ℕ, zero, suc, ◌+◌, ◌*◌, ◌≤◌, ◌<◌}
 use Rattle.std.specs.Prelude.{Bool, ◌&&◌, ◌↔◌, ◌≡◌, leb}
 use Rattle.std.proofs.Math.Bool.{true, false, cond}
 use Rattle.std.proofs.Math.Path.{refl, ap}
-use Rattle.std.proofs.Common.{sym, ◌∙◌}
+use Rattle.std.proofs.Common.{◌∙◌}
 use Rattle.std.proofs.Math.Nat.{mul-zero, le_refl, le_of_lt}
 use native.Mathlib.Omega.{arith}
 use borrow.Author.Tests.{leb-true, ltb-true, ltb-false, le-leb, lt-ltb}
 use Rattle.std.proofs.Math.Dec.{ltb}
 use Rattle.laws.specs.CountLaws.{count_is_sum}
-use Rattle.laws.specs.Sums.{sum}
 use Rattle.laws.specs.SumLaws.{sum_mono, sum_scaled}
 use Rattle.laws.specs.Truth.{and_is_true, not_true_is_false}
 use Rattle.gaps.specs.Gaps.{Repeats, Gap, SomeBusy, gap_ending_at, over_gaps}

@@ -8,7 +8,6 @@ use Rattle.laws.specs.Below.{below_suc}
 use Rattle.laws.specs.Sums.{sum}
 use Rattle.laws.specs.SumLaws.{sum_cong, sum_zero, sum_split}
 use Rattle.laws.specs.SumOrderLaws.{sum_from_first}
-use Rattle.laws.specs.Truth.{false_not_true}
 use Rattle.gaps.specs.Gaps.{Repeats, idle_before, gap_ending_at, over_gaps}
 use Rattle.gaps.specs.GapSumLaws.{idle_before_repeats, no_gaps_without_busy_slot}
 

@@ -1,5 +1,6 @@
 // Gaps of a row that repeats, and what it is worth to sleep through them. It has no code but the two structs; the definitions and laws
 // stand in specs/.
+#![tactic(auto)]
 
 // What a gap costs: idle power for each of its ticks where the core stays awake; the switching energy where it sleeps, which takes
 // at least the switching time.
