@@ -1,6 +1,6 @@
 -- The search finds the best plan, and the cheapest way to keep exactly a given set.
 use Rattle.std.specs.Prelude.{ℕ, pred, ◌*◌, ◌<◌, ◌≡◌, Bool, List, length}
-use Rattle.std.proofs.Common.{sym, ◌∙◌, inl, inr, arith}
+use Rattle.std.proofs.Common.{refl, sym, ◌∙◌, inl, inr, arith}
 use Rattle.assignment.specs.Assignment.{Options, cores_cost, total_cost, Allowed, Before, differs, agrees, NoWorse, Best}
 use Rattle.assignment.specs.Values.{Value, none, pair}
 use Rattle.assignment.specs.Keys.{key_base, digits}
@@ -44,11 +44,23 @@ search_finds_set o table core some_core small S of_items =
     (λ plan runs. (keeps_in_base small runs.keeps, keeps_length runs.keeps ∙ of_items)) _
     (all_cores_least core some_core S of_items)
 
+before_asym_at : {plan other plan' other' : List ℕ} → Before plan other → Before other' plan' → plan ≡ plan' → other ≡ other' → ⊥
+before_asym_at (differs {c = c} {d = d} h) (differs {c = c'} {d = d'} k) p o =
+    let e : c ≡ d' = cc in
+    let f : d ≡ c' = cc in
+    omega arith
+before_asym_at (differs {c = c} {d = d} h) (agrees {c = c'} k) p o =
+    let e : c ≡ c' = cc in
+    let f : d ≡ c' = cc in
+    omega arith
+before_asym_at (agrees {c = c} h) (differs {c = c'} {d = d'} k) p o =
+    let e : c ≡ d' = cc in
+    let f : c ≡ c' = cc in
+    omega arith
+before_asym_at (agrees h) (agrees k) p o = before_asym_at h k (cc) (cc)
+
 before_asym : {plan other : List ℕ} → Before plan other → ¬ (Before other plan)
-before_asym (differs h) (differs k) = omega arith
-before_asym (differs h) (agrees k) = omega arith
-before_asym (agrees h) (differs k) = omega arith
-before_asym (agrees h) (agrees k) = before_asym h k
+before_asym h k = before_asym_at h k refl refl
 
 -- there is at most one best plan
 pub best_unique : (o : Options) {plan other : List ℕ} → Best o plan → Best o other → plan ≡ other
