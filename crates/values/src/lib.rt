@@ -1,4 +1,6 @@
 // How the search holds values: the cost of a part of a plan, and the key that tells which of equally cheap parts comes first.
+#![tactic(auto)]
+
 mod limits;
 mod powers;
 mod value;
