@@ -96,17 +96,24 @@ module _ {offer : Offer} {m l w c k : ℕ} {rest : ℕ → Value} (least : Least
           digits = omega (arith, suc-mul (suc l) (key_base ^ m), small.digits);
         }
 
-pub least_of_one_more : {offer : Offer} {m l w c k d j : ℕ} {costs keys : List ℕ} → m ≤ most_items →
+one_more : {offer : Offer} {m l w c k : ℕ} {costs keys : List ℕ} {d j : ℕ} → m ≤ most_items →
     (offer.load l ≤ w → offer.cost l ≤ most_cost) → ((u : ℕ) → u ≤ w → Small m (get_or costs u 0) (get_or keys u 0)) →
     LeastAt offer m l (knapsack_of costs keys) w c k →
     Relaxed (offer.load l) (offer.cost l) (suc l * key_base ^ m) costs keys w c k d j →
     LeastAt offer m (suc l) (knapsack_of costs keys) w d j
 unfolding knapsack_of
-least_of_one_more few cheap small least (no_room h) = least_without_room least h
-least_of_one_more few cheap small least (no_cheaper fits dear) =
+one_more few cheap small least (no_room h) = least_without_room least h
+one_more few cheap small least (no_cheaper fits dear) =
     least_no_cheaper least few fits (cheap fits) (small _ (omega arith)) refl dear
-least_of_one_more few cheap small least (cheaper fits less) =
+one_more few cheap small least (cheaper fits less) =
     least_cheaper least few fits (cheap fits) (small _ (omega arith)) refl less
+
+pub least_of_one_more : {offer : Offer} {m l w c k d j : ℕ} {costs keys : List ℕ} → m ≤ most_items →
+    (offer.load l ≤ w → offer.cost l ≤ most_cost) → ((u : ℕ) → u ≤ w → Small m (get_or costs u 0) (get_or keys u 0)) →
+    LeastAt offer m l (knapsack_of costs keys) w c k →
+    Relaxed (offer.load l) (offer.cost l) (suc l * key_base ^ m) costs keys w c k d j →
+    LeastAt offer m (suc l) (knapsack_of costs keys) w d j
+least_of_one_more few cheap small least relaxed = one_more few cheap small least relaxed
 
 pub least_of_all_levels : {offer : Offer} {m levels w c k : ℕ} {rest : ℕ → Value} → levels ≤ most_levels →
     LeastAt offer m levels rest w c k → Small (suc m) c k

@@ -1,0 +1,27 @@
+use native.Mathlib.Numerals.{add-one}
+use native.Mathlib.Omega.{arith}
+use Rattle.knapsack.specs.RelaxedKnapsacks.{relaxed_start, relaxed_kept, relaxed_stored}
+use Rattle.knapsack.proofs.relaxing.relax_level.Goals.{then-cost-costs, else-cost-costs}
+use Rattle.knapsack.proofs.relaxing.relax_level.Goals as goal
+
+pub loop-w-init : goal.loop-w-init
+loop-w-init c = relaxed_start _ _ _ _ _ _ _ _
+
+pub overflow_add-cost : goal.overflow_add-cost
+overflow_add-cost c = record { fits = c.requires.knapsack_sums_fit.cost_fits _ (omega arith) }
+
+pub overflow_add-keys : goal.overflow_add-keys
+overflow_add-keys c = record { fits = c.requires.knapsack_sums_fit.key_fits _ (omega arith) }
+
+pub returns : goal.returns
+returns c = λ w le. c.loop-w.invariant.done w (omega arith) le
+
+pub loop-w-preserved : goal.loop-w-preserved
+loop-w-preserved c =
+    let at = c.loop-w in
+    elim c.if-cost-costs.branch [
+      | then-cost-costs w ↦ rw (add-one, w.costs-is, w.keys-is)
+          (relaxed_stored _ _ _ _ _ _ _ at.invariant (omega arith) (omega arith) w.if-cost-costs.true)
+      | else-cost-costs w ↦ rw (add-one, w.costs-is, w.keys-is)
+          (relaxed_kept _ _ _ _ _ _ _ at.invariant w.if-cost-costs.false)
+    ]
