@@ -1,5 +1,7 @@
 // What a tick asks of one task: whether its job is released or has ended, the ticks that it has left, when it is due, and whether it is
 // chosen before another; and which tick comes next.
+#![tactic(auto)]
+
 ghost use Rattle.std.specs.Prelude.{cond, ◌&&◌, ◌≡◌, suc, ◌+◌, ◌*◌, ◌/◌, ◌%◌, ◌<◌, eqb};
 ghost use Rattle.ranges.specs.Limits.{most_tasks};
 ghost use Rattle.tick_steps.specs.Choosing.{Earlier};
@@ -71,6 +73,7 @@ pub fn ready_ticks(released: bool, over: bool, ticks: u32, left: u32) -> u32
 }
 
 // The tick after this one.
+#[tactic(auto, using(std::proofs::lemmas::Bool::Decides::nat_tests))]
 pub fn next_tick(tick: u32, span: u32) -> u32
     requires { tick < span }
     ensures { result ≡ cond (eqb (suc tick) span) 0 (suc tick) }
