@@ -1,5 +1,7 @@
 // Sets of items over several cores, from the table of one core: the least values of all sets on some cores, and on all cores of
 // what is kept.
+#![tactic(auto)]
+
 mod cores;
 mod halves;
 mod keeping;
