@@ -2,11 +2,14 @@
 //
 // The numbers that it prints are the generator's, and nobody works them out by hand: they show that no comparison is empty.
 // Those under the last heading must be 0, whatever is drawn.
+#![tactic(auto)]
+
 mod compare;
 mod planners;
 
 use generator::tally::{Counts, none_counted};
 use generator::{WORDS_ROOM, Words};
+use std::io;
 
 const INSTANCES: u32 = 20_000;
 
@@ -32,15 +35,16 @@ fn compare_many(instances: u32, counts: &mut Counts) {
     }
 }
 
-fn main() {
+fn main(rt: HostRuntime) -> io::Result<()> {
     let mut counts = none_counted();
     compare_many(INSTANCES, &mut counts);
-    print_all(&counts);
+    print_all(&rt, &counts)
 }
 
 // Prints every count with its name.
-fn print_all(counts: &Counts) {
+fn print_all(rt: &impl Print, counts: &Counts) -> io::Result<()> {
     printing::print_filled(
+        rt,
         b"-- drawn\n\
           # instances\n\
           # planned\n\
@@ -85,5 +89,5 @@ fn print_all(counts: &Counts) {
           # other tables pass the check for a plan that does not fit\n\
           # other tables pass the check and are cheaper\n",
         counts,
-    );
+    )
 }

@@ -1,25 +1,27 @@
 // Examples that need no site.
 use crate::numbers::{MOST_NUMBERS, words_of};
 use crate::{counts, listing, reading, runs, small, texts};
+use std::io;
 
-pub(crate) fn run(kind: u8, given: &[u8]) {
+pub(crate) fn run(rt: &impl Print, kind: u8, given: &[u8]) -> io::Result<()> {
     match kind {
-        b't' | b'b' | b'l' => texts::spelt(kind, given),
-        _ => run_numbers(kind, given),
+        b't' | b'b' | b'l' => texts::spelt(rt, kind, given),
+        _ => run_numbers(rt, kind, given),
     }
 }
 
-fn run_numbers(kind: u8, given: &[u8]) {
+fn run_numbers(rt: &impl Print, kind: u8, given: &[u8]) -> io::Result<()> {
     let mut words = [0; MOST_NUMBERS];
     let n = words_of(given, &mut words);
-    run_front(kind, &words, n);
+    run_front(rt, kind, &words, n)
 }
 
-fn run_front(kind: u8, words: &[u32; MOST_NUMBERS], n: usize) {
+fn run_front(rt: &impl Print, kind: u8, words: &[u32; MOST_NUMBERS], n: usize) -> io::Result<()> {
     let all = &words[..];
     if n <= all.len() {
-        run_words(kind, &all[0..n]);
+        run_words(rt, kind, &all[0..n])?;
     }
+    Ok(())
 }
 
 // The word at a place, 0 past the end.
@@ -30,14 +32,14 @@ fn word(words: &[u32], at: usize) -> u32 {
     0
 }
 
-fn run_words(kind: u8, words: &[u32]) {
+fn run_words(rt: &impl Print, kind: u8, words: &[u32]) -> io::Result<()> {
     match kind {
-        b'r' | b'g' => runs::show(kind, words),
-        b'w' => reading::words(words),
-        b'v' => small::varied(word(words, 0), word(words, 1)),
-        b'c' => small::cut(word(words, 0)),
-        b'j' => counts::show(words),
-        b'd' => listing::over_dots(word(words, 0) as usize),
-        _ => return,
+        b'r' | b'g' => runs::show(rt, kind, words),
+        b'w' => reading::words(rt, words),
+        b'v' => small::varied(rt, word(words, 0), word(words, 1)),
+        b'c' => small::cut(rt, word(words, 0)),
+        b'j' => counts::show(rt, words),
+        b'd' => listing::over_dots(rt, word(words, 0) as usize),
+        _ => Ok(()),
     }
 }

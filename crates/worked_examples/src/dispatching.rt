@@ -4,51 +4,59 @@ use dispatcher::{DispatchState, dispatch};
 use printing::{print, print_field};
 use ranges::MOST_TASKS;
 use refusals::{Verdict, refusal_number};
+use std::io;
 
-fn print_answer(verdict: Verdict, task: u32) {
+fn print_answer(rt: &impl Print, verdict: Verdict, task: u32) -> io::Result<()> {
     match verdict {
-        Verdict::Accepted => show::print_word(task),
-        Verdict::Refused(r) => print_field(b" refused ", refusal_number(r)),
+        Verdict::Accepted => show::print_word(rt, task),
+        Verdict::Refused(r) => print_field(rt, b" refused ", refusal_number(r)),
     }
 }
 
 // Prints the task that a call answers, or the number of its refusal; answers the state after it.
 fn call(
+    rt: &impl Print,
     words: &[u32],
     core: u32,
     plan: &[u32],
     state: DispatchState,
     report: u32,
-) -> DispatchState {
+) -> io::Result<DispatchState> {
     let called = dispatch(words, plan, core, state, report != 0);
     let verdict = called.verdict;
-    print_answer(verdict, called.task);
-    called.state
+    print_answer(rt, verdict, called.task)?;
+    Ok(called.state)
 }
 
 // Calls one after another, the first in a fresh start; a report other than 0 is an early end.
-fn calls(words: &[u32], core: u32, plan: &[u32], reports: &[u32]) {
+fn calls(
+    rt: &impl Print,
+    words: &[u32],
+    core: u32,
+    plan: &[u32],
+    reports: &[u32],
+) -> io::Result<()> {
     let mut state = DispatchState {
         tick: 0,
         left: [0; MOST_TASKS as usize],
         last: 0,
     };
-    print(b"tasks");
+    print(rt, b"tasks")?;
     let mut i = 0;
     while i < reports.len() {
-        state = call(words, core, plan, state, reports[i]);
+        state = call(rt, words, core, plan, state, reports[i])?;
         i += 1;
     }
-    print(b"\n");
+    print(rt, b"\n")
 }
 
-fn print_state(state: DispatchState) {
-    print_field(b"tick ", state.tick as u64);
-    print_field(b" last ", state.last as u64);
-    print(b" left");
+fn print_state(rt: &impl Print, state: DispatchState) -> io::Result<()> {
+    print_field(rt, b"tick ", state.tick as u64)?;
+    print_field(rt, b" last ", state.last as u64)?;
+    print(rt, b" left")?;
     let left = state.left;
-    show::words(&left);
-    print(b"\n");
+    show::words(rt, &left)?;
+    print(rt, b"\n")
 }
 
 // The numbers at the front, and 0 after them.
@@ -67,20 +75,33 @@ fn left_of(given: &[u32]) -> [u32; MOST_TASKS as usize] {
 }
 
 // One call, with the state after it.
-fn one_call(words: &[u32], core: u32, plan: &[u32], state: DispatchState, report: u32) {
+fn one_call(
+    rt: &impl Print,
+    words: &[u32],
+    core: u32,
+    plan: &[u32],
+    state: DispatchState,
+    report: u32,
+) -> io::Result<()> {
     let called = dispatch(words, plan, core, state, report != 0);
     let verdict = called.verdict;
-    plans::print_verdict(verdict, b"accepted\n");
-    print_field(b"task ", called.task as u64);
-    print(b" ");
+    plans::print_verdict(rt, verdict, b"accepted\n")?;
+    print_field(rt, b"task ", called.task as u64)?;
+    print(rt, b" ")?;
     let after = called.state;
-    print_state(after);
+    print_state(rt, after)
 }
 
 // After a core either reports, or with a report, a tick and a last task the ticks left.
-pub(crate) fn run(words: &[u32], front: &[u32], plan: &[u32], given: &[u32]) {
+pub(crate) fn run(
+    rt: &impl Print,
+    words: &[u32],
+    front: &[u32],
+    plan: &[u32],
+    given: &[u32],
+) -> io::Result<()> {
     if front.len() == 1 {
-        calls(words, front[0], plan, given);
+        calls(rt, words, front[0], plan, given)?;
     }
     if front.len() == 4 {
         let state = DispatchState {
@@ -88,6 +109,7 @@ pub(crate) fn run(words: &[u32], front: &[u32], plan: &[u32], given: &[u32]) {
             left: left_of(given),
             last: front[3],
         };
-        one_call(words, front[0], plan, state, front[1]);
+        one_call(rt, words, front[0], plan, state, front[1])?;
     }
+    Ok(())
 }

@@ -1,27 +1,29 @@
 // Prints the listing of a text, and what became of a lent array.
 use listings::{MOST_LISTING, list_site};
 use printing::{print, print_filled, print_line};
+use std::io;
 
-fn print_front(bytes: &[u8; MOST_LISTING], n: usize) {
+fn print_front(rt: &impl Print, bytes: &[u8; MOST_LISTING], n: usize) -> io::Result<()> {
     let whole: &[u8] = bytes;
     if n <= whole.len() {
-        print(&whole[..n]);
+        print(rt, &whole[..n])?;
     }
+    Ok(())
 }
 
-pub(crate) fn listing(text: &[u8]) {
+pub(crate) fn listing(rt: &impl Print, text: &[u8]) -> io::Result<()> {
     let mut out = [0u8; MOST_LISTING];
     let n = list_site(text, &mut out);
-    print_front(&out, n);
+    print_front(rt, &out, n)
 }
 
 // What stands behind a listing of 12 bytes, `refused 2 0` and a line feed, stays as it was lent: the answer for no text and an
 // array of dots, and as many of its bytes then as are asked for.
-pub(crate) fn over_dots(shown: usize) {
+pub(crate) fn over_dots(rt: &impl Print, shown: usize) -> io::Result<()> {
     let mut out = [b'.'; MOST_LISTING];
     let numbers = [list_site(b"", &mut out) as u64];
-    print_filled(b"# bytes\n", &numbers);
-    print(b"[");
-    print_front(&out, shown);
-    print_line(b"]");
+    print_filled(rt, b"# bytes\n", &numbers)?;
+    print(rt, b"[")?;
+    print_front(rt, &out, shown)?;
+    print_line(rt, b"]")
 }

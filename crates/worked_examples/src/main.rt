@@ -1,5 +1,7 @@
 // Runs the calls on worked examples, which it reads from standard input, and prints what each one gives. The expected lines
 // are worked out from the paper, by hand.
+#![tactic(auto)]
+
 mod alone;
 mod at_site;
 mod counts;
@@ -15,10 +17,11 @@ mod sleeping;
 mod small;
 mod texts;
 
-use libc::STDIN_FILENO;
+use std::io;
+use std::io::Read;
 
-fn main() {
-    let mut text = io::large_buffer();
-    let n = io::read_full(STDIN_FILENO, &mut text);
-    lines::run(&text[..n]);
+fn main(rt: HostRuntime) -> io::Result<()> {
+    let mut text = Vec::new(rt.alloc());
+    rt.reader().read_to_end(&mut text)?;
+    lines::run(&rt, &text)
 }

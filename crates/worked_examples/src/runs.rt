@@ -1,5 +1,6 @@
 // Long texts, of runs of equal bytes.
 use crate::texts;
+use std::io;
 
 // Puts a byte at a place and all after it.
 fn fill(text: &mut [u8; 5000], from: u32, byte: u32) {
@@ -25,15 +26,16 @@ fn fill_all(text: &mut [u8; 5000], runs: &[u32]) -> u32 {
     end
 }
 
-fn show_front(kind: u8, text: &[u8; 5000], n: usize) {
+fn show_front(rt: &impl Print, kind: u8, text: &[u8; 5000], n: usize) -> io::Result<()> {
     let all = &text[..];
     if n <= all.len() {
-        texts::show(kind, &all[0..n]);
+        texts::show(rt, kind, &all[0..n])?;
     }
+    Ok(())
 }
 
-pub(crate) fn show(kind: u8, runs: &[u32]) {
+pub(crate) fn show(rt: &impl Print, kind: u8, runs: &[u32]) -> io::Result<()> {
     let mut text = [0u8; 5000];
     let end = fill_all(&mut text, runs);
-    show_front(kind, &text, end as usize);
+    show_front(rt, kind, &text, end as usize)
 }

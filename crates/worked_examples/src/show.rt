@@ -2,44 +2,48 @@
 use printing::{print_field, print_filled};
 use ranges::Slot;
 use refusals::Refusal;
+use std::io;
 
-pub(crate) fn refusal(r: Refusal) {
+pub(crate) fn refusal(rt: &impl Print, r: Refusal) -> io::Result<()> {
     let numbers = [refusals::refusal_number(r), refusals::refusal_place(r)];
-    print_filled(b"refused # #\n", &numbers);
+    print_filled(rt, b"refused # #\n", &numbers)
 }
 
-pub(crate) fn print_word(word: u32) {
-    print_field(b" ", word as u64);
+pub(crate) fn print_word(rt: &impl Print, word: u32) -> io::Result<()> {
+    print_field(rt, b" ", word as u64)
 }
 
-pub(crate) fn words(words: &[u32]) {
+pub(crate) fn words(rt: &impl Print, words: &[u32]) -> io::Result<()> {
     let mut i = 0;
     while i < words.len() {
-        print_word(words[i]);
+        print_word(rt, words[i])?;
         i += 1;
     }
+    Ok(())
 }
 
-fn print_amount(amount: u64) {
-    print_field(b" ", amount);
+fn print_amount(rt: &impl Print, amount: u64) -> io::Result<()> {
+    print_field(rt, b" ", amount)
 }
 
-pub(crate) fn amounts(amounts: &[u64]) {
+pub(crate) fn amounts(rt: &impl Print, amounts: &[u64]) -> io::Result<()> {
     let mut i = 0;
     while i < amounts.len() {
-        print_amount(amounts[i]);
+        print_amount(rt, amounts[i])?;
         i += 1;
     }
+    Ok(())
 }
 
-fn print_slot(slot: Slot) {
-    print_field(b" ", slot as u64);
+fn print_slot(rt: &impl Print, slot: Slot) -> io::Result<()> {
+    print_field(rt, b" ", slot as u64)
 }
 
-pub(crate) fn slots(slots: &[Slot]) {
+pub(crate) fn slots(rt: &impl Print, slots: &[Slot]) -> io::Result<()> {
     let mut i = 0;
     while i < slots.len() {
-        print_slot(slots[i]);
+        print_slot(rt, slots[i])?;
         i += 1;
     }
+    Ok(())
 }

@@ -2,19 +2,21 @@
 use crate::{plans, show};
 use printing::print;
 use ranges::Slot;
+use std::io;
 
 // More entries than any line asks for.
 const MOST_ENTRIES: usize = 8;
 
-fn print_lists(energies: &[u64], sleeps: &[u32]) {
-    print(b"energies");
-    show::amounts(energies);
-    print(b" sleeps");
-    show::words(sleeps);
-    print(b"\n");
+fn print_lists(rt: &impl Print, energies: &[u64], sleeps: &[u32]) -> io::Result<()> {
+    print(rt, b"energies")?;
+    show::amounts(rt, energies)?;
+    print(rt, b" sleeps")?;
+    show::words(rt, sleeps)?;
+    print(rt, b"\n")
 }
 
 fn reckon_into(
+    rt: &impl Print,
     words: &[u32],
     plan: &[u32],
     table: &[Slot],
@@ -22,14 +24,15 @@ fn reckon_into(
     time: u32,
     energies: &mut [u64],
     sleeps: &mut [u32],
-) {
+) -> io::Result<()> {
     let verdict = sleep::sleep(words, plan, table, energy, time, energies, sleeps);
-    plans::print_verdict(verdict, b"");
-    print_lists(energies, sleeps);
+    plans::print_verdict(rt, verdict, b"")?;
+    print_lists(rt, energies, sleeps)
 }
 
 // In lists of so many entries, which held 7 everywhere.
 fn reckon_with(
+    rt: &impl Print,
     words: &[u32],
     plan: &[u32],
     table: &[Slot],
@@ -37,12 +40,13 @@ fn reckon_with(
     time: u32,
     room: u32,
     more: u32,
-) {
+) -> io::Result<()> {
     let mut energies = [7u64; MOST_ENTRIES];
     let mut sleeps = [7u32; MOST_ENTRIES];
     if room <= 8 {
         if more <= 8 {
             reckon_into(
+                rt,
                 words,
                 plan,
                 table,
@@ -50,14 +54,24 @@ fn reckon_with(
                 time,
                 &mut energies[..room as usize],
                 &mut sleeps[..more as usize],
-            );
+            )?;
         }
     }
+    Ok(())
 }
 
 // Switching energy, switching time, and how many entries each of two lists has.
-pub(crate) fn reckon(words: &[u32], front: &[u32], plan: &[u32], table: &[Slot]) {
+pub(crate) fn reckon(
+    rt: &impl Print,
+    words: &[u32],
+    front: &[u32],
+    plan: &[u32],
+    table: &[Slot],
+) -> io::Result<()> {
     if 4 <= front.len() {
-        reckon_with(words, plan, table, front[0], front[1], front[2], front[3]);
+        reckon_with(
+            rt, words, plan, table, front[0], front[1], front[2], front[3],
+        )?;
     }
+    Ok(())
 }

@@ -1,5 +1,6 @@
 // A text that is spelt in a line, and what is shown of a text.
 use crate::{listing, reading};
+use std::io;
 
 // The byte that a letter stands for.
 fn byte_of(letter: u8) -> u8 {
@@ -12,24 +13,24 @@ fn byte_of(letter: u8) -> u8 {
 }
 
 // A text of at most 256 letters.
-pub(crate) fn spelt(kind: u8, given: &[u8]) {
+pub(crate) fn spelt(rt: &impl Print, kind: u8, given: &[u8]) -> io::Result<()> {
     let mut bytes = [0u8; 256];
     let n = given.len();
     if 256 < n {
-        return;
+        return Ok(());
     }
     let mut i = 0;
     while i < n {
         bytes[i] = byte_of(given[i]);
         i += 1;
     }
-    show(kind, &bytes[0..n]);
+    show(rt, kind, &bytes[0..n])
 }
 
-pub(crate) fn show(kind: u8, text: &[u8]) {
+pub(crate) fn show(rt: &impl Print, kind: u8, text: &[u8]) -> io::Result<()> {
     match kind {
-        b't' | b'r' => reading::text(text),
-        b'b' => reading::text_into_three(text),
-        _ => listing::listing(text),
+        b't' | b'r' => reading::text(rt, text),
+        b'b' => reading::text_into_three(rt, text),
+        _ => listing::listing(rt, text),
     }
 }
