@@ -8,7 +8,6 @@ use Rattle.refusals.specs.declared.Verdict.{Verdict}
 use Rattle.refusals.specs.declared.Verdict.TheVariants.{Accepted, Refused}
 use Rattle.text.specs.Text.{words_of}
 use Rattle.text.specs.declared.TextRead.{TextRead}
-use Rattle.text.specs.declared.TextRead.TheVariants as TextRead
 
 pub record WordsOutcome : Type 0 where
   pub answer : TextRead

@@ -1,4 +1,6 @@
 // From the text of a site's file to its words.
+#![tactic(auto)]
+
 mod reader;
 mod words;
 
