@@ -1,5 +1,7 @@
 // The table of one core that pays for its idle ticks. Knapsacks are offered each item at what it costs alone on an awake core, so
 // that they count the idle energy of a whole span once for each item of a set; the core owes it once.
+#![tactic(auto)]
+
 ghost use Rattle.std.specs.Prelude.{◌≡◌, ◌^◌, ◌≤◌, ◌<◌, length, get_or};
 ghost use Rattle.assignment.specs.Limits.{most_items};
 ghost use Rattle.assignment.specs.Words.{no_cost};
