@@ -1,3 +1,1 @@
 pub mod JobCounts
-pub mod JobCountLaws
-pub mod JobCountSteps

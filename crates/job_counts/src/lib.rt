@@ -1,4 +1,6 @@
 // The count of one job's slots, which ends at the first slot too many.
+#![tactic(auto)]
+
 ghost use Rattle.std.specs.Prelude.{◌≡◌};
 ghost use Rattle.job_counts.specs.JobCounts.{count_job, kind_number, CountEnds};
 

@@ -10,7 +10,7 @@ use Rattle.laws.specs.FirstLaws.{first_unique}
 use Rattle.laws.specs.Search.{first, count}
 use Rattle.laws.specs.SearchFacts.{first_of_none}
 use Rattle.laws.specs.Truth.{not_true_is_false}
-use Rattle.job_counts.specs.JobCountLaws.{too_many_iff, held_with_next, count_ends}
+use Rattle.job_counts.proofs.JobCountLaws.{too_many_iff, held_with_next, count_ends}
 use Rattle.job_counts.specs.JobCounts.{kind_number, slots_held, is_too_many, count_job, TooMany, CountEnds}
 use Rattle.job_counts.specs.declared.CountKind.TheVariants.{Short, Right, Over}
 use Rattle.job_counts.specs.declared.Counted.{Counted}

@@ -7,7 +7,7 @@ use Rattle.std.proofs.Math.Path.{refl}
 use Rattle.std.proofs.Common.{sym, ap, ◌∙◌, le_refl, get_or-take, length-take-le}
 use Rattle.std.proofs.Math.Nat.{le_step}
 use native.Mathlib.Omega.{arith}
-use Rattle.std.proofs.Math.Dec.{eqb}
+use Rattle.std.proofs.Math.Dec.{eqb, leb}
 use Rattle.std.proofs.Math.ListN.{length}
 use borrow.Author.Tests.{eqb-true, eq-eqb, leb-true, leb-false, le-leb, lt-leb, lt-ltb, le-ltb, ne_eqb}
 use Rattle.laws.specs.Below.{lt_or_le}
@@ -52,7 +52,7 @@ module _ (slots : List ℕ) (number window ticks : ℕ) where
     λ t.
         (and_is_true _ _).1 (
           eq-eqb _ _ t.its_number,
-          (or_is_true _ _).1 (λ not_yet. ⊎_elim
+          (or_is_true _ _).1 (λ (not_yet : leb ticks (held x) ≡ false). ⊎_elim
               (λ past. absurd (omega (arith, leb-false ticks (held x) not_yet)))
               (λ due. le-leb _ _ due)
               t.too_many),

@@ -1,0 +1,2 @@
+pub mod JobCountLaws
+pub mod JobCountSteps
