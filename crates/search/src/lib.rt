@@ -1,5 +1,7 @@
 // The exact search for the cheapest plan, from the table of one core: the cost and the key of running each set of items on it.
 // It knows nothing of loads or of a capacity.
+#![tactic(auto)]
+
 mod best;
 mod plan;
 
