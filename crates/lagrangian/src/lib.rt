@@ -1,5 +1,7 @@
 // The Lagrangian relaxation of one core whose jobs are due at given ticks: ticks have weights, and by them a tick of a job of each item has
 // a price. It bounds what every set of items costs there, whichever ticks are weighed; and ticks and weights are chosen for a set.
+#![tactic(auto)]
+
 mod choices;
 mod exceeded;
 mod fitting;
