@@ -78,7 +78,7 @@ site_file_read rest
             cores = between_in_range c_passes;
             idle = setting_at_most idle;
             start = setting_at_most start;
-            level_number = rw ls.count (between_in_range l_passes);
+            level_count_bound = rw ls.count (between_in_range l_passes);
             level = λ l below.
                 record {
                   speed = rising_in_range rise.0.speed_rises l below;
@@ -86,7 +86,7 @@ site_file_read rest
                 };
             speed_rises = λ l below. rising_rises rise.0.speed_rises l (suc l) (omega arith) below;
             power_rises = λ l below. rising_rises rise.0.power_rises l (suc l) (omega arith) below;
-            task_number = rw counts (between_in_range n_passes).at_most;
+            task_count_bound = rw counts (between_in_range n_passes).at_most;
             task = dated.task spanned.task;
             span_at_most = rw (same_span dated.same 1) (spanned.span_at_most (omega arith));
           };

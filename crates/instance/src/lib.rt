@@ -1,4 +1,6 @@
 // What the words of a site's file say: an instance, or a refusal.
+#![tactic(auto)]
+
 mod deadlines;
 mod levels;
 mod multiples;
