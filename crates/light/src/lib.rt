@@ -1,4 +1,6 @@
 // Light sites: where core 0 takes what each item would choose alone, that is the best plan, and no table is filled.
+#![tactic(auto)]
+
 mod picks;
 
 ghost use Rattle.std.specs.Prelude.{ℕ, ◌<◌};
