@@ -1,5 +1,5 @@
 -- Counting days from 1 January 2000 on comes to every date of the century.
-use Rattle.std.specs.Prelude.{ℕ, zero, suc, ◌-◌, ◌≤◌, ◌<◌, Bool, true, false, cond, ◌&&◌, List, [], ◌∷◌, ◌⊎◌, ◌≡◌, refl, leb, length, get_or}
+use Rattle.std.specs.Prelude.{ℕ, zero, suc, ◌≤◌, ◌<◌, Bool, true, false, cond, ◌&&◌, List, [], ◌∷◌, ◌⊎◌, ◌≡◌, refl, leb, length, get_or}
 use Rattle.std.proofs.Common.{inl, inr, ap, ◌∙◌, le_of_suc-le-suc, arith, leb-true}
 use Rattle.laws.specs.Below.{lt_or_le}
 use Rattle.laws.specs.Truth.{and_is_true}

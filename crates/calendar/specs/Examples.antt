@@ -7,7 +7,6 @@ use Rattle.calendar.specs.Calendars.{date_words, hours_words, free_after, may_fo
 use Rattle.calendar.specs.Dates.{date, is_leap, month_length, month_index, length_of_month, first_day, day_number}
 use Rattle.calendar.specs.Hours.{ruling, plan_of, days_to_later, in_century, is_question, plan_at_outcome}
 use Rattle.calendar.specs.declared.PlanAt.{PlanAt}
-use Rattle.calendar.specs.declared.PlanAt.TheVariants as PlanAt
 
 -- from 28 February 2024 plan 7 from 8 to 18 o'clock, from 1 March plan 9 all day
 abbrev leap_week : List ℕ

@@ -13,7 +13,6 @@ use Rattle.calendar.specs.ValidCalendars.{no_entry}
 use Rattle.calendar.specs.declared.Date.{Date}
 use Rattle.calendar.specs.declared.Entry.{Entry}
 use Rattle.calendar.specs.declared.PlanAt.{PlanAt}
-use Rattle.calendar.specs.declared.PlanAt.TheVariants as PlanAt
 use Rattle.calendar.specs.declared.PlanDays.{PlanDays}
 
 -- "An entry rules from its date until the day before the next one": the last whose date is not after the day, or `before`

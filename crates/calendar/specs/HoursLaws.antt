@@ -28,7 +28,6 @@ use Rattle.calendar.specs.ValidCalendars.{no_entry}
 use Rattle.calendar.specs.declared.Date.{Date}
 use Rattle.calendar.specs.declared.Entry.{Entry}
 use Rattle.calendar.specs.declared.PlanAt.{PlanAt}
-use Rattle.calendar.specs.declared.PlanAt.TheVariants as PlanAt
 
 ruling_more : (day : ℕ) (before : Entry) (es : List Entry) (e : Entry) →
     ruling day before (es ++ (e ∷ [])) ≡ cond (leb (day_number e.date) day) e (ruling day before es)

@@ -20,7 +20,6 @@ use Rattle.calendar.specs.HoursLaws.{never_open, ruled_with_more}
 use Rattle.calendar.specs.Sections.{ruled_with, GetsDate, GetsHours, GetsEntry, EntriesSoFar, GetsEntries, Asks}
 use Rattle.calendar.specs.declared.Date.{Date}
 use Rattle.calendar.specs.declared.PlanAt.{PlanAt}
-use Rattle.calendar.specs.declared.PlanAt.TheVariants as PlanAt
 use Rattle.calendar.specs.declared.PlanDays.{PlanDays}
 use Rattle.calendar.specs.declared.asking.Asked.{Asked}
 use Rattle.calendar.specs.declared.entries.DateGot.{DateGot}

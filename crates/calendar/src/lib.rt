@@ -1,4 +1,6 @@
 // Opening hours: which plan a store runs on a day and at a minute of it, by a calendar of dated entries.
+#![tactic(auto)]
+
 mod asking;
 mod dates;
 mod entries;
