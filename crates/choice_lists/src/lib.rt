@@ -1,4 +1,6 @@
 // The choices of levels for each set of the first items, as lists.
+#![tactic(auto)]
+
 mod lists;
 mod long;
 mod points;
