@@ -1,5 +1,7 @@
 // Parts of patterns on one core whose jobs are due at given ticks: the items that come first have their level, the others are still to
 // have one. The steps from one part to the next, what is admitted, and what leaves a part out of a search.
+#![tactic(auto)]
+
 mod columns;
 mod demand_rows;
 mod dual_bound;

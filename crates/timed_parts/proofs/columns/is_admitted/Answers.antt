@@ -1,0 +1,6 @@
+-- `is_admitted` tests the ticks of the node.
+use Rattle.timed_parts.specs.ColumnLaws.{unmet_tick_admits}
+use Rattle.timed_parts.proofs.columns.is_admitted.Goals as goal
+
+pub returns : goal.returns
+returns c = λ cost q T stands. unmet_tick_admits c.requires.timed_items stands c.unmet_of.ensures

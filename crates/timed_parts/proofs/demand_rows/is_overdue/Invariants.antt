@@ -1,0 +1,10 @@
+-- `is_overdue` tests one row after the other.
+use Prim.Native.Nat.{◌-◌, ◌≤◌}
+use Rattle.lagrangian.specs.PriceColumns.{most_ticks}
+use Rattle.timed_parts.proofs.demand_rows.is_overdue.Given as goal
+
+abbrev pub invariant-loop-n : goal.invariant-loop-n
+invariant-loop-n l = l.n ≤ most_ticks
+
+abbrev pub decreases-loop-n : goal.decreases-loop-n
+decreases-loop-n l = most_ticks - l.n
