@@ -1,23 +1,29 @@
 #!/usr/bin/env bash
-# Makes target/staticlib/libtimed.a: an entry for tabling, which the archive does not have. Its crate is made under target/, beside
-# links to the crates that it calls, so that it is none of the product's.
+# Makes target/staticlib/libtimed.a: an entry for tabling, which the archive does not have. Its crate is made in a temporary folder, beside
+# copies of the crates that it calls, so that it is none of the product's.
 set -eu
 cd "$(dirname "$0")/.."
-room=target/bench/entries
-mkdir -p "$room/crates/timed/src"
+room=$(mktemp -d)
+trap 'rm -rf "$room"' EXIT
 for crate in crates/*; do
-    ln -sfn "../../../../$crate" "$room/$crate"
+    mkdir -p "$room/$crate"
+    for part in src specs proofs; do
+        [ ! -d "$crate/$part" ] || cp -R "$crate/$part" "$room/$crate"
+    done
 done
-ln -sfn ../.. "$room/target"
 {
     cat crates.txt
-    echo 'timed: refusals tables'
+    echo 'timed staticlib: refusals tables'
 } >"$room/crates.txt"
+mkdir -p "$room/crates/timed/src"
 cat >"$room/crates/timed/src/lib.rt" <<'END'
+// Tabling for a program in C that times it.
+#![tactic(auto)]
+
 use refusals::Verdict;
 use tables::tabulate;
 
-#[no_mangle]
+#[unsafe(no_mangle)]
 pub extern "C" fn timed_tabulate(words: &[u32], plan: &[u32], table: &mut [u8]) -> u64 {
     match tabulate(words, plan, table) {
         Verdict::Accepted => 0,
@@ -25,5 +31,6 @@ pub extern "C" fn timed_tabulate(words: &[u32], plan: &[u32], table: &mut [u8]) 
     }
 }
 END
-cd "$room"
-exec rt staticlib timed
+(cd "$room/crates/timed" && rt lib)
+mkdir -p target/staticlib
+cp "$room/crates/timed/out/libtimed.a" target/staticlib/libtimed.a
