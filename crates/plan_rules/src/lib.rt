@@ -1,4 +1,6 @@
 // What a plan's choices name, what the tasks that it keeps ask of its cores, and which plans may be given.
+#![tactic(auto)]
+
 mod columns;
 mod plan;
 mod quantities;
