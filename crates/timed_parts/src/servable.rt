@@ -44,6 +44,7 @@ pub fn fewest_column(timed: Timed, timings: &[u32]) -> [u32; MOST_ITEMS]
 }
 
 // These ticks where the item is in a set, else none.
+#[tactic(auto, using(crate::proofs::Bits::times_no_bit, crate::proofs::Bits::times_bit))]
 fn ticks_in_set(items: usize, set: usize, item: usize, ticks: u32) -> u32
     requires { (item < items) × (items ≤ most_items) }
     ensures { result ≡ in_set items set item * ticks }
