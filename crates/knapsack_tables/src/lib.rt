@@ -1,4 +1,6 @@
 // The knapsacks of all sets of items on one core, as tables.
+#![tactic(auto)]
+
 mod filling;
 mod front;
 
