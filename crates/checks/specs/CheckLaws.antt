@@ -1,7 +1,8 @@
 -- What the tests for the refusals 9 and 10 say when they accept, and the two checks.
 use Prim.Native.Nat.{ℕ, zero, suc, ◌+◌, ◌*◌, ◌/◌, ◌%◌, ◌<◌}
 use Rattle.std.specs.Prelude.{true, false, not, List, ◌↔◌, ◌⊎◌, ◌≡◌, length, get_or}
-use Rattle.std.proofs.Math.Logic.{inl, inr, Iff·trans}
+use Rattle.std.proofs.Math.Logic.{inl, inr}
+use mathlib.Core.Logic.Iff
 use Rattle.std.proofs.Math.Path.{refl}
 use Rattle.std.proofs.Common.{ap, eqb-true, eq-eqb, ne_eqb}
 use Rattle.std.proofs.Math.Arith.{digits_lt, digits_div}
@@ -104,7 +105,7 @@ slot_check_accepts p periodic plan table = (
 pub slot_check_accepts_exactly_named_slots : (p : Problem) → Periodic p → (plan table : List ℕ) →
     choices_pass p plan ≡ Accepted → (slot_check p plan table ≡ Accepted) ↔ NamedSlots p plan table
 slot_check_accepts_exactly_named_slots p periodic plan table passes =
-    Iff·trans (slot_check_accepts p periodic plan table) (λ both. both.1, λ named. ((choices_pass-iff p plan).0 passes, named))
+    Iff.trans (slot_check_accepts p periodic plan table) (λ both. both.1, λ named. ((choices_pass-iff p plan).0 passes, named))
 
 pub check_accepts : (p : Problem) → Periodic p → (plan table : List ℕ) →
     (check p plan table ≡ Accepted) ↔ (AllowedPlan p plan × NamedSlots p plan table × ServedJobs p plan table)

@@ -2,7 +2,7 @@
 use Prim.Native.Nat.{ℕ, pred, ◌+◌, ◌*◌, ◌-◌, ◌/◌, ◌≤◌, ◌<◌}
 use Rattle.std.specs.Prelude.{Bool, true, ◌&&◌, ◌||◌, ◌↔◌, ◌≡◌, eqb, length, get_or, drop}
 use mathlib.Core.List.{List}
-use Rattle.std.proofs.Math.Logic.{Iff·trans}
+use mathlib.Core.Logic.Iff
 use Rattle.std.proofs.Math.Path.{refl}
 use Rattle.std.proofs.Common.{sym, ap, ◌∙◌, div-lt_iff_lt-mul, le-mul_of_pos_right, le_of_eq, mul-le-mul_right, add-one, arith, eqb-true, eq-eqb, ne_eqb}
 use Rattle.std.proofs.lemmas.Bool.{eqb-false}
@@ -17,7 +17,7 @@ use Rattle.instance.specs.Node.{Problem, level_count, task_count, task_at, no_ta
 use Rattle.instance.specs.Valid.{Valid}
 use Rattle.instance.specs.declared.Instance.{Instance}
 use Rattle.instance.specs.declared.Task.{Task}
-use Rattle.job_counts.specs.JobCountLaws.{right_iff}
+use Rattle.job_counts.proofs.JobCountLaws.{right_iff}
 use Rattle.job_counts.specs.JobCounts.{slots_held, count_job, HasItsTicks}
 use Rattle.job_counts.specs.declared.CountKind.TheVariants.{Right}
 use Rattle.checks.specs.Checks.{job_slots, late_slots, is_served}
@@ -51,7 +51,7 @@ module _ (table : List ℕ) (from number period d : ℕ) where
       ((count_job (take (((from + j * period) + period) - (from + j * period)) (drop (from + j * period) table)) number d t).kind ≡ Right)
       ↔ (job_served_at table from number period d t j ≡ true)
   unfolding job_served_at slots_held
-  right_in_table t j short within = Iff·trans (right_iff part number d t (rw long short)) (served, right)
+  right_in_table t j short within = Iff.trans (right_iff part number d t (rw long short)) (served, right)
     where
       part : List ℕ
       part = take (((from + j * period) + period) - (from + j * period)) (drop (from + j * period) table)
