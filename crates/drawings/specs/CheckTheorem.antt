@@ -1,6 +1,6 @@
 -- The check passes exactly the drawings, and among them the table that a plan gives.
 use Rattle.std.specs.Prelude.{ℕ, ◌<◌, List, ◌↔◌, ◌≡◌}
-use Rattle.std.proofs.Math.Logic.{Iff·trans}
+use mathlib.Core.Logic.Iff
 use Rattle.std.proofs.Common.{sym}
 use Rattle.instance.specs.Node.{Problem}
 use Rattle.refusals.specs.declared.Verdict.TheVariants.{Accepted}
@@ -23,14 +23,14 @@ use Rattle.refusals.specs.VerdictLaws.{and_then-accepts}
 pub check_accepts_exactly_drawings : (p : Problem) → Periodic p → (plan table : List ℕ) →
     (check p plan table ≡ Accepted) ↔ Drawing p plan table
 check_accepts_exactly_drawings p periodic plan table =
-    Iff·trans (check_accepts p periodic plan table) (drawing_of_parts p periodic plan table, parts_of_drawing p periodic plan table)
+    Iff.trans (check_accepts p periodic plan table) (drawing_of_parts p periodic plan table, parts_of_drawing p periodic plan table)
 
 -- "for a plan that 01 does not refuse under 7, the check passes exactly those tables in which each job of a kept task has
 -- exactly its ticks between release and deadline on its core, and every other slot is idle"
 pub check_accepts_exactly_drawn_tables : (p : Problem) → Periodic p → (plan table : List ℕ) →
     choices_pass p plan ≡ Accepted → (check p plan table ≡ Accepted) ↔ DrawnTable p plan table
 check_accepts_exactly_drawn_tables p periodic plan table passes =
-    Iff·trans (check_accepts_exactly_drawings p periodic plan table)
+    Iff.trans (check_accepts_exactly_drawings p periodic plan table)
     (λ d. d.drawn, λ drawn. record { allowed = (choices_pass-iff p plan).0 passes; drawn = drawn })
 
 -- the table of a plan that is refused under neither 7 nor 8 passes the check, where earliest deadline first serves every
