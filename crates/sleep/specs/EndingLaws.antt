@@ -1,5 +1,5 @@
 -- Reckoning sleeps ends as demand 1 has it.
-use Prim.Native.Nat.{ℕ, ◌≤◌, ◌<◌}
+use Prim.Native.Nat.{ℕ, ◌≤◌}
 use mathlib.Core.List.Memᴰ
 use Rattle.std.specs.Prelude.{List, [], ◌∷◌, ◌≡◌, refl, length}
 use Rattle.laws.specs.JoinedLaws.{length-list_of}
@@ -7,7 +7,7 @@ use Rattle.refusals.specs.EndingLaws.{unchanged, serves, turns_down}
 use Rattle.refusals.specs.Endings.{lent, Ends, read_then, needed_for}
 use Rattle.instance.specs.Node.{Problem}
 use Rattle.refusals.specs.RefusalNumbers.{RefusesOnly, accepts, refuses, UnreadOnly, read, unread, and_then-refuses, both_refuse, room_refuses_6}
-use Rattle.refusals.specs.Refusals.{Reading, room, ◌and_then◌}
+use Rattle.refusals.specs.Refusals.{Reading, room}
 use Rattle.refusals.specs.RoomLaws.{room_accepts, front_written}
 use Rattle.instance.specs.SiteFileRefusals.{reading_refuses_2_3_4}
 use Rattle.refusals.specs.declared.Verdict.{Verdict}

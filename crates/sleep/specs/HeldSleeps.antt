@@ -2,7 +2,7 @@
 use Prim.Native.Nat.{ℕ, ◌+◌, ◌*◌, ◌≤◌, ◌<◌}
 use Rattle.std.specs.Prelude.{Bool, List, ◌≡◌, length}
 use Rattle.std.proofs.Math.Path.{refl, ap₂}
-use Rattle.std.proofs.Common.{sym, ◌∙◌, le_of_eq, arith}
+use Rattle.std.proofs.Common.{sym, le_of_eq, arith}
 use Rattle.laws.specs.Lists.{list_of, onto}
 use Rattle.ranges.specs.Limits.{most_idle_power, most_span}
 use Rattle.instance.specs.Held.{problem_in, Sound, held_span}
@@ -10,7 +10,6 @@ use Rattle.instance.specs.Node.{Problem, span}
 use Rattle.instance.specs.SpanLaws.{span_above_zero}
 use Rattle.instance.specs.declared.Instance.{Instance}
 use Rattle.gaps.specs.Sleeping.{row_slept}
-use Rattle.gaps.specs.declared.SleepCosts.{SleepCosts}
 use Rattle.tables.specs.HeldTables.{row_within_table}
 use Rattle.tables.specs.Tables.{table_size}
 use Rattle.sleep.specs.CoreSleeps.{costs_of, core_slept, least_energies, sleep_counts}

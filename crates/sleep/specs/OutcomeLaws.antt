@@ -1,11 +1,11 @@
 -- The outcome of reckoning sleeps for an instance that was read, case by case.
 use Rattle.std.specs.Prelude.{ℕ, ◌≤◌, ◌<◌, List, ◌≡◌, length, get_or}
 use Rattle.std.proofs.Math.Path.{refl}
-use Rattle.std.proofs.Common.{sym, ap, ◌∙◌}
+use Rattle.std.proofs.Common.{ap, ◌∙◌}
 use Rattle.laws.specs.Lists.{onto}
 use Rattle.laws.specs.OntoLaws.{get_d-onto-list_of}
 use Rattle.instance.specs.Node.{Problem}
-use Rattle.refusals.specs.Refusals.{accepted, room, ◌and_then◌}
+use Rattle.refusals.specs.Refusals.{accepted}
 use Rattle.refusals.specs.RoomLaws.{enough_room, no_room}
 use Rattle.refusals.specs.VerdictLaws.{refused_not_accepted, and_then-accepts}
 use Rattle.instance.specs.SiteFile.{problem_of}

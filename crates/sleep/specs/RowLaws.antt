@@ -1,7 +1,7 @@
 -- A row of a table, by itself and as the code lends it, is busy at the same ticks; and it repeats.
-use Rattle.std.specs.Prelude.{ℕ, ◌+◌, ◌*◌, ◌-◌, ◌%◌, ◌≤◌, ◌<◌, Bool, not, List, ◌≡◌, eqb, length, get_or, take, drop}
+use Rattle.std.specs.Prelude.{ℕ, ◌+◌, ◌*◌, ◌-◌, ◌%◌, ◌≤◌, ◌<◌, not, List, ◌≡◌, eqb, length, get_or, take, drop}
 use Rattle.std.proofs.Math.Path.{refl}
-use Rattle.std.proofs.Common.{ap, mod-eq_of_lt, mod-lt}
+use Rattle.std.proofs.Common.{mod-eq_of_lt, mod-lt}
 use Rattle.std.proofs.Math.Nat.{add-mod_left}
 use Rattle.laws.specs.PartLaws.{length_part, get_d_part}
 use Rattle.instance.specs.Node.{Problem, span}

@@ -1,15 +1,15 @@
 -- One pass along a row: what a gap comes to, each slot passed, and what the whole row comes to.
-use Rattle.std.specs.Prelude.{ℕ, ◌+◌, ◌*◌, ◌≤◌, ◌<◌, Bool, cond, ◌&&◌, ◌≡◌, leb}
+use Rattle.std.specs.Prelude.{ℕ, ◌+◌, ◌*◌, ◌≤◌, ◌<◌, Bool, cond, ◌≡◌}
 use Rattle.std.proofs.Math.Bool.{true, false}
 use Rattle.std.proofs.Math.Path.{refl}
-use Rattle.std.proofs.Common.{sym, ap, ap₂, subst, ◌∙◌, le_of_lt, mul-le-mul, add-one, arith, le-leb, lt-ltb, le-ltb}
+use Rattle.std.proofs.Common.{le_of_lt, mul-le-mul, add-one, arith, le-leb, lt-ltb, le-ltb}
 use Rattle.std.proofs.Math.Dec.{ltb}
 use Rattle.std.proofs.lemmas.Bool.{lt-leb}
 use Rattle.ranges.specs.Limits.{most_idle_power, most_span}
-use Rattle.gaps.specs.Gaps.{Repeats, over_gaps}
+use Rattle.gaps.specs.Gaps.{Repeats}
 use Rattle.gaps.specs.SleepLaws.{energy_at_most_awake, no_energy_in_no_gap, no_sleep_in_no_gap}
 use Rattle.gaps.specs.Sleeping.{gap_energy, sleeps_in, energy_in, sleep_in, row_slept}
-use Rattle.gaps.specs.Walks.{Walked, walked_none, walked_past_idle, walked_past_busy, walked_past_first, walk_without_busy_slot, walk_comes_to}
+use Rattle.gaps.specs.Walks.{walked_none, walked_past_idle, walked_past_busy, walked_past_first, walk_without_busy_slot, walk_comes_to}
 use Rattle.gaps.specs.declared.SleepCosts.{SleepCosts}
 use Rattle.gaps.specs.declared.Slept.{Slept}
 use Rattle.sleep.specs.RowWalks.{most_idle_energy, GapReckoned, Bounded, Passes, WalkedTo}

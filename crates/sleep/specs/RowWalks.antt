@@ -1,5 +1,5 @@
 -- What the code holds of one pass along a row.
-use Rattle.std.specs.Prelude.{ℕ, suc, ◌+◌, ◌*◌, ◌≤◌, ◌<◌, Bool, ◌≡◌}
+use Rattle.std.specs.Prelude.{ℕ, ◌+◌, ◌*◌, ◌≤◌, ◌<◌, Bool, ◌≡◌}
 use Rattle.ranges.specs.Limits.{most_idle_power, most_span}
 use Rattle.gaps.specs.Sleeping.{energy_in, sleep_in}
 use Rattle.gaps.specs.Walks.{Walked}

@@ -1,8 +1,7 @@
 -- What the test of the switching words answers.
-use Rattle.std.specs.Prelude.{ℕ, ◌≤◌, ◌<◌, List, [], ◌∷◌, ◌≡◌, leb}
+use Rattle.std.specs.Prelude.{ℕ, ◌≤◌, ◌<◌, [], ◌∷◌, ◌≡◌, leb}
 use mathlib.Core.List.Memᴰ
 use Rattle.std.proofs.Math.Path.{refl}
-use Rattle.std.proofs.Common.{arith}
 use borrow.Author.Tests.{le-leb, lt-leb}
 use Rattle.ranges.specs.Limits.{most_switching_energy, most_switching_time}
 use Rattle.refusals.specs.RefusalNumbers.{RefusesOnly, both_refuse, refuses_unless, accepts}
