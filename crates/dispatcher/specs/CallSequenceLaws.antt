@@ -18,7 +18,7 @@ use Rattle.instance.specs.SiteFileLaws.{accepted_is_valid}
 use Rattle.instance.specs.SpanLaws.{span_above_zero}
 use Rattle.plan_rules.specs.CoreOfPlan.{core_tasks}
 use Rattle.plan_rules.specs.Plans.{plan_passes}
-use Rattle.refusals.specs.Refusals.{accepted, ◌and_then◌}
+use Rattle.refusals.specs.Refusals.{accepted}
 use Rattle.refusals.specs.VerdictLaws.{and_then-accepts, refused_not_accepted}
 use Rattle.refusals.specs.declared.Refusal.TheVariants.{CoreOrState}
 use Rattle.refusals.specs.declared.Verdict.{Verdict}
