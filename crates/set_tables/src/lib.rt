@@ -1,5 +1,7 @@
 // Tables with an entry for each set of items: the entries are raised by a relaxation, and are none where a set is not served. And the sets
 // that the cores run of a plan.
+#![tactic(auto)]
+
 mod dropping;
 mod lifting;
 mod own;
