@@ -11,7 +11,6 @@ use Rattle.plan_rules.specs.Plans.{choices_pass, cores_fit, plan_passes}
 use Rattle.prices.specs.Prices.{price_of}
 use Rattle.prices.specs.declared.amounts.Price.{Price}
 use Rattle.prices.specs.declared.amounts.Priced.{Priced}
-use Rattle.prices.specs.declared.amounts.Priced.TheVariants as Priced
 
 -- "Pricing and tabling test 7 and 8."
 abbrev pub priced_if : Verdict → Price → Priced

@@ -1,4 +1,6 @@
 // What a plan costs: energy, penalty and cost.
+#![tactic(auto)]
+
 mod amounts;
 mod pricing;
 
