@@ -15,6 +15,7 @@ pub struct Worth {
 }
 
 // The cheaper of the two, of equal costs the one with the smaller key, and the first where both are equal.
+#[tactic(auto, unfolding(crate::specs::Worths::lesser_worth, crate::specs::Worths::is_first))]
 pub fn lesser(a: Worth, b: Worth) -> Worth
     ensures { result ≡ lesser_worth a b }
 {
