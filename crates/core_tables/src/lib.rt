@@ -26,6 +26,7 @@ pub fn fill_sizes(items: usize, sizes: &mut [u64])
 }
 
 // The cost of a set of so many items that owes the idle energy of a whole span once.
+#[tactic(auto, using(crate::specs::ChargedTables::charged_none, crate::specs::ChargedTables::charged_real, crate::specs::ChargedTables::taken_once_less))]
 fn charged_cost(whole: u64, count: u64, cost: u64) -> u64
     requires le_count { 1 ≤ count }
     requires count_bound { cost < no_cost → surplus whole count ≤ cost }
