@@ -15,7 +15,6 @@ use Rattle.light.specs.Light.{OfferFits}
 use Rattle.search.specs.Found.{Searched, BestFound}
 use Rattle.search.specs.FoundLaws.{search_is_best}
 use Rattle.search.specs.Limits.{SearchReady}
-use Rattle.search.specs.declared.Found.TheVariants as Found
 use Rattle.search.specs.declared.Found.{Found}
 use Rattle.search.specs.declared.Shape.{Shape}
 use Rattle.values.specs.BestKeys.{BestKey}

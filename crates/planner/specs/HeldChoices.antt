@@ -16,7 +16,6 @@ use Rattle.core_tables.specs.ChargedTables.{ChargeReady, ChargedBelow}
 use Rattle.partition.specs.Tables.{most_sets}
 use Rattle.search.specs.Found.{Searched}
 use Rattle.search.specs.Limits.{SearchReady}
-use Rattle.search.specs.declared.Found.TheVariants as Found
 use Rattle.search.specs.declared.Found.{Found}
 use Rattle.search.specs.declared.Shape.{Shape}
 use Rattle.values.specs.BestKeys.{BestKey}

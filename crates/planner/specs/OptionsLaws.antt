@@ -13,7 +13,6 @@ use Rattle.refusals.specs.declared.Verdict.TheVariants.{Accepted}
 use Rattle.plan_rules.specs.AllowedPlanLaws.{choices_pass-iff}
 use Rattle.plan_rules.specs.AllowedPlans.{AllowedPlan}
 use Rattle.plan_rules.specs.Plans.{most_choice, choices_pass, fits, cores_fit, plan_passes}
-use Rattle.plan_rules.specs.Quantities
 use Rattle.plan_rules.specs.Quantities.{choice_at}
 use Rattle.refusals.specs.VerdictLaws.{and_then-accepts, none_refused}
 use Rattle.assignment.specs.Assignment.{Item, core_pattern, ChoiceAllowed, ChoicesAllowed, Allowed}

@@ -13,7 +13,6 @@ use Rattle.refusals.specs.declared.Verdict.TheVariants.{Accepted, Refused}
 use Rattle.prices.specs.Prices.{price_of}
 use Rattle.tables.specs.Tables.{table_of, table_size}
 use Rattle.prices.specs.declared.amounts.Priced.{Priced}
-use Rattle.prices.specs.declared.amounts.Priced.TheVariants as Priced
 use Rattle.planner.specs.Planning.{best_plan}
 
 -- "Planning writes that plan and its table, and returns energy, penalty and cost."

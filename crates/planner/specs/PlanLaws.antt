@@ -7,15 +7,12 @@ use Rattle.instance.specs.Node.{Problem, task_count}
 use Rattle.instance.specs.SiteFile.{problem_of}
 use Rattle.refusals.specs.Refusals.{Reading, accepted}
 use Rattle.refusals.specs.RoomLaws.{enough_room, no_room, front_of_onto}
-use Rattle.refusals.specs.declared.Refusal.TheVariants as Refusal
 use Rattle.refusals.specs.declared.Refusal.{Refusal}
 use Rattle.refusals.specs.declared.Verdict.TheVariants.{Accepted}
 use Rattle.plan_rules.specs.Plans.{plan_passes}
 use Rattle.prices.specs.Prices.{price_of}
 use Rattle.tables.specs.Tables.{table_of, table_size}
-use Rattle.prices.specs.declared.amounts.Priced.TheVariants as Priced
 use Rattle.prices.specs.declared.amounts.Priced.{Priced}
-use Rattle.search.specs.declared.Found.TheVariants as Found
 use Rattle.search.specs.declared.Found.{Found}
 use Rattle.planner.specs.BestChoices.{found_of, chosen_onto}
 use Rattle.planner.specs.BestPlanLaws.{best_plan_passes}

@@ -13,7 +13,6 @@ use Rattle.prices.specs.Prices.{cost, price_of}
 use Rattle.drawings.specs.RepeatedTables.{ServesForEver}
 use Rattle.tables.specs.Tables.{table_of, table_size}
 use Rattle.prices.specs.declared.amounts.Priced.{Priced}
-use Rattle.prices.specs.declared.amounts.Priced.TheVariants as Priced
 use Rattle.assignment.specs.Assignment.{Before}
 use Rattle.planner.specs.Endings.{PlanningEnds}
 

@@ -1,6 +1,6 @@
 -- The outcome of planning keeps every promise of `Planned`.
 use Rattle.std.specs.Prelude.{ℕ, List, ◌↔◌, ◌≡◌, refl, take}
-use Rattle.std.proofs.Math.Logic.{Iff·trans}
+use mathlib.Core.Logic.Iff
 use Rattle.std.proofs.Math.Option.{Option, none, some}
 use Rattle.std.proofs.Math.Path.{ap}
 use Rattle.std.proofs.Common.{◌∙◌, arith}
@@ -19,7 +19,6 @@ use Rattle.prices.specs.Prices.{price_of}
 use Rattle.tables.specs.TableLaws.{length-table_of}
 use Rattle.tables.specs.Tables.{table_of, table_size}
 use Rattle.prices.specs.declared.amounts.Priced.{Priced}
-use Rattle.prices.specs.declared.amounts.Priced.TheVariants as Priced
 use Rattle.planner.specs.BestDrawingLaws.{no_plan_iff_no_drawing, answered_is_best_drawing}
 use Rattle.planner.specs.EndingLaws.{best_plan_length, planning_ends}
 use Rattle.planner.specs.Outcomes.{PlanOutcome, plan_answered, plan_where, plan_outcome_of, plan_outcome}
@@ -41,7 +40,7 @@ module _ (p : Problem) (periodic : Periodic p) (plan table : List ℕ) where
       Optimal p o.answer (take (task_count p) o.plan) (take (table_size p) o.table)
   answered_is_optimal =
       record {
-        no_plan = Iff·trans (answers_no_plan p (best_plan p) plan table) (no_plan_iff_no_drawing p periodic);
+        no_plan = Iff.trans (answers_no_plan p (best_plan p) plan table) (no_plan_iff_no_drawing p periodic);
         otherwise = go (best_plan p) refl;
       }
     where

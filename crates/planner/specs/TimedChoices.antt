@@ -25,7 +25,6 @@ use Rattle.raising.specs.TimedSites.{core_of, site_options}
 use Rattle.raising.specs.declared.Site.{Site}
 use Rattle.search.specs.Found.{BestFound}
 use Rattle.search.specs.declared.Found.{Found}
-use Rattle.search.specs.declared.Found.TheVariants as Found
 use Rattle.lagrangian.specs.TimedCores.{timed_options, timing_at, timing_width}
 use Rattle.planner.specs.BestChoiceLaws.{Chosen, found_is_chosen}
 use Rattle.planner.specs.OfferedBounds.{idle_span_at_most, offered_affordable, offered_refusal_at_most}
