@@ -11,7 +11,6 @@ use Rattle.plan_rules.specs.Quantities.{jobs}
 use Rattle.prices.specs.Prices.{cost}
 use Rattle.prices.specs.declared.amounts.Price.{Price}
 use Rattle.prices.specs.declared.amounts.Priced.{Priced}
-use Rattle.prices.specs.declared.amounts.Priced.TheVariants as Priced
 use Rattle.drawings.specs.Drawings.{Drawing}
 use Rattle.planner.specs.Planned.{NoDrawing}
 

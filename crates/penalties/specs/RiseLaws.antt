@@ -1,6 +1,6 @@
 -- Where the least cost rises by at most so much, so does what planning answers, and so does the cost of anyone's cheapest drawing.
 use Rattle.std.specs.Prelude.{ℕ, ◌+◌, ◌≤◌, List, ◌↔◌, ◌≡◌, refl, length}
-use Rattle.std.proofs.Math.Logic.{Iff·trans, Iff·symm}
+use mathlib.Core.Logic.Iff
 use Rattle.std.proofs.Math.Option.{Option, none}
 use Rattle.std.proofs.Common.{arith}
 use Rattle.instance.specs.Node.{Problem, task_count}
@@ -88,8 +88,8 @@ module _ (low high : Problem) (most : ℕ) where
       drawings_rise =
           record {
             both_or_neither =
-                Iff·trans (Iff·symm (no_plan_iff_no_drawing low low_periodic))
-                (Iff·trans (plans_or_none rise) (no_plan_iff_no_drawing high high_periodic));
+                Iff.trans (Iff.symm (no_plan_iff_no_drawing low low_periodic))
+                (Iff.trans (plans_or_none rise) (no_plan_iff_no_drawing high high_periodic));
             none_cheaper = none_cheaper;
             one_within = one_within;
           }
