@@ -1,4 +1,6 @@
 // What an instance offers to the search: of each task its load and its cost at each level, what refusing it costs, and when its jobs are due.
+#![tactic(auto)]
+
 mod options;
 mod timings;
 
