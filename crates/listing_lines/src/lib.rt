@@ -1,4 +1,6 @@
 // The lines of a listing, put into a lent buffer: of refusals, prices, tasks and cores.
+#![tactic(auto)]
+
 mod bytes;
 mod cores;
 mod lines;

@@ -1,0 +1,33 @@
+use Rattle.listing_lines.specs.Placing.{all_left, room_left, ◌then◌, room_for_first}
+use Rattle.listing_lines.specs.Lines.{bytes, ended, line}
+use Rattle.listing_lines.specs.ListingLines.{kept_line}
+use Rattle.listing_lines.proofs.lines.put_kept.Goals as goal
+
+pub put_named-second-requires : goal.put_named-second-requires
+unfolding bytes ended line kept_line
+put_named-second-requires c = room_for_first _ _ c.requires
+
+pub put_named-third-requires : goal.put_named-third-requires
+unfolding bytes ended line kept_line
+put_named-third-requires c =
+    room_left _ (all_left c.requires then c.put_named-second.ensures)
+
+pub put_named-fourth-requires : goal.put_named-fourth-requires
+unfolding bytes ended line kept_line
+put_named-fourth-requires c =
+    room_left _ (all_left c.requires then c.put_named-second.ensures then c.put_named-third.ensures)
+
+pub put_named-end-requires : goal.put_named-end-requires
+unfolding bytes ended line kept_line
+put_named-end-requires c =
+    room_left _ (all_left c.requires then c.put_named-second.ensures then c.put_named-third.ensures then c.put_named-fourth.ensures)
+
+pub put_byte-requires : goal.put_byte-requires
+unfolding bytes ended line kept_line
+put_byte-requires c =
+    (all_left c.requires then c.put_named-second.ensures then c.put_named-third.ensures then c.put_named-fourth.ensures then c.put_named-end.ensures).room
+
+pub returns : goal.returns
+unfolding bytes ended line kept_line
+returns c =
+    (all_left c.requires then c.put_named-second.ensures then c.put_named-third.ensures then c.put_named-fourth.ensures then c.put_named-end.ensures).whole c.put_byte.ensures
