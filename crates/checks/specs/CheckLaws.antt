@@ -1,6 +1,6 @@
 -- What the tests for the refusals 9 and 10 say when they accept, and the two checks.
 use Prim.Native.Nat.{ℕ, zero, suc, ◌+◌, ◌*◌, ◌/◌, ◌%◌, ◌<◌}
-use Rattle.std.specs.Prelude.{true, false, not, List, ◌↔◌, ◌⊎◌, ◌≡◌, length, get_or}
+use Rattle.std.specs.Prelude.{true, false, not, List, ◌↔◌, ◌⊎◌, ◌≡◌, get_or}
 use Rattle.std.proofs.Math.Logic.{inl, inr}
 use mathlib.Core.Logic.Iff
 use Rattle.std.proofs.Math.Path.{refl}

@@ -1,4 +1,6 @@
 // The checks of a given table: of its slots alone, and of its slots and jobs.
+#![tactic(auto)]
+
 mod check;
 mod jobs;
 mod slots;
