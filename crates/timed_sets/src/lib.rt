@@ -1,5 +1,7 @@
 // The least value of one set of items on a core whose jobs are due at given ticks: depth first over the items of the set and their
 // levels. Items are offered at what they cost alone.
+#![tactic(auto)]
+
 mod bounds;
 mod given;
 mod order;

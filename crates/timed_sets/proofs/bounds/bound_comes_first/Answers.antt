@@ -1,0 +1,51 @@
+use native.Mathlib.Omega.{arith}
+use Rattle.lagrangian.specs.FrontKeyLaws.{power_above_0}
+use Rattle.timed_sets.specs.PromisingLaws.{rest_below, bound_cost_fits, bound_key_fits, none_to_come, bound_not_first}
+use Rattle.timed_sets.proofs.bounds.bound_comes_first.Goals as goal
+
+pub offset_bounds-lowcosts-rest : goal.offset_bounds-lowcosts-rest
+offset_bounds-lowcosts-rest c =
+    let pre = c.requires in omega (arith, rest_below pre.4 pre.5, pre.4.small.costs_for_all)
+
+pub bounds-lowcosts-rest : goal.bounds-lowcosts-rest
+bounds-lowcosts-rest c =
+    let pre = c.requires in omega (arith, rest_below pre.4 pre.5, pre.4.small.costs_for_all)
+
+pub returns-then-low-ge-NO_COST : goal.returns-then-low-ge-NO_COST
+returns-then-low-ge-NO_COST c =
+    λ timings cost q T table stands no. none_to_come table stands (omega (arith, c.if-low-ge-NO_COST.true))
+
+pub overflow_add-bound : goal.overflow_add-bound
+overflow_add-bound c =
+    let pre = c.requires in record { fits = bound_cost_fits pre.4 pre.5 _ (omega (arith, c.if-low-ge-NO_COST.false)) }
+
+pub overflow_sub-timed : goal.overflow_sub-timed
+overflow_sub-timed c =
+    let pre = c.requires in omega (arith, pre.5.behind)
+
+pub keys_of-requires : goal.keys_of-requires
+keys_of-requires c =
+    let pre = c.requires in omega (arith, pre.4.few_items)
+
+pub overflow_mul-bound : goal.overflow_mul-bound
+overflow_mul-bound c =
+    let pre = c.requires in
+    record { fits = (bound_key_fits pre.4 pre.5 _ 0 c.keys_of.ensures (power_above_0 _)).0 }
+
+pub offset_bounds-lowkeys-rest : goal.offset_bounds-lowkeys-rest
+offset_bounds-lowkeys-rest c =
+    let pre = c.requires in omega (arith, rest_below pre.4 pre.5, pre.4.small.keys_for_all)
+
+pub bounds-lowkeys-rest : goal.bounds-lowkeys-rest
+bounds-lowkeys-rest c =
+    let pre = c.requires in omega (arith, rest_below pre.4 pre.5, pre.4.small.keys_for_all)
+
+pub overflow_add-bound-2 : goal.overflow_add-bound-2
+overflow_add-bound-2 c =
+    let pre = c.requires in
+    record { fits = (bound_key_fits pre.4 pre.5 _ _ c.keys_of.ensures (pre.4.small.key_bound_lem _ (rest_below pre.4 pre.5))).1 }
+
+pub returns : goal.returns
+returns c =
+    λ timings cost q T table stands no.
+    bound_not_first table stands (omega (arith, c.if-low-ge-NO_COST.false)) (rw c.keys_of.ensures at (c.comes_first.ensures no))
