@@ -17,7 +17,6 @@ use Rattle.tables.specs.TableLaws.{length-table_of}
 use Rattle.tables.specs.Tables.{table_of, table_size}
 use Rattle.prices.specs.declared.amounts.Price.{Price}
 use Rattle.prices.specs.declared.amounts.Priced.{Priced}
-use Rattle.prices.specs.declared.amounts.Priced.TheVariants as Priced
 use Rattle.planner.specs.EndingLaws.{best_plan_length}
 use Rattle.planner.specs.Endings.{plan_found}
 use Rattle.planner.specs.Outcomes.{plan_answered, plan_outcome}

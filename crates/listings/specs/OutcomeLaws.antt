@@ -21,7 +21,6 @@ use Rattle.planner.specs.Planning.{best_plan}
 use Rattle.listing_lines.specs.ListingLines.{refusal_line}
 use Rattle.listing_lines.specs.Placing.{Room, Put, put_from_start}
 use Rattle.listing_lines.specs.declared.PlanListed.{PlanListed}
-use Rattle.listing_lines.specs.declared.PlanListed.TheVariants as PlanListed
 use Rattle.listings.specs.Listing.{most_listing, listing_of_plan, listing_of_problem, listing_of_words, listing_of}
 use Rattle.listings.specs.ListingLength.{listing_at_most}
 use Rattle.listings.specs.Outcomes.{ListOutcome, list_given, list_where, list_tests, problem_list_outcome, words_list_outcome, list_outcome}

@@ -11,7 +11,6 @@ use Rattle.instance.specs.SiteFile.{problem_of}
 use Rattle.planner.specs.Endings.{plan_found}
 use Rattle.planner.specs.Planning.{best_plan}
 use Rattle.listing_lines.specs.declared.PlanListed.{PlanListed}
-use Rattle.listing_lines.specs.declared.PlanListed.TheVariants as PlanListed
 use Rattle.listings.specs.Listing.{most_listing, listing_of_plan, listing_of_problem, listing_of}
 
 pub record ListOutcome : Type 0 where
