@@ -5,11 +5,8 @@ use Rattle.refusals.specs.declared.Verdict.{Verdict}
 use Rattle.refusals.specs.declared.Verdict.TheVariants.{Accepted, Refused}
 use Rattle.instance.specs.Node.{Problem, level_count, task_count, span}
 use Rattle.calendar.specs.declared.PlanAt.{PlanAt}
-use Rattle.calendar.specs.declared.PlanAt.TheVariants as PlanAt
 use Rattle.prices.specs.declared.amounts.Priced.{Priced}
-use Rattle.prices.specs.declared.amounts.Priced.TheVariants as Priced
 use Rattle.listing_lines.specs.declared.PlanListed.{PlanListed}
-use Rattle.listing_lines.specs.declared.PlanListed.TheVariants as PlanListed
 use Rattle.answers.specs.declared.Checked.{Checked}
 use Rattle.answers.specs.declared.Listed.{Listed}
 use Rattle.answers.specs.declared.Planned.{Planned}
