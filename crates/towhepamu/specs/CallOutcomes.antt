@@ -7,11 +7,10 @@ use Rattle.text.specs.Text.{words_of}
 use Rattle.instance.specs.Node.{Problem}
 use Rattle.instance.specs.SiteFile.{problem_of}
 use Rattle.refusals.specs.declared.Verdict.{Verdict}
-use Rattle.refusals.specs.declared.Verdict.TheVariants.{Accepted, Refused}
+use Rattle.refusals.specs.declared.Verdict.TheVariants.{Refused}
 use Rattle.calendar.specs.Hours.{plan_at_outcome}
 use Rattle.calendar.specs.declared.Date.{Date}
 use Rattle.calendar.specs.declared.PlanAt.{PlanAt}
-use Rattle.calendar.specs.declared.PlanAt.TheVariants as PlanAt
 use Rattle.checks.specs.Outcomes.{slot_check_outcome, check_outcome}
 use Rattle.sleep.specs.Outcomes.{SleepOutcome, sleep_outcome}
 use Rattle.dispatcher.specs.Outcomes.{dispatch_outcome}

@@ -20,7 +20,6 @@ use Rattle.instance.specs.ReadLaws.{HoldsProblemOf}
 use Rattle.tables.specs.Tables.{table_size}
 use Rattle.prices.specs.declared.amounts.Price.{Price}
 use Rattle.prices.specs.declared.amounts.Priced.{Priced}
-use Rattle.prices.specs.declared.amounts.Priced.TheVariants as Priced
 use Rattle.planner.specs.EndingLaws.{best_plan_length}
 use Rattle.planner.specs.Outcomes.{PlanOutcome, plan_refused, plan_answered, plan_where, plan_outcome}
 use Rattle.planner.specs.PlannedLaws.{of_reading, where_room}
