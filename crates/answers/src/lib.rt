@@ -1,4 +1,6 @@
 // What the calls of a program in C return: the paper's numbers.
+#![tactic(auto)]
+
 ghost use Rattle.std.specs.Prelude.{◌≡◌};
 ghost use Rattle.instance.specs.Held.{Sound, problem_in};
 ghost use Rattle.refusals.specs.Refusals.{refused, accepted};
