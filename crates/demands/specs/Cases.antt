@@ -23,7 +23,6 @@ use Rattle.plan_rules.specs.CoreOfPlan.{core_tasks}
 use Rattle.tables.specs.Tables.{table_size, table_of}
 use Rattle.prices.specs.declared.amounts.Price.{Price}
 use Rattle.prices.specs.declared.amounts.Priced.{Priced}
-use Rattle.prices.specs.declared.amounts.Priced.TheVariants as Priced
 use Rattle.planner.specs.Outcomes.{PlanOutcome, plan_outcome}
 use Rattle.planner.specs.Planning.{choice_lists, is_allowed, better, first_cheapest, best_plan}
 

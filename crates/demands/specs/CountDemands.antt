@@ -2,7 +2,7 @@
 -- core's row from its release to the next, of which `window` stand before its due tick. Its words are defined in `JobCounts` of
 -- crate `job_counts`.
 use Rattle.std.specs.Prelude.{ℕ, ◌≤◌, List, [], ◌∷◌, map, ◌↔◌, ◌≡◌, refl, length, take}
-use Rattle.job_counts.specs.JobCountLaws.{right_iff, over_iff, over_in_front_iff_read, reads_all_unless_over}
+use Rattle.job_counts.proofs.JobCountLaws.{right_iff, over_iff, over_in_front_iff_read, reads_all_unless_over}
 use Rattle.job_counts.specs.JobCounts.{kind_number, count_job, TooMany, HasItsTicks}
 use Rattle.job_counts.specs.declared.CountKind.TheVariants.{Short, Right, Over}
 

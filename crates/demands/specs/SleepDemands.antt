@@ -1,14 +1,13 @@
 -- Document 02 (b), "Sleeping through gaps": what is promised of the two numbers that a core answers, for a table that passes the
 -- check. Gaps and choices of gaps are defined in crate `gaps`, the rows in crate `sleep`.
 use Rattle.std.specs.Prelude.{ℕ, ◌+◌, ◌*◌, ◌≤◌, ◌<◌, Bool, true, false, List, ◌↔◌, ◌≡◌, refl, get_or}
-use Rattle.std.proofs.Common.{sym, ap, ◌∙◌, arith}
-use Rattle.laws.specs.OntoLaws.{get_d-onto-list_of}
+use Rattle.std.proofs.Common.{arith}
 use Rattle.laws.specs.Sums.{sum}
 use Rattle.instance.specs.Node.{Problem, span}
 use Rattle.instance.specs.SiteFile.{problem_of}
 use Rattle.instance.specs.SiteFileLaws.{accepted_is_valid}
 use Rattle.instance.specs.Valid.{Valid}
-use Rattle.refusals.specs.Refusals.{accepted, ◌and_then◌}
+use Rattle.refusals.specs.Refusals.{accepted}
 use Rattle.refusals.specs.declared.Verdict.TheVariants.{Accepted}
 use Rattle.checks.specs.Checks.{check}
 use Rattle.plan_rules.specs.Quantities.{core_load}
@@ -20,7 +19,7 @@ use Rattle.gaps.specs.SleepLaws.{none_finds_less, sleeps_where_worth, sleeps_whe
 use Rattle.gaps.specs.Sleeping.{SleepChoice, chosen_energy, chosen_sleeps}
 use Rattle.gaps.specs.declared.SleepCosts.{SleepCosts}
 use Rattle.sleep.specs.CoreGapLaws.{idle_slots_are_rest, off_core_is_idle, awake_core_is_busy, awake_energy_is_idle_energy}
-use Rattle.sleep.specs.CoreSleeps.{costs_of, core_slept, least_energies, sleep_counts}
+use Rattle.sleep.specs.CoreSleeps.{costs_of, core_slept}
 use Rattle.sleep.specs.OutcomeLaws.{answered_sleep}
 use Rattle.sleep.specs.Outcomes.{sleep_outcome}
 use Rattle.sleep.specs.RowLaws.{table_row_repeats}

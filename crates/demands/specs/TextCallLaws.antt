@@ -26,7 +26,6 @@ use Rattle.tables.specs.Periods.{valid_is_periodic}
 use Rattle.plan_rules.specs.Plans.{choices_pass}
 use Rattle.tables.specs.Tables.{table_size}
 use Rattle.prices.specs.declared.amounts.Priced.{Priced}
-use Rattle.prices.specs.declared.amounts.Priced.TheVariants as Priced
 use Rattle.planner.specs.BestDrawingLaws.{answered_is_best_drawing}
 use Rattle.planner.specs.EndingLaws.{planning_ends}
 use Rattle.planner.specs.Endings.{plan_found}

@@ -14,15 +14,12 @@ use Rattle.calendar.specs.Calendars.{calendar_of}
 use Rattle.calendar.specs.Hours.{is_question, plan_at_verdict}
 use Rattle.calendar.specs.declared.Date.{Date}
 use Rattle.calendar.specs.declared.PlanAt.{PlanAt}
-use Rattle.calendar.specs.declared.PlanAt.TheVariants as PlanAt
 use Rattle.checks.specs.Checks.{slots_pass, jobs_pass}
 use Rattle.prices.specs.Outcomes.{price_verdict}
 use Rattle.plan_rules.specs.Plans.{choices_pass}
 use Rattle.prices.specs.Prices.{price_of}
 use Rattle.tables.specs.Tables.{table_of, table_size}
-use Rattle.prices.specs.declared.amounts.Price.{Price}
 use Rattle.prices.specs.declared.amounts.Priced.{Priced}
-use Rattle.prices.specs.declared.amounts.Priced.TheVariants as Priced
 use Rattle.planner.specs.Endings.{plan_found}
 use Rattle.planner.specs.Planned.{NoDrawing, BestDrawing}
 use Rattle.planner.specs.Planning.{best_plan}
@@ -43,7 +40,6 @@ use Rattle.towhepamu.specs.CallOutcomes.{text_dispatch_outcome}
 use Rattle.towhepamu.specs.declared.nodes.PreparedNode.{PreparedNode}
 use Rattle.listing_lines.specs.ListingLines.{refusal_line, plan_lines}
 use Rattle.listing_lines.specs.declared.PlanListed.{PlanListed}
-use Rattle.listing_lines.specs.declared.PlanListed.TheVariants as PlanListed
 use Rattle.listings.specs.Listing.{most_listing, listing_of}
 use Rattle.listings.specs.Outcomes.{list_verdict}
 

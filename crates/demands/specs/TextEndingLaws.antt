@@ -17,7 +17,6 @@ use Rattle.calendar.specs.Hours.{is_question, plan_at_verdict}
 use Rattle.calendar.specs.HoursLaws.{asking_ends}
 use Rattle.calendar.specs.declared.Date.{Date}
 use Rattle.calendar.specs.declared.PlanAt.{PlanAt}
-use Rattle.calendar.specs.declared.PlanAt.TheVariants as PlanAt
 use Rattle.instance.specs.Node.{Problem}
 use Rattle.instance.specs.SiteFile.{problem_of}
 use Rattle.instance.specs.SiteFileRefusals.{reading_refuses_2_3_4}
@@ -27,7 +26,6 @@ use Rattle.refusals.specs.VerdictLaws.{and_then-accepts, refused_not_accepted}
 use Rattle.planner.specs.Endings.{plan_found}
 use Rattle.planner.specs.Planning.{best_plan}
 use Rattle.listing_lines.specs.declared.PlanListed.{PlanListed}
-use Rattle.listing_lines.specs.declared.PlanListed.TheVariants as PlanListed
 use Rattle.listings.specs.Listing.{most_listing, listing_of}
 use Rattle.listings.specs.ListingLength.{listing_at_most}
 use Rattle.listings.specs.Outcomes.{list_where, list_tests, list_outcome, list_verdict}
