@@ -1,4 +1,6 @@
 // A dispatcher on the node: what a core runs, tick by tick, without a stored table.
+#![tactic(auto)]
+
 mod columns;
 mod dispatching;
 mod in_place;

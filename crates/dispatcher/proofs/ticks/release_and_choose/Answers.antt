@@ -1,0 +1,105 @@
+use Prim.Native.Nat.{ℕ, suc, ◌<◌}
+use mathlib.Core.List.{[]}
+use mathlib.Core.Bool.{Bool, cond, ◌&&◌}
+use mathlib.Core.Path.{◌≡◌, refl, ap, ap₂, ◌∙◌}
+use native.Mathlib.Omega.{arith}
+use borrow.Author.Rules.{rules}
+use lib.Dec.{eqb}
+use lib.ListN.{length, get_or}
+use Rattle.ranges.specs.Limits.{most_tasks}
+use Rattle.dispatch.specs.Calls.{after_end}
+use Rattle.dispatch.specs.Columns.{column_tasks}
+use Rattle.dispatch.specs.Rows.{after_release, due_at, earliest}
+use Rattle.dispatcher.specs.ColumnLaws.{column_below_number}
+use Rattle.dispatcher.specs.PickLaws.{picks_next}
+use Rattle.dispatcher.specs.Places.{place_of, none_placed, place_within, not_yet_placed, next_placed}
+use Rattle.dispatcher.specs.Ticks.{ready_in}
+use Rattle.dispatcher.proofs.ticks.release_and_choose.Goals as goal
+use Rattle.dispatcher.proofs.ticks.release_and_choose.Goals.{After-ready_ticks-ready, In-loop-j}
+
+place_below : (c : goal.In-loop-j) → place_of c.args.numbers.now c.loop-j.j < most_tasks
+place_below c = place_within _ c.requires.numbers_rise _ c.loop-j-test.true
+
+pub loop-j-init : goal.loop-j-init
+unfolding earliest
+loop-j-init c =
+    (omega arith, none_placed _ _ _ (search rules), record { number = refl; is_due = λ some. absurd (some refl) })
+
+pub overflow_cast-number : goal.overflow_cast-number
+overflow_cast-number c = omega (arith, c.type_inv.numbers c.loop-j.j)
+
+pub overflow_cast-place : goal.overflow_cast-place
+overflow_cast-place c = omega (arith, c.type_inv.numbers c.loop-j.j)
+
+pub overflow_sub-place : goal.overflow_sub-place
+overflow_sub-place c = omega (arith, c.requires.numbers_rise.above_0 _ c.loop-j-test.true)
+
+pub bounds-periods-j : goal.bounds-periods-j
+bounds-periods-j c = omega (arith, c.requires.one_period_each, c.loop-j-test.true)
+
+pub is_released-released-requires : goal.is_released-released-requires
+is_released-released-requires c = c.requires.period_above_0 _ c.loop-j-test.true
+
+pub bounds-ticks-j : goal.bounds-ticks-j
+bounds-ticks-j c = omega (arith, c.requires.one_job_each, c.loop-j-test.true)
+
+pub offset_bounds-after-place : goal.offset_bounds-after-place
+offset_bounds-after-place c = omega (arith, place_below (goal.at.offset_bounds-after-place c).In-loop-j)
+
+pub bounds-after-place : goal.bounds-after-place
+bounds-after-place c = place_below (goal.at.bounds-after-place c).In-loop-j
+
+pub offset_bounds-after-place-in-loop-j : goal.offset_bounds-after-place-in-loop-j
+offset_bounds-after-place-in-loop-j c = omega (arith, place_below (goal.at.offset_bounds-after-place-in-loop-j c).In-loop-j)
+
+pub bounds-after-place-in-loop-j : goal.bounds-after-place-in-loop-j
+bounds-after-place-in-loop-j c = place_below (goal.at.bounds-after-place-in-loop-j c).In-loop-j
+
+pub bounds-periods-j-in-loop-j : goal.bounds-periods-j-in-loop-j
+bounds-periods-j-in-loop-j c = omega (arith, c.requires.one_period_each, c.loop-j-test.true)
+
+pub bounds-windows-j : goal.bounds-windows-j
+bounds-windows-j c = omega (arith, c.requires.one_window_each, c.loop-j-test.true)
+
+pub due_at-requires : goal.due_at-requires
+due_at-requires c = c.requires.period_above_0 _ c.loop-j-test.true
+
+pub earlier-best-requires : goal.earlier-best-requires
+earlier-best-requires c =
+    let rise = c.requires.numbers_rise in
+    let below = c.loop-j-test.true in
+    omega (arith, column_below_number _ rise _ below, rise.at_most _ below)
+
+is_ready : (c : goal.After-ready_ticks-ready) →
+    let args = c.args in
+    c.ready_ticks-ready.result ≡ ready_in args.numbers.now args.periods.now args.ticks.now args.state args.ended c.loop-j.j
+unfolding after_release after_end
+is_ready c =
+    let args = c.args in
+    let at = c.loop-j in
+    let below = c.loop-j-test.true in
+    let as_before = not_yet_placed args.numbers.now _ args.state.left c.requires.numbers_rise at.after at.j at.invariant.1 below in
+    let number : get_or args.numbers.now at.j 0 ≡ suc (place_of args.numbers.now at.j) = omega (arith, c.requires.numbers_rise.above_0 _ below) in
+    c.ready_ticks-ready.ensures
+    ∙ ap₂ (λ (released over : Bool). cond released (get_or args.ticks.now at.j 0) (cond over 0 (get_or at.after (place_of args.numbers.now at.j) 0)))
+    c.is_released-released.ensures (c.is_over-over.ensures ∙ ap (λ (k : ℕ). args.ended && eqb k args.state.last) number)
+    ∙ ap (λ (k : ℕ). after_release (column_tasks args.periods.now [] args.ticks.now) args.state.tick at.j
+    (after_end args.ended args.state.last (place_of args.numbers.now at.j) k)) as_before
+
+pub loop-j-preserved : goal.loop-j-preserved
+unfolding due_at
+loop-j-preserved c =
+    let args = c.args in
+    let at = c.loop-j in
+    let below = c.loop-j-test.true in
+    let ready = is_ready (goal.at.loop-j-preserved c).After-ready_ticks-ready in (
+      omega (arith, below),
+      next_placed args.numbers.now _ args.state.left c.requires.numbers_rise at.after at.j at.invariant.1 below _ ready,
+      picks_next _ _ at.j at.best at.invariant.2 _ _ ready c.due_at.ensures c.earlier-best.ensures,
+    )
+
+pub returns : goal.returns
+returns c =
+    let at = c.loop-j in
+    let all : at.j ≡ length c.args.numbers.now = omega arith in
+    record { released = rw all at at.invariant.1; is_earliest = rw all at at.invariant.2.number }
