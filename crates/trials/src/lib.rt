@@ -1,5 +1,7 @@
 // Tables for plans that are drawn, and other tables for the plan that was answered. One that passes the check is a drawing,
 // and no drawing is cheaper than the answered plan. Each function is told the ticks of the span and the slots of a table.
+#![tactic(auto)]
+
 use generator::tally::{Counts, add, add_if};
 use generator::{Choices, PLAN_ROOM, TABLE_ROOM, Table, fill_table, tables_differ, tally, up_to};
 use prices::Priced;
