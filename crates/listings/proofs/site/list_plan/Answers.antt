@@ -1,0 +1,28 @@
+use Rattle.std.proofs.Common.{arith, sym, ap, length-take-le}
+use Rattle.text.specs.NumberCountLaws.{FrontIsText, text_is_refused, words_at_front}
+use Rattle.listings.specs.OutcomeLaws.{refused_text_outcome, read_text_outcome}
+use Rattle.listings.specs.Outcomes.{ListOutcome}
+use Rattle.listings.proofs.site.list_plan.Goals as goal
+use Rattle.listings.proofs.site.list_plan.Goals.{In-Words}
+
+front_is_text : (c : goal.In-Words) → FrontIsText c.args.text.now c.in-Words.n c.words_of_text.new.words
+front_is_text c =
+    let read = c.words_of_text.ensures in words_at_front _ _ _ _ (omega arith) (read.value, (read.words_after, read.promise)) c.in-Words.is
+
+pub returns-in-Refused : goal.returns-in-Refused
+returns-in-Refused c =
+    let read = c.words_of_text.ensures in
+    let outcome = refused_text_outcome _ c.args.out.now (text_is_refused _ _ _ _ (omega arith) (read.value, (read.words_after, read.promise)) c.in-Refused.is) in
+    record { value = sym (ap (λ (o : ListOutcome). o.answer) outcome); out_after = sym (ap (λ (o : ListOutcome). o.out) outcome) }
+
+pub slice_bounds-words-end : goal.slice_bounds-words-end
+slice_bounds-words-end c = (front_is_text (goal.at.slice_bounds-words-end c).In-Words).within
+
+pub slice_bounds-list_words-end : goal.slice_bounds-list_words-end
+slice_bounds-list_words-end c = sym (length-take-le _ _ (front_is_text (goal.at.slice_bounds-list_words-end c).In-Words).within)
+
+pub returns-in-Words : goal.returns-in-Words
+returns-in-Words c =
+    let given = c.list_words.ensures in
+    rw (read_text_outcome _ _ (front_is_text (goal.at.returns-in-Words c).In-Words).words_of_text)
+    (record { value = ap (λ (o : ListOutcome). o.answer) given; out_after = ap (λ (o : ListOutcome). o.out) given })
