@@ -92,13 +92,16 @@ module _ (words plan : List ℕ) (core : ℕ) (p : Problem) (read : problem_of w
         let after_core = ((and_then-accepts (core_passes p core) _).0 after_plan).1 in
         ((and_then-accepts (state_passes tasks (span p) s) (end_passes s ended)).0 after_core).0
 
+    tests_of_state : dispatch_tests p plan core s ended ≡ Accepted → state_fits tasks (span p) s ≡ true
+    tests_of_state tests = state_passes_lem tasks (span p) s (tested_state_passes tests)
+
     -- from any accepted state the next one passes the tests of 12 again
     pub next_state_passes : (dispatch_outcome words plan core s ended).verdict ≡ Accepted →
         state_passes tasks (span p) (dispatch_outcome words plan core s ended).state ≡ Accepted
     next_state_passes accepts =
         let tests = call_accepts accepts in
         rw (accepted_call tests)
-        (fitting_state_passes tasks (span p) _ (next_state_fits tasks few_tasks (span p) s ended (state_passes_lem tasks (span p) s (tested_state_passes tests))))
+        (fitting_state_passes tasks (span p) _ (next_state_fits tasks few_tasks (span p) s ended (tests_of_state tests)))
 
   module _ (passes : plan_passes p plan ≡ Accepted) (inside : core_passes p core ≡ Accepted) (s : DispatchState) where
     -- a call without a report is accepted where its state is
