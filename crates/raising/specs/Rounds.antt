@@ -16,7 +16,7 @@ use Rattle.assignment.specs.SearchTheorem.{BestAnswers, search_finds_best}
 use Rattle.assignment.specs.Sets.{set_number, table_at, Tabled}
 use Rattle.assignment.specs.SetLaws.{set_number-below}
 use Rattle.assignment.specs.SettledTheorem.{chosen_none, chosen_settled}
-use Rattle.assignment.specs.Values.{Value, none, pair}
+use Rattle.assignment.specs.Values.{Value, pair}
 use Rattle.assignment.specs.Words.{no_cost, words_none, words_pair}
 use Rattle.core_tables.specs.AwakeCores.{size, surplus}
 use Rattle.core_tables.specs.ChargedLaws.{charged_entry, charged_tabled, charged_limited, charged_keyed}

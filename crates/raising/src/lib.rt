@@ -1,5 +1,7 @@
 // The best plan where jobs may be due before their period's end. Partition and keeping search a table of lower values; the
 // entries of the plan that they find are raised, until all of them are exact.
+#![tactic(auto)]
+
 mod limits;
 mod near;
 mod own;

@@ -35,7 +35,8 @@ pub(crate) fn settle_own(
     while x < all {
         let set = x;
         x += 1;
-        if own_costs[set] < NO_COST {
+        let admitted = own_costs[set] < NO_COST;
+        if admitted {
             costs[set] = own_costs[set];
             keys[set] = own_keys[set];
             left[set] = 0;

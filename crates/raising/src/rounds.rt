@@ -114,7 +114,8 @@ pub(crate) fn least_in_rounds(
             key: best.key,
         };
         let raised = raise_sets(found, timings, cost, &weights, costs, keys, left);
-        if raised == 0 {
+        let settled = raised == 0;
+        if settled {
             return best;
         }
         waiting = one_less(waiting);
