@@ -10,13 +10,7 @@ use ranges::MOST_TEXT_WORDS;
 use text::{TextRead, words_of_text};
 
 // The plan that holds, and the days to the calendar's next entry.
-pub fn towhepamu_calendar(
-    text: &[u8],
-    year: u32,
-    month: u32,
-    day: u32,
-    minute: u32,
-) -> Ruled
+pub fn towhepamu_calendar(text: &[u8], year: u32, month: u32, day: u32, minute: u32) -> Ruled
     ensures { result ≡ ruled_of (text_plan_at_outcome text.now (date year month day) minute) }
 {
     let mut words = [0; MOST_TEXT_WORDS as usize];

@@ -1,4 +1,6 @@
 // Reading, planning, checking, reckoning sleeps, dispatching, listing and asking a calendar for a program in C, over the bytes of a text: a choice is one byte there, and so is a slot.
+#![tactic(auto)]
+
 mod checking;
 mod choices;
 mod dispatching;

@@ -74,12 +74,7 @@ fn prepare_numbers(text: &[u8], plan: &[u8], core: u32, before: PreparedNode) ->
 }
 
 // Prepares a core of a plan for the instance that a text is; the node takes the place of the one lent.
-pub fn towhepamu_prepare(
-    text: &[u8],
-    plan: &[u8],
-    core: u32,
-    node: &mut PreparedNode,
-) -> Checked
+pub fn towhepamu_prepare(text: &[u8], plan: &[u8], core: u32, node: &mut PreparedNode) -> Checked
     ensures { PreparesNode text.now plan.now core node.old result node.new }
 {
     let prepared = prepare_numbers(text, plan, core, *node);

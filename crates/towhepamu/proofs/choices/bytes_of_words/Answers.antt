@@ -1,0 +1,9 @@
+use Rattle.std.proofs.Common.{arith}
+use Rattle.towhepamu.specs.Copies.{nothing_copied, one_more_copied}
+use Rattle.towhepamu.proofs.choices.bytes_of_words.Goals as goal
+
+pub loop-i-init : goal.loop-i-init
+loop-i-init c = nothing_copied _ _
+
+pub loop-i-preserved : goal.loop-i-preserved
+loop-i-preserved c = one_more_copied _ _ _ _ c.loop-i.invariant c.loop-i-test.true (omega arith)

@@ -1,0 +1,35 @@
+use Rattle.std.proofs.Common.{arith, refl, sym, ap, ◌∙◌, length-take-le}
+use Rattle.text.specs.NumberCountLaws.{FrontIsText, text_is_refused, words_at_front}
+use Rattle.answers.specs.Answers.{planned_of}
+use Rattle.towhepamu.specs.CallOutcomes.{text_plan_outcome}
+use Rattle.towhepamu.proofs.planning.towhepamu_plan.Goals as goal
+use Rattle.towhepamu.proofs.planning.towhepamu_plan.Goals.{In-Words}
+
+front_is_text : (c : goal.In-Words) → FrontIsText c.args.text.now c.in-Words.n c.words_of_text.new.words
+front_is_text c =
+    let read = c.words_of_text.ensures in
+    words_at_front _ _ _ _ (omega arith) (read.value, (read.words_after, read.promise)) c.in-Words.is
+
+pub slice_bounds-words-end : goal.slice_bounds-words-end
+slice_bounds-words-end c = (front_is_text (goal.at.slice_bounds-words-end c).In-Words).within
+
+pub slice_bounds-plan_words-end : goal.slice_bounds-plan_words-end
+slice_bounds-plan_words-end c = sym (length-take-le _ _ (front_is_text (goal.at.slice_bounds-plan_words-end c).In-Words).within)
+
+pub returns-in-Refused : goal.returns-in-Refused
+unfolding text_plan_outcome
+returns-in-Refused c =
+    let read = c.words_of_text.ensures in
+    rw (text_is_refused _ _ _ _ (omega arith) (read.value, (read.words_after, read.promise)) c.in-Refused.is)
+    (record { value = c.planned_of.ensures; plan_after = refl; table_after = refl })
+
+pub returns-in-Words : goal.returns-in-Words
+unfolding text_plan_outcome
+returns-in-Words c =
+    let given = c.plan_words.ensures in
+    rw (front_is_text (goal.at.returns-in-Words c).In-Words).words_of_text
+    (record {
+      value = c.planned_of-in-Words.ensures ∙ ap planned_of given.value;
+      plan_after = given.choices_after;
+      table_after = given.table_after;
+    })
