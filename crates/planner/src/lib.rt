@@ -1,4 +1,6 @@
 // Planning: of all plans that an instance allows, the one of least cost, with its table.
+#![tactic(auto)]
+
 mod best;
 mod planning;
 

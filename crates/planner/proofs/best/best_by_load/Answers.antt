@@ -1,5 +1,4 @@
 use native.Mathlib.Omega.{arith}
-use borrow.Author.Rules.{rules}
 use Rattle.instance.specs.Held.{held_taskcount}
 use Rattle.planner.specs.HeldChoices.{held_key_chosen}
 use Rattle.planner.proofs.best.best_by_load.Goals as goal

@@ -1,5 +1,4 @@
 use mathlib.Core.Path.{refl}
-use borrow.Author.Rules.{rules}
 use Rattle.offers.specs.OfferedOptions.{nothing_offered}
 use Rattle.planner.proofs.best.best_choices.Goals as goal
 

@@ -1,5 +1,4 @@
 use mathlib.Core.Path.{refl}
-use borrow.Author.Rules.{rules}
 use native.Mathlib.Nat.{le_trans, le_of_eq}
 use Rattle.instance.specs.Held.{held_taskcount}
 use Rattle.planner.specs.TimedChoices.{held_site_offered, held_found_in_time}

@@ -1,7 +1,6 @@
 use Prim.Native.Nat.{◌*◌, ◌≤◌}
 use native.Mathlib.Nat.{mul-le-mul}
 use native.Mathlib.Omega.{arith}
-use borrow.Author.Rules.{rules}
 use Rattle.ranges.specs.Limits.{most_idle_power, most_weight}
 use Rattle.planner.specs.HeldChoices.{held_knapsacks_fit, held_charge_ready, held_core_filled}
 use Rattle.offers.specs.HeldOptions.{held_span_at_most, energy_weight_at_most, idle_power_at_most}

@@ -1,7 +1,6 @@
 use Prim.Native.Nat.{◌*◌, ◌≤◌}
 use mathlib.Core.Path.{refl}
 use native.Mathlib.Omega.{arith}
-use borrow.Author.Rules.{rules}
 use native.Mathlib.Nat.{mul-le-mul}
 use Rattle.instance.specs.Held.{problem_in, held_span}
 use Rattle.ranges.specs.Limits.{most_idle_power, most_weight}

@@ -1,9 +1,7 @@
-use Prim.Native.Nat.{◌-◌, ◌≤◌}
 use mathlib.Core.Path.{refl}
 use native.Mathlib.Omega.{arith}
-use borrow.Author.Rules.{rules}
-use Rattle.instance.specs.Held.{problem_in, held_task, held_taskcount}
-use Rattle.planner.specs.EarlyLaws.{NoneEarly, none_so_far, one_more, all_at_period_end}
+use Rattle.instance.specs.Held.{held_task, held_taskcount}
+use Rattle.planner.specs.EarlyLaws.{none_so_far, one_more, all_at_period_end}
 use Rattle.laws.specs.Truth.{false_not_true}
 use Rattle.planner.proofs.best.is_early.Goals as goal
 

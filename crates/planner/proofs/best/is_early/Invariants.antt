@@ -1,10 +1,6 @@
 use Prim.Native.Nat.{◌-◌, ◌≤◌}
-use mathlib.Core.Path.{refl}
-use native.Mathlib.Omega.{arith}
-use borrow.Author.Rules.{rules}
-use Rattle.instance.specs.Held.{problem_in, held_task, held_taskcount}
-use Rattle.planner.specs.EarlyLaws.{NoneEarly, none_so_far, one_more, all_at_period_end}
-use Rattle.laws.specs.Truth.{false_not_true}
+use Rattle.instance.specs.Held.{problem_in}
+use Rattle.planner.specs.EarlyLaws.{NoneEarly}
 use Rattle.planner.proofs.best.is_early.Given as goal
 
 abbrev pub invariant-loop-i : goal.invariant-loop-i

@@ -1,5 +1,4 @@
 use native.Mathlib.Omega.{arith}
-use borrow.Author.Rules.{rules}
 use Rattle.planner.specs.HeldChoices.{held_offer_fits, held_light_best}
 use Rattle.planner.proofs.best.light_best.Goals as goal
 

@@ -1,5 +1,4 @@
 use native.Mathlib.Nat.{le_refl, le_trans, le_of_eq}
-use borrow.Author.Rules.{rules}
 use Rattle.instance.specs.Held.{held_taskcount}
 use Rattle.partition.specs.Tables.{most_sets}
 use Rattle.planner.specs.HeldChoices.{held_search_ready, held_searched_chosen}

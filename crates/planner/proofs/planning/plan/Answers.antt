@@ -1,5 +1,4 @@
 use mathlib.Core.Path.{refl}
-use borrow.Author.Rules.{rules}
 use Rattle.instance.specs.ReadLaws.{accepted_read_holds_problem, refused_read_refuses_words}
 use Rattle.planner.specs.PlanLaws.{given_outcome_is_promised, given_reading}
 use Rattle.planner.proofs.planning.plan.Goals as goal

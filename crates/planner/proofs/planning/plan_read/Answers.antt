@@ -4,7 +4,6 @@ use mathlib.Core.Path.{◌≡◌, sym, ap₂, ◌∙◌}
 use native.Mathlib.Omega.{arith}
 use lib.ListN.{length, take}
 use lib.Seq.{length-take-le}
-use borrow.Author.Rules.{rules}
 use Rattle.instance.specs.Held.{problem_in, held_taskcount}
 use Rattle.refusals.specs.Refusals.{accepted}
 use Rattle.refusals.specs.declared.Verdict.TheVariants.{Accepted}
