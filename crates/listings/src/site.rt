@@ -46,7 +46,8 @@ fn list_words(words: &[u32], out: &mut [u8]) -> PlanListed
     match verdict {
         Verdict::Refused(r) => return PlanListed::Refused(r),
         Verdict::Accepted => {
-            if out.len() < MOST_LISTING {
+            let lent = out.len();
+            if lent < MOST_LISTING {
                 return PlanListed::Refused(Refusal::ShortBuffer(MOST_LISTING));
             }
             return put_best(out, words, inst);

@@ -42,7 +42,8 @@ fn plan_words(words: &[u32], choices: &mut [u8], table: &mut [u8]) -> Priced
         Verdict::Refused(refusal) => return Priced::Refused(refusal),
         Verdict::Accepted => {
             let n = read.instance.taskcount;
-            if choices.len() < n {
+            let lent = choices.len();
+            if lent < n {
                 return Priced::Refused(Refusal::ShortBuffer(n));
             }
             return plan_with_room(words, n, choices, table);

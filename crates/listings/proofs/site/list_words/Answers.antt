@@ -11,9 +11,9 @@ pub returns-in-Refused : goal.returns-in-Refused
 returns-in-Refused c =
     refused_words_outcome _ _ (refused_read_refuses_words _ _ c.read_instance-read.ensures.value c.in-Refused.is)
 
-pub returns-then-out-lt-MOST_LISTING : goal.returns-then-out-lt-MOST_LISTING
-returns-then-out-lt-MOST_LISTING c =
-    short_buffer_outcome _ _ _ (holds_problem (goal.at.returns-then-out-lt-MOST_LISTING c).In-Accepted) c.if-out-lt-MOST_LISTING.true
+pub returns-then-lent-lt-MOST_LISTING : goal.returns-then-lent-lt-MOST_LISTING
+returns-then-lent-lt-MOST_LISTING c =
+    short_buffer_outcome _ _ _ (holds_problem (goal.at.returns-then-lent-lt-MOST_LISTING c).In-Accepted) c.if-lent-lt-MOST_LISTING.true
 
 pub put_best-requires-clause-holds_problem_of : goal.put_best-requires-clause-holds_problem_of
 put_best-requires-clause-holds_problem_of c =
@@ -22,4 +22,4 @@ put_best-requires-clause-holds_problem_of c =
 pub returns-in-Accepted : goal.returns-in-Accepted
 returns-in-Accepted c =
     c.put_best.ensures
-    ∙ roomy_words_outcome _ _ _ (holds_problem (goal.at.returns-in-Accepted c).In-Accepted) c.if-out-lt-MOST_LISTING.false
+    ∙ roomy_words_outcome _ _ _ (holds_problem (goal.at.returns-in-Accepted c).In-Accepted) c.if-lent-lt-MOST_LISTING.false

@@ -12,11 +12,11 @@ returns-in-Refused c =
     refused_words_outcome _ _ _ (refused_read_refuses_words _ _ c.read_instance-read.ensures.value c.in-Refused.is)
     in record { value = outcome.0; choices_after = outcome.1.0; table_after = outcome.1.1 }
 
-pub returns-then-choices-n : goal.returns-then-choices-n
-returns-then-choices-n c =
-    let outcome = short_plan_outcome _ _ (holds_problem (goal.at.returns-then-choices-n c).In-Accepted) _ _ c.if-choices-n.true in
+pub returns-then-lent-n : goal.returns-then-lent-n
+returns-then-lent-n c =
+    let outcome = short_plan_outcome _ _ (holds_problem (goal.at.returns-then-lent-n c).In-Accepted) _ _ c.if-lent-n.true in
     record { value = outcome.0; choices_after = outcome.1.0; table_after = outcome.1.1 }
 
 pub plan_with_room-requires : goal.plan_with_room-requires
 plan_with_room-requires c =
-    room_for_plan _ _ (holds_problem (goal.at.plan_with_room-requires c).In-Accepted) _ c.if-choices-n.false
+    room_for_plan _ _ (holds_problem (goal.at.plan_with_room-requires c).In-Accepted) _ c.if-lent-n.false
