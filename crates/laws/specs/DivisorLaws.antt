@@ -1,5 +1,5 @@
 -- The greatest common divisor: Euclid's step keeps it, and by it the least common multiple is found.
-use Rattle.std.specs.Prelude.{ℕ, zero, ◌*◌, ◌/◌, ◌%◌, ◌≤◌, ◌<◌, ◌≡◌}
+use Rattle.std.specs.Prelude.{ℕ, ◌*◌, ◌/◌, ◌%◌, ◌≤◌, ◌<◌, ◌≡◌}
 use Rattle.std.specs.Int.{◌∣◌}
 use Rattle.std.proofs.Common.{sym, ap, ◌∙◌, le_antisymm, le_of_mul-le-mul_right, mul_assoc, mul_comm, mul_right_comm, mul-le-mul_right, mul-pos}
 use Rattle.std.proofs.Math.Nat.{dvd_refl, dvd-zero, dvd-mul_left, dvd-mul_right, dvd-mod_iff, div-mul_cancel, eq_of_mul-eq-mul_right, le_of_dvd, pos_of_dvd_of_pos}

@@ -1,5 +1,6 @@
 // The numbers of the papers that inputs are tested against, each once: the ranges of document 01's section 'Site file', and of
 // document 02 (a), (b), (g) and (m), and the largest span. And what follows from them.
+#![tactic(auto)]
 
 pub const MOST_TEXT_BYTES: u32 = 4_096;
 
