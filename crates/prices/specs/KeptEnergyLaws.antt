@@ -36,8 +36,8 @@ module _ (p : Problem) (plan : List ℕ) (k : ℕ) (kept : KeptTasks) (columns :
       busy ≡ sum_of_kept kept (energy_on p plan k) kept.count → load ≡ sum_of_kept kept (load_on p plan k) kept.count →
       busy + idle * cond (ltb 0 kept.count) (span' - load) 0 ≡ core_energy p plan k
   unfolding core_energy idle_ticks is_awake
-  energy_from_columns idle span' busy load same_idle same_span same_busy same_Load =
-      rw (same_idle, same_span, same_busy ∙ energy_over_kept, same_Load ∙ load_over_kept p plan k kept columns, ← count_of_kept) refl
+  energy_from_columns idle span' busy load same_idle same_span same_busy same_load =
+      rw (same_idle, same_span, same_busy ∙ energy_over_kept, same_load ∙ load_over_kept p plan k kept columns, ← count_of_kept) refl
 
   pub energy_in_columns : (j : ℕ) → j < kept.count → (load : ℕ) → load ≡ load_on p plan k (place_of kept j) → load * get_or kept.powers j 0 ≡ energy_on p plan k (place_of kept j)
   energy_in_columns j l load e = rw (e, (columns.held j l).same_power) refl
