@@ -1,7 +1,7 @@
 // The count of one job's slots, which ends at the first slot too many.
 #![tactic(auto)]
 
-ghost use Rattle.std.specs.Prelude.{◌≡◌};
+ghost use Rattle.std.specs.Prelude.{◌≡◌, ◌⊎◌, ◌≤◌, ◌<◌, true, false};
 ghost use Rattle.job_counts.specs.JobCounts.{count_job, kind_number, CountEnds};
 
 use ranges::Slot;
@@ -21,6 +21,14 @@ pub struct Counted {
     pub read: usize,
 }
 
+// Whether a slot at x is one too many for a job that is due before `window` and still needs `left`.
+fn is_one_too_many(left: usize, window: usize, x: usize) -> bool
+    ensures too_many { result ≡ true → (left ≡ 0) ⊎ (window ≤ x) }
+    ensures needed { result ≡ false → (0 < left) × (x < window) }
+{
+    left == 0 || window <= x
+}
+
 // The slots are those of a row from the job's release to the next; `window` of them are before its due tick.
 pub fn count_job(slots: &[Slot], number: Slot, window: usize, ticks: usize) -> Counted
     ensures value { result ≡ count_job slots.now number window ticks }
@@ -30,7 +38,7 @@ pub fn count_job(slots: &[Slot], number: Slot, window: usize, ticks: usize) -> C
     let mut x = 0;
     while x < slots.len() {
         if slots[x] == number {
-            if left == 0 || window <= x {
+            if is_one_too_many(left, window, x) {
                 return Counted {
                     kind: CountKind::Over,
                     read: x + 1,
