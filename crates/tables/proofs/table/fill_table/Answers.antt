@@ -15,7 +15,7 @@ cores_at_most c = c.loop-k.invariant.0
 
 core_below : (c : goal.In-loop-k) → c.loop-k.k < (problem_in c.args.inst).cores
 unfolding problem_in
-core_below c = c.loop-k-test.true
+core_below c = omega (arith, c.loop-k-test.true, c.requires.sound.valid.cores.at_least)
 
 all_cores : (c : goal.After-loop-k) → c.loop-k.k ≡ (problem_in c.args.inst).cores
 unfolding problem_in
