@@ -55,7 +55,7 @@ extern "C" {
 /* The version of the header and the archive. */
 #define TOWHEPAMU_VERSION "1.6.0"
 #define TOWHEPAMU_VERSION_MAJOR 1
-#define TOWHEPAMU_VERSION_MINOR 8
+#define TOWHEPAMU_VERSION_MINOR 6
 #define TOWHEPAMU_VERSION_PATCH 0
 
 /* The longest site file or calendar that is read, in bytes. */
