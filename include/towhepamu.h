@@ -85,9 +85,9 @@ extern "C" {
 /* No site has a longer listing, in bytes: a listing's buffer must have this length. */
 #define TOWHEPAMU_MOST_LISTING_BYTES 51200
 
-/* The stack that a call must find free, in bytes. Measured: reading 12,664, planning 1,131,776,
-   checking 12,056, checking slots 11,768, listing 1,148,816, sleeping 12,120, dispatching 13,192,
-   preparing 13,144, a tick 3,048, asking a calendar 13,312 (tests/desk/test_stack.c, which fails
+/* The stack that a call must find free, in bytes. Measured: reading 13,048, planning 1,396,312,
+   checking 12,104, checking slots 12,104, listing 1,413,000, sleeping 12,152, dispatching 13,608,
+   preparing 13,896, a tick 3,048, asking a calendar 10,648 (tests/desk/test_stack.c, which fails
    where a call takes more than is promised). */
 #define TOWHEPAMU_STACK_BYTES (1536 * 1024)
 
