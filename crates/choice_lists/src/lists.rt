@@ -103,12 +103,10 @@ fn list_sets(
     ensures { result ≡ true → WithItem front count load.now cost.now points.new starts.new }
 {
     let sets = sets_of(count);
-    let mut k = 0;
-    while k < sets {
+    for k in 0..sets {
         if !list_next(front, count, k, load, cost, points, starts) {
             return false;
         }
-        k += 1;
     }
     true
 }
@@ -155,13 +153,11 @@ fn list_items(
     ensures value { n ≡ 0 → result ≡ true }
 {
     list_none(points, starts);
-    let mut c = 0;
-    while c < n {
+    for c in 0..n {
         let front = front_at(core, n, c, items);
         if !list_sets(front, c, load, cost, points, starts) {
             return false;
         }
-        c += 1;
     }
     true
 }

@@ -40,8 +40,7 @@ fn spread_level(
     ensures { LevelSpread capacity choice part.from part.to points.now costs.old keys.old
         costs.new keys.new }
 {
-    let mut p = part.from;
-    while p < part.to {
+    for p in part.from..part.to {
         let point = point_at(points, p);
         let load = choice.load + point.load;
         if load <= capacity {
@@ -49,7 +48,6 @@ fn spread_level(
             let key = choice.key + point.key;
             lower(load, cost, key, costs, keys);
         }
-        p += 1;
     }
 }
 
@@ -69,13 +67,11 @@ fn spread_item(
     ensures { ItemSpread front part.from part.to load.now cost.now points.now
         front.core.levels costs.new keys.new }
 {
-    let mut l = 0;
-    while l < front.core.levels {
+    for l in 0..front.core.levels {
         let choice = choice_at(load, cost, front, l);
         if choice.load <= front.core.capacity {
             spread_level(front.core.capacity, choice, part, points, costs, keys);
         }
-        l += 1;
     }
 }
 
@@ -100,15 +96,13 @@ fn sweep(capacity: usize, from: usize, costs: &[u64], keys: &[u64], points: &mut
         key: 0,
     };
     let mut to = from;
-    let mut u = 0;
-    while u <= capacity {
+    for u in 0..capacity + 1 {
         let worth = entry(costs, keys, u);
         if comes_first(worth, best) {
             store_point(to, u, worth, points);
             best = worth;
             to += 1;
         }
-        u += 1;
     }
     to
 }

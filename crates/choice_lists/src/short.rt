@@ -18,8 +18,7 @@ fn append_level(
     ensures { LevelAppended capacity choice part.from part.to start points.old points.new result }
 {
     let mut end = start;
-    let mut p = part.from;
-    while p < part.to {
+    for p in part.from..part.to {
         let point = point_at(points, p);
         let load = choice.load + point.load;
         if load <= capacity {
@@ -30,7 +29,6 @@ fn append_level(
             store_point(end, load, worth, points);
             end += 1;
         }
-        p += 1;
     }
     end
 }
@@ -49,13 +47,11 @@ pub(crate) fn append_item(
         front.core.levels points.new result }
 {
     let mut end = used;
-    let mut l = 0;
-    while l < front.core.levels {
+    for l in 0..front.core.levels {
         let choice = choice_at(load, cost, front, l);
         if choice.load <= front.core.capacity {
             end = append_level(front.core.capacity, choice, part, end, points);
         }
-        l += 1;
     }
     end
 }

@@ -137,11 +137,9 @@ fn copy_offers(n: usize, load: &[u64], cost: &[u64], offers: &mut [u64])
     ensures { Copied (n * most_levels) load.now cost.now offers.new }
 {
     let all = n * STRIDE;
-    let mut i = 0;
-    while i < all {
+    for i in 0..all {
         offers[i] = load[i];
         offers[COSTS + i] = cost[i];
-        i += 1;
     }
 }
 

@@ -30,8 +30,7 @@ fn least_listed(
         cost: NO_COST,
         key: 0,
     };
-    let mut p = from;
-    while p < to {
+    for p in from..to {
         let at = p * WIDTH;
         let room = capacity - points[at] as usize;
         let cost = points[at + 1] + knapsack_costs[room];
@@ -39,7 +38,6 @@ fn least_listed(
             let key = points[at + 2] + knapsack_keys[room];
             best = lesser(best, Worth { cost, key });
         }
-        p += 1;
     }
     best
 }
@@ -70,8 +68,7 @@ pub(crate) fn store_listed(
 {
     let lists = &offers[LISTS..];
     let sets = sets_of(branch.ahead);
-    let mut k = 0;
-    while k < sets {
+    for k in 0..sets {
         let worth = least_listed(
             branch.core.capacity,
             starts[k],
@@ -81,6 +78,5 @@ pub(crate) fn store_listed(
             knapsack_keys,
         );
         store(k * branch.bit + branch.index, worth, costs, keys);
-        k += 1;
     }
 }

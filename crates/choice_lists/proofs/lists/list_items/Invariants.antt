@@ -9,6 +9,3 @@ abbrev pub invariant-loop-c : goal.invariant-loop-c
 invariant-loop-c l =
     (l.c ≤ l.n) × (length l.points ≡ length l.initial.points) × (length l.starts ≡ length l.initial.starts)
     × LastListed l.core l.n l.items l.load l.cost l.c l.points l.starts
-
-abbrev pub decreases-loop-c : goal.decreases-loop-c
-decreases-loop-c l = l.n - l.c

@@ -28,10 +28,6 @@ pub returns-then-not-list_next : goal.returns-then-not-list_next
 returns-then-not-list_next c =
     λ yes. absurd (false_not_true refl yes)
 
-pub overflow_add-k : goal.overflow_add-k
-overflow_add-k c =
-    omega (arith, c.sets_of-sets.ensures)
-
 pub loop-k-smaller : goal.loop-k-smaller
 loop-k-smaller c =
     omega (arith, c.sets_of-sets.ensures)

@@ -9,6 +9,3 @@ abbrev pub invariant-loop-k : goal.invariant-loop-k
 invariant-loop-k l =
     (l.k ≤ 2 ^ l.count) × (length l.points ≡ length l.initial.points) × (length l.starts ≡ length l.initial.starts)
     × SetsGoing l.front l.count l.load l.cost l.k l.points l.starts
-
-abbrev pub decreases-loop-k : goal.decreases-loop-k
-decreases-loop-k l = 2 ^ l.count - l.k

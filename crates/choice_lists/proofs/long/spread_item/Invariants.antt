@@ -9,6 +9,3 @@ abbrev pub invariant-loop-l : goal.invariant-loop-l
 invariant-loop-l l =
     (l.l ≤ l.front.core.levels) × (length l.costs ≡ length l.initial.costs) × (length l.keys ≡ length l.initial.keys)
     × ItemSpread l.front l.part.from l.part.to l.load l.cost l.points l.l l.costs l.keys
-
-abbrev pub decreases-loop-l : goal.decreases-loop-l
-decreases-loop-l l = l.front.core.levels - l.l

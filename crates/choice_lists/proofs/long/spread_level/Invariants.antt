@@ -7,8 +7,5 @@ use Rattle.choice_lists.proofs.long.spread_level.Given as goal
 
 abbrev pub invariant-loop-p : goal.invariant-loop-p
 invariant-loop-p l =
-    (l.part.from ≤ l.p) × (l.p ≤ l.part.to) × (length l.costs ≡ length l.initial.costs) × (length l.keys ≡ length l.initial.keys)
-    × LevelSpread l.capacity l.choice l.part.from l.p l.points l.initial.costs l.initial.keys l.costs l.keys
-
-abbrev pub decreases-loop-p : goal.decreases-loop-p
-decreases-loop-p l = l.part.to - l.p
+    (l.fn.part.from ≤ l.p) × (l.p ≤ l.fn.part.to) × (length l.costs ≡ length l.initial.costs) × (length l.keys ≡ length l.initial.keys)
+    × LevelSpread l.capacity l.choice l.fn.part.from l.p l.points l.initial.costs l.initial.keys l.costs l.keys

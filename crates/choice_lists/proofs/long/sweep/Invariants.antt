@@ -6,6 +6,3 @@ use Rattle.choice_lists.proofs.long.sweep.Given as goal
 abbrev pub invariant-loop-u : goal.invariant-loop-u
 invariant-loop-u l =
     (l.u ≤ l.capacity + 1) × Gathered l.capacity l.from l.u l.costs l.keys l.initial.points l.points l.best l.to
-
-abbrev pub decreases-loop-u : goal.decreases-loop-u
-decreases-loop-u l = l.capacity + 1 - l.u

@@ -6,6 +6,3 @@ use Rattle.choice_lists.proofs.short.append_item.Given as goal
 abbrev pub invariant-loop-l : goal.invariant-loop-l
 invariant-loop-l l =
     (l.l ≤ l.front.core.levels) × ItemAppended l.front l.part.from l.part.to l.used l.load l.cost l.initial.points l.l l.points l.end
-
-abbrev pub decreases-loop-l : goal.decreases-loop-l
-decreases-loop-l l = l.front.core.levels - l.l

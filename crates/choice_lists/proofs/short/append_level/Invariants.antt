@@ -5,7 +5,4 @@ use Rattle.choice_lists.proofs.short.append_level.Given as goal
 
 abbrev pub invariant-loop-p : goal.invariant-loop-p
 invariant-loop-p l =
-    (l.part.from ≤ l.p) × (l.p ≤ l.part.to) × LevelAppended l.capacity l.choice l.part.from l.p l.start l.initial.points l.points l.end
-
-abbrev pub decreases-loop-p : goal.decreases-loop-p
-decreases-loop-p l = l.part.to - l.p
+    (l.fn.part.from ≤ l.p) × (l.p ≤ l.fn.part.to) × LevelAppended l.capacity l.choice l.fn.part.from l.p l.start l.initial.points l.points l.end

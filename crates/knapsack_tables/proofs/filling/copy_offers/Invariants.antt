@@ -7,6 +7,3 @@ use Rattle.knapsack_tables.proofs.filling.copy_offers.Given as goal
 
 abbrev pub invariant-loop-i : goal.invariant-loop-i
 invariant-loop-i l = (l.i ≤ l.all) × (length l.offers ≡ length l.initial.offers) × Copied l.i l.load l.cost l.offers
-
-abbrev pub decreases-loop-i : goal.decreases-loop-i
-decreases-loop-i l = l.all - l.i

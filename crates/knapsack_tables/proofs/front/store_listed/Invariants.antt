@@ -9,6 +9,3 @@ abbrev pub invariant-loop-k : goal.invariant-loop-k
 invariant-loop-k l =
     (l.k ≤ l.sets) × (length l.costs ≡ length l.initial.costs) × (length l.keys ≡ length l.initial.keys)
     × ReadFirst l.branch l.offers l.knapsack_costs l.knapsack_keys l.initial.costs l.initial.keys l.k l.costs l.keys
-
-abbrev pub decreases-loop-k : goal.decreases-loop-k
-decreases-loop-k l = l.sets - l.k
