@@ -17,10 +17,8 @@ pub fn fill_weights(items: usize, weights: &mut [u64])
 {
     let all = sets_of(items);
     weights[0] = 0;
-    let mut x = 1;
-    while x < all {
+    for x in 1..all {
         weights[x] = weights[x / 2] * KEY_BASE + (x % 2) as u64;
-        x += 1;
     }
 }
 
@@ -32,10 +30,8 @@ pub(crate) fn move_keys(items: usize, shift: u64, keys: &[u64], moved: &mut [u64
     let mut weights = [0u64; MOST_SETS];
     fill_weights(items, &mut weights);
     let all = sets_of(items);
-    let mut x = 0;
-    while x < all {
+    for x in 0..all {
         moved[x] = keys[x] + shift * weights[x];
-        x += 1;
     }
 }
 
@@ -47,11 +43,7 @@ fn copy_entries(items: usize, from: &[u64], to: &mut [u64])
     ensures { to.new ≡ onto (list_of (λ x. get_or from.now x 0) (2 ^ items)) to.old }
 {
     let all = sets_of(items);
-    let mut x = 0;
-    while x < all {
-        to[x] = from[x];
-        x += 1;
-    }
+    to[..all].copy_from_slice(&from[..all]);
 }
 
 // One core more: the value of each set on some cores becomes that on these and one core, whose table is moved by `shift`.
@@ -107,10 +99,8 @@ pub fn fill_best(
 {
     copy_entries(items, corecosts, costs);
     copy_entries(items, corekeys, keys);
-    let mut c = 1;
-    while c < cores {
+    for c in 1..cores {
         let shift = (c * levels) as u64;
         add_core(items, shift, corecosts, corekeys, costs, keys);
-        c += 1;
     }
 }

@@ -13,8 +13,7 @@ fn refuse_item(half: usize, s: usize, refusal: u64, costs: &mut [u64], keys: &mu
     requires { ItemReady half s refusal costs.old keys.old }
     ensures { ItemRefused half s refusal half costs.old keys.old costs.new keys.new }
 {
-    let mut x = 0;
-    while x < half {
+    for x in 0..half {
         lower(
             s + half + x,
             costs[s + x] + refusal,
@@ -22,7 +21,6 @@ fn refuse_item(half: usize, s: usize, refusal: u64, costs: &mut [u64], keys: &mu
             costs,
             keys,
         );
-        x += 1;
     }
 }
 

@@ -27,10 +27,8 @@ pub(crate) fn note_plans(
     if near.len() < all {
         return;
     }
-    let mut t = 0;
-    while t < all {
+    for t in 0..all {
         let r = all - 1 - t;
         near[t] = near_key(least, tops[t] + costs[r], topkeys[t] + keys[r]);
-        t += 1;
     }
 }

@@ -1,6 +1,6 @@
 // The splits of sets in two parts, one for each of two tables. A set is a number below 2^items, the first item its most
 // significant digit; a table is a slice of costs and one of keys.
-ghost use Rattle.std.specs.Prelude.{true, ◌≡◌, ℕ, ◌+◌, ◌^◌, ◌≤◌, ◌<◌, length, get_or};
+ghost use Rattle.std.specs.Prelude.{true, ◌≡◌, ℕ, ◌^◌, ◌≤◌, ◌↔◌, get_or, EachIndex, IsTrue};
 ghost use Rattle.assignment.specs.Words.{no_cost};
 ghost use Rattle.partition.specs.Splits.{in_neither, in_top, in_rest, sum_at, LoweredFrom, NoSplit, PlacesFit, SplitsReady, SumsFit};
 
@@ -138,19 +138,11 @@ fn lower_four(
     lower_pair(in_rest(split), tops, topkeys, rests, restkeys, costs, keys);
 }
 
-// Whether all of so many entries from one on stand for none.
-fn are_none(from: usize, size: usize, table: &[u64]) -> bool
-    requires { from + size ≤ length table.now }
-    ensures { result ≡ true → ((x : ℕ) → x < size → no_cost ≤ get_or table.now (from + x) 0) }
+// Whether all of these costs stand for none.
+fn are_none(costs: &[u64]) -> bool
+    ensures { IsTrue result ↔ EachIndex costs.now (λ x. no_cost ≤ get_or costs.now x 0) }
 {
-    let mut x = 0;
-    while x < size {
-        if table[from + x] < NO_COST {
-            return false;
-        }
-        x += 1;
-    }
-    true
+    costs.iter().all(|&cost| NO_COST <= cost)
 }
 
 // Whether no split of these sets has two parts with a value.
@@ -158,10 +150,8 @@ fn has_no_split(split: Split, tops: &[u64], rests: &[u64]) -> bool
     requires { SumsFit split.size split.t split.r tops.now rests.now }
     ensures { result ≡ true → NoSplit split tops.now rests.now }
 {
-    if are_none(split.t, split.size, tops) {
-        return true;
-    }
-    are_none(split.r, split.size, rests)
+    let Split { size, t, r, .. } = split;
+    are_none(&tops[t..t + size]) || are_none(&rests[r..r + size])
 }
 
 // Lowers the entries of all these sets, each to its splits. The last two items are written out, which saves most of the calls.

@@ -1,28 +1,15 @@
-use Prim.Native.Nat.{ℕ, ◌^◌}
-use mathlib.Core.Path.{◌≡◌, refl, ◌∙◌}
-use native.Mathlib.Omega.{arith}
-use borrow.Author.Rules.{rules}
-use lib.ListN.{get_or, length-set}
+-- The entries of all sets are the front of a table.
+use Rattle.std.proofs.Common.{ℕ, ◌^◌, ◌≤◌, ◌≡◌, refl, List, ◌++◌, length, get_or, take, drop}
+use Rattle.laws.specs.JoinedLaws.{length-list_of, take_is-list_of}
 use Rattle.laws.specs.Lists.{list_of, onto}
-use Rattle.laws.specs.OntoLaws.{set_onto-list_of}
 use Rattle.partition.proofs.cores.copy_entries.Goals as goal
 
-pub loop-x-init : goal.loop-x-init
-unfolding onto list_of
-loop-x-init c = (refl, search rules, refl)
-
-pub loop-x-preserved : goal.loop-x-preserved
-loop-x-preserved c =
-    let at = c.loop-x in
-    let a = c.args in
-    let next : ℕ → ℕ = λ k. get_or a.from.now k 0 in (
-      length-set at.to at.x (next at.x) ∙ at.invariant.0,
-      search rules,
-      rw at.invariant.2 (set_onto-list_of next a.to.now at.x (omega arith)),
-    )
+front_copied : (n : ℕ) (from to copied : List ℕ) → n ≤ length from → copied ≡ take n from →
+    copied ++ drop n to ≡ onto (list_of (λ x. get_or from x 0) n) to
+unfolding onto
+front_copied n from to copied long is_front = rw (is_front, take_is-list_of from 0 n long, length-list_of (λ x. get_or from x 0) n) refl
 
 pub returns : goal.returns
 returns c =
-    let at = c.loop-x in
-    let all : at.x ≡ 2 ^ c.args.items = omega arith in
-    rw all at at.invariant.2
+    rw c.sets_of-all.ensures
+    (front_copied (2 ^ c.args.items) c.args.from.now c.args.to.now _ c.requires.in_bounds (rw c.sets_of-all.ensures at c.copy_from_slice.ensures.after))
