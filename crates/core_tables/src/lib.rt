@@ -18,10 +18,8 @@ pub fn fill_sizes(items: usize, sizes: &mut [u64])
     ensures { SizesBelow items (2 ^ items) sizes.new }
 {
     let all = sets_of(items);
-    let mut x = 1;
-    while x < all {
+    for x in 1..all {
         sizes[x] = sizes[x / 2] + (x % 2) as u64;
-        x += 1;
     }
 }
 
@@ -49,9 +47,7 @@ pub fn charge_idle_once(items: usize, whole: u64, costs: &mut [u64])
     let mut sizes = [0u64; MOST_SETS];
     fill_sizes(items, &mut sizes);
     let all = sets_of(items);
-    let mut x = 1;
-    while x < all {
+    for x in 1..all {
         costs[x] = charged_cost(whole, sizes[x], costs[x]);
-        x += 1;
     }
 }

@@ -49,15 +49,13 @@ fn relax_level(
         (get_or costs.new w 0) (get_or keys.new w 0) }
 {
     let load = choice.load;
-    let mut w = load;
-    while w <= capacity {
+    for w in load..=capacity {
         let rest = w - load;
         let cost = choice.cost + knapsack_costs[rest];
         if cost < costs[w] {
             costs[w] = cost;
             keys[w] = choice.key + knapsack_keys[rest];
         }
-        w += 1;
     }
 }
 
@@ -88,8 +86,7 @@ pub fn relax(
     ensures { KnapsackWithItem front load.now cost.now knapsack_costs.now knapsack_keys.now
         front.core.levels costs.new keys.new }
 {
-    let mut l = 0;
-    while l < front.core.levels {
+    for l in 0..front.core.levels {
         let choice = choice_at(load, cost, front, l);
         relax_level(
             choice,
@@ -99,6 +96,5 @@ pub fn relax(
             costs,
             keys,
         );
-        l += 1;
     }
 }

@@ -32,8 +32,7 @@ pub fn light_plan(
     let mut used = 0;
     let mut total = 0;
     let mut key = 0;
-    let mut i = 0;
-    while i < items {
+    for i in 0..items {
         let pick = first_cheapest(i, levels, capacity, load, cost, refusal, must);
         used += pick.load;
         if capacity < used {
@@ -44,7 +43,6 @@ pub fn light_plan(
         }
         total += pick.cost;
         key = key * KEY_BASE + pick.choice;
-        i += 1;
     }
     Worth {
         cost: total,

@@ -69,8 +69,7 @@ pub(crate) fn first_cheapest(
         (item_at refusal.now must.now i) levels result }
 {
     let mut picked = refused(refusal[i], must[i], capacity);
-    let mut l = 0;
-    while l < levels {
+    for l in 0..levels {
         let at = i * STRIDE + l;
         let level = Pick {
             choice: l as u64 + 1,
@@ -78,7 +77,6 @@ pub(crate) fn first_cheapest(
             cost: cost[at],
         };
         picked = cheaper(picked, level, capacity);
-        l += 1;
     }
     picked
 }

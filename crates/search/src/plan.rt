@@ -14,11 +14,9 @@ pub fn write_plan(items: usize, key: u64, plan: &mut [u32])
 {
     let mut power = keys_of(items);
     let mut rest = key;
-    let mut i = 0;
-    while i < items {
-        power = power / KEY_BASE;
+    for i in 0..items {
+        power /= KEY_BASE;
         plan[i] = (rest / power) as u32;
-        rest = rest % power;
-        i += 1;
+        rest %= power;
     }
 }

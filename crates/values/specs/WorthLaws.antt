@@ -1,13 +1,44 @@
--- The lesser of two pairs of numbers stands for the lesser of their values.
-use Rattle.std.specs.Prelude.{◌≤◌, ◌<◌, ◌≡◌, refl, ◌⊎◌, Bool, true, false, cond, ◌&&◌, ◌||◌, eqb, ltb}
-use Rattle.std.proofs.Common.{sym, inl, inr, ⊎_elim, le_of_lt, arith, ltb-true, ltb-false, eqb-true}
+-- The lesser of two pairs of numbers is the least by the order that is derived for them, and stands for the lesser of their values.
+use Rattle.std.specs.Prelude.{◌≤◌, ◌<◌, ◌≡◌, refl, ◌⊎◌, Some, Bool, true, false, cond, ◌&&◌, ◌||◌, eqb, ltb}
+use Rattle.std.proofs.Common.{sym, ap, ◌∙◌, inl, inr, ⊎_elim, le_of_lt, arith, ltb-true, ltb-false, eqb-true}
 use Rattle.std.proofs.lemmas.Bool.{eqb-false}
+use Rattle.std.specs.Ordering.{ordering_then, partial_ordering_then, nat_cmp, is_lt, is_some_and, partial_lt, ord_min}
+use Rattle.std.specs.declared.cmp.Ordering.{Ordering}
+use Rattle.std.specs.declared.cmp.Ordering.TheVariants.{Less, Equal, Greater}
 use Rattle.laws.specs.Below.{lt_or_le}
 use Rattle.laws.specs.Tests.{Decides}
 use Rattle.assignment.specs.Values.{lesser}
 use Rattle.assignment.specs.Words.{words_lesser_first, words_lesser_second}
 use Rattle.values.specs.Worths.{First, is_first, lesser_worth, worth_of}
 use Rattle.values.specs.declared.value.Worth.{Worth}
+use Rattle.values.specs.contracts.value.WorthOrd.TheImpl as Order
+use Rattle.values.specs.contracts.value.WorthPartialOrd.TheImpl as PartialOrder
+
+-- by cost, then by key, each as less, equal or greater
+costs_then_keys : (p q r s : Bool) → is_lt (ordering_then (cond p Less (cond q Equal Greater)) (cond r Less (cond s Equal Greater))) ≡ p || (q && r)
+costs_then_keys true q r s = refl
+costs_then_keys false true true s = refl
+costs_then_keys false true false true = refl
+costs_then_keys false true false false = refl
+costs_then_keys false false r s = refl
+
+partly : (x y : Ordering) → is_some_and is_lt (partial_ordering_then (Some x) (Some y)) ≡ is_lt (ordering_then x y)
+partly Less y = refl
+partly Equal y = refl
+partly Greater y = refl
+
+-- what `a < b` tests
+pub less_is_first : (a b : Worth) → partial_lt PartialOrder.ghosts.partial_cmp a b ≡ is_first a b
+unfolding is_first
+less_is_first a b =
+    partly (nat_cmp a.cost b.cost) (nat_cmp a.key b.key)
+    ∙ costs_then_keys (ltb a.cost b.cost) (eqb a.cost b.cost) (ltb a.key b.key) (eqb a.key b.key)
+
+-- what `a.min(b)` is
+pub min_is_lesser : (a b : Worth) → ord_min Order.ghosts.cmp a b ≡ lesser_worth a b
+unfolding is_first lesser_worth
+min_is_lesser a b =
+    ap (λ (t : Bool). cond t b a) (costs_then_keys (ltb b.cost a.cost) (eqb b.cost a.cost) (ltb b.key a.key) (eqb b.key a.key))
 
 pub not_first : {a b : Worth} → ¬ (First a b) → (b.cost < a.cost) ⊎ ((b.cost ≡ a.cost) × (b.key ≤ a.key))
 not_first {a} {b} later = go (lt_or_le b.cost a.cost) (lt_or_le a.cost b.cost) (lt_or_le a.key b.key)

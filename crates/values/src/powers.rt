@@ -19,11 +19,5 @@ pub fn keys_of(items: usize) -> u64
     requires { items ≤ most_items }
     ensures { result ≡ key_base ^ items }
 {
-    let mut power = 1;
-    let mut i = 0;
-    while i < items {
-        power = power * KEY_BASE;
-        i += 1;
-    }
-    power
+    KEY_BASE.pow(items as u32)
 }

@@ -7,11 +7,19 @@ ghost use Rattle.values.specs.Worths.{lesser_worth};
 // 2^62: a cost from here on stands for none.
 pub const NO_COST: u64 = 0x4000_0000_0000_0000;
 
-// A cost and a key, as two numbers.
-#[derive(Clone, Copy)]
+// A cost and a key, as two numbers. The least comes first: the lower cost, of equal costs the smaller key.
+#[derive(Clone, Copy, PartialEq, Eq, PartialOrd, Ord)]
 pub struct Worth {
     pub cost: u64,
     pub key: u64,
+}
+
+impl Worth {
+    // Stands for none.
+    pub const NONE: Worth = Worth {
+        cost: NO_COST,
+        key: 0,
+    };
 }
 
 // The cheaper of the two, of equal costs the one with the smaller key, and the first where both are equal.
@@ -19,13 +27,7 @@ pub struct Worth {
 pub fn lesser(a: Worth, b: Worth) -> Worth
     ensures { result ≡ lesser_worth a b }
 {
-    if a.cost < b.cost {
-        return a;
-    }
-    if b.cost < a.cost {
-        return b;
-    }
-    if b.key < a.key { b } else { a }
+    a.min(b)
 }
 
 // Lowers entry s of a table, a slice of costs and one of keys, to a cost and a key, where these come first.

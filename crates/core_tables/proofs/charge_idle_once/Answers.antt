@@ -17,22 +17,20 @@ fill_sizes-requires c =
 pub loop-x-init : goal.loop-x-init
 loop-x-init c =
     let a = c.args in
-    (refl, omega arith, pow_pos a.items, first_charged a.items a.whole a.costs.now)
+    (refl, first_charged a.items a.whole a.costs.now)
 
 pub loop-x-preserved : goal.loop-x-preserved
 loop-x-preserved c =
     let at = c.loop-x in (
       length-set at.costs at.x _ ∙ at.invariant.0,
-      omega arith,
-      omega arith,
-      one_more_charged c.fill_sizes.ensures at.invariant.3 (omega arith) c.charged_cost.ensures (omega (arith, c.requires.costs_for_all)),
+      one_more_charged c.fill_sizes.ensures at.invariant.1 (omega arith) c.charged_cost.ensures (omega (arith, c.requires.costs_for_all)),
     )
 
 pub returns : goal.returns
 returns c =
     let at = c.loop-x in
-    let all : at.x ≡ 2 ^ c.args.items = omega arith in
-    rw all at at.invariant.3
+    let all : at.x ≡ 2 ^ c.args.items = omega (arith, pow_pos c.args.items) in
+    rw all at at.invariant.1
 
 pub bounds-sizes-x : goal.bounds-sizes-x
 bounds-sizes-x c =
@@ -42,5 +40,5 @@ bounds-sizes-x c =
 pub charged_cost-requires : goal.charged_cost-requires
 charged_cost-requires c =
     let at = c.loop-x in
-    let counted = next_counted c.fill_sizes.ensures at.invariant.3 (omega arith) c.requires at.invariant.1 in
+    let counted = next_counted c.fill_sizes.ensures at.invariant.1 (omega arith) c.requires (omega arith) in
     record { le_count = counted.0; count_bound = counted.1 }

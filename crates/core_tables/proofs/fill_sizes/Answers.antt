@@ -10,21 +10,21 @@ use Rattle.core_tables.proofs.fill_sizes.Goals as goal
 pub loop-x-init : goal.loop-x-init
 loop-x-init c =
     let a = c.args in
-    (refl, omega arith, pow_pos a.items, first_size a.items a.sizes.now c.requires.sizes_value)
+    (refl, first_size a.items a.sizes.now c.requires.sizes_value)
 
 pub overflow_add-sizes : goal.overflow_add-sizes
 overflow_add-sizes c =
     let at = c.loop-x in
     let a = c.args in
-    omega (arith, at.invariant.3.at (at.x / 2) (omega arith), items_in-at_most a.items (at.x / 2), c.requires.le_most_items)
+    omega (arith, at.invariant.1.at (at.x / 2) (omega arith), items_in-at_most a.items (at.x / 2), c.requires.le_most_items)
 
 pub loop-x-preserved : goal.loop-x-preserved
 loop-x-preserved c =
     let at = c.loop-x in
-    (length-set at.sizes at.x _ ∙ at.invariant.0, omega arith, omega arith, one_more_size at.invariant.3 at.invariant.1 (omega arith) (omega arith))
+    (length-set at.sizes at.x _ ∙ at.invariant.0, one_more_size at.invariant.1 (omega arith) (omega arith) (omega arith))
 
 pub returns : goal.returns
 returns c =
     let at = c.loop-x in
-    let all : at.x ≡ 2 ^ c.args.items = omega arith in
-    rw all at at.invariant.3
+    let all : at.x ≡ 2 ^ c.args.items = omega (arith, pow_pos c.args.items) in
+    rw all at at.invariant.1

@@ -1,7 +1,6 @@
 use Prim.Native.Nat.{◌+◌, ◌*◌, ◌^◌, ◌≤◌, ◌<◌}
 use mathlib.Core.Path.{◌≡◌}
 use native.Mathlib.Omega.{arith}
-use borrow.Author.Rules.{rules}
 use Rattle.assignment.specs.KeyLaws.{keys_fit}
 use Rattle.assignment.specs.Limits.{most_items}
 use Rattle.light.specs.Light.{LightBelow}
@@ -10,7 +9,7 @@ use Rattle.light.proofs.light_plan.Goals as goal
 use Rattle.light.proofs.light_plan.Goals.{After-first_cheapest-pick}
 
 pub loop-i-init : goal.loop-i-init
-loop-i-init c = (search rules, no_items _ _ _ _ _ _)
+loop-i-init c = no_items _ _ _ _ _ _
 
 pub first_cheapest-pick-requires : goal.first_cheapest-pick-requires
 first_cheapest-pick-requires c =
@@ -24,7 +23,7 @@ added : (c : goal.After-first_cheapest-pick) → c.loop-i.used + c.first_cheapes
     let pick = c.first_cheapest-pick.result in
     LightBelow a.levels a.capacity a.load.now a.cost.now a.refusal.now a.must.now (at.i + 1) (at.used + pick.load) (at.total + pick.cost) (at.key * 33 + pick.choice)
 added c fits =
-    one_more_item c.requires c.loop-i.invariant.1 c.loop-i-test.true c.first_cheapest-pick.ensures fits
+    one_more_item c.requires c.loop-i.invariant c.loop-i-test.true c.first_cheapest-pick.ensures fits
 
 -- so its key is of few enough digits
 key_fits : (c : goal.After-first_cheapest-pick) → c.loop-i.used + c.first_cheapest-pick.result.load ≤ c.args.capacity →
@@ -43,10 +42,10 @@ pub overflow_add-key : goal.overflow_add-key
 overflow_add-key c = omega (arith, key_fits (goal.at.overflow_add-key c).After-first_cheapest-pick (omega arith))
 
 pub loop-i-preserved : goal.loop-i-preserved
-loop-i-preserved c = (search rules, added (goal.at.loop-i-preserved c).After-first_cheapest-pick (omega arith))
+loop-i-preserved c = added (goal.at.loop-i-preserved c).After-first_cheapest-pick (omega arith)
 
 pub returns : goal.returns
 returns c =
     let at = c.loop-i in
     let all : at.i ≡ c.args.items = omega arith in
-    λ real cores some. light_is_best c.requires (rw all at at.invariant.1) cores some
+    λ real cores some. light_is_best c.requires (rw all at at.invariant) cores some

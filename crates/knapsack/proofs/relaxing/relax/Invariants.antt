@@ -1,5 +1,4 @@
 -- Level after level the knapsack becomes that of the item before the other knapsack.
-use Prim.Native.Nat.{◌≤◌, ◌-◌}
 use mathlib.Core.Path.{◌≡◌}
 use lib.ListN.{length}
 use Rattle.knapsack.specs.RelaxedItems.{KnapsackWithItem}
@@ -7,8 +6,5 @@ use Rattle.knapsack.proofs.relaxing.relax.Given as goal
 
 abbrev pub invariant-loop-l : goal.invariant-loop-l
 invariant-loop-l l =
-    (l.l ≤ l.front.core.levels) × (length l.costs ≡ length l.initial.costs) × (length l.keys ≡ length l.initial.keys)
+    (length l.costs ≡ length l.initial.costs) × (length l.keys ≡ length l.initial.keys)
     × KnapsackWithItem l.front l.load l.cost l.knapsack_costs l.knapsack_keys l.l l.costs l.keys
-
-abbrev pub decreases-loop-l : goal.decreases-loop-l
-decreases-loop-l l = l.front.core.levels - l.l

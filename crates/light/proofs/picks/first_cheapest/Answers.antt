@@ -1,6 +1,5 @@
 use mathlib.Core.Path.{◌≡◌, refl}
 use native.Mathlib.Omega.{arith}
-use borrow.Author.Rules.{rules}
 use Rattle.knapsack.specs.Offered.{offer_at}
 use Rattle.values.specs.Items.{item_at}
 use Rattle.light.specs.Picks.{with_level}
@@ -8,15 +7,14 @@ use Rattle.light.proofs.picks.first_cheapest.Goals as goal
 
 pub loop-l-init : goal.loop-l-init
 unfolding item_at
-loop-l-init c = (search rules, c.refused-picked.ensures _ _ refl refl)
+loop-l-init c = c.refused-picked.ensures _ _ refl refl
 
 pub loop-l-preserved : goal.loop-l-preserved
 unfolding offer_at
-loop-l-preserved c =
-    (search rules, with_level _ _ c.loop-l.invariant.1 refl refl refl c.cheaper-picked.ensures)
+loop-l-preserved c = with_level _ _ c.loop-l.invariant refl refl refl c.cheaper-picked.ensures
 
 pub returns : goal.returns
 returns c =
     let at = c.loop-l in
     let all : at.l ≡ c.args.levels = omega arith in
-    rw all at at.invariant.1
+    rw all at at.invariant
