@@ -14,11 +14,7 @@ fn drop_all(from: usize, size: usize, costs: &mut [u64])
     requires { from + size ≤ length costs.old }
     ensures { NoneFrom from size costs.old costs.new }
 {
-    let mut x = 0;
-    while x < size {
-        costs[from + x] = NO_COST;
-        x += 1;
-    }
+    costs[from..from + size].fill(NO_COST);
 }
 
 // Of the sets that add some of the items from `item` on to a set that is served, the entries of those that are not become none; the column

@@ -16,10 +16,8 @@ fn add_item(half: usize, amount: u64, sums: &mut [u64])
     requires { RoomToAdd half amount sums.old }
     ensures { AddedBelow half amount half sums.old sums.new }
 {
-    let mut x = 0;
-    while x < half {
+    for x in 0..half {
         sums[half + x] = sums[x] + amount;
-        x += 1;
     }
 }
 
@@ -29,11 +27,9 @@ pub(crate) fn fill_sums(items: usize, least: [u64; MOST_ITEMS], sums: &mut [u64]
     ensures { NumberedBy items (least_priced least 0) sums.new }
 {
     let mut half = 1;
-    let mut i = items;
-    while 0 < i {
-        i -= 1;
+    for i in (0..items).rev() {
         add_item(half, least[i], sums);
-        half = half * 2;
+        half *= 2;
     }
 }
 
@@ -71,8 +67,7 @@ pub fn lift_all(
     let least = relaxed.least;
     fill_sums(items, least, &mut sums);
     let all = sets_of(items);
-    let mut x = 0;
-    while x < all {
+    for x in 0..all {
         let old = Worth {
             cost: costs[x],
             key: keys[x],
@@ -80,6 +75,5 @@ pub fn lift_all(
         let new = lifted(old, sums[x], weights[x], relaxed.budget);
         costs[x] = new.cost;
         keys[x] = new.key;
-        x += 1;
     }
 }

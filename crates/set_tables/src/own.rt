@@ -44,10 +44,8 @@ fn own_level(timed: Timed, item: usize, timings: &[u32], cost: &[u64]) -> usize
     ensures upper_bound { result < timed.levels }
 {
     let mut own = 0;
-    let mut level = 0;
-    while level < timed.levels {
+    for level in 0..timed.levels {
         own = better_level(item, level, own, timings, cost);
-        level += 1;
     }
     own
 }
@@ -102,10 +100,8 @@ fn own_columns(timed: Timed, timings: &[u32], cost: &[u64]) -> OwnColumns
         costs: [0; MOST_ITEMS],
         digits: [0; MOST_ITEMS],
     };
-    let mut item = 0;
-    while item < timed.items {
+    for item in 0..timed.items {
         own = with_item(timed, own, item, timings, cost);
-        item += 1;
     }
     own
 }

@@ -30,12 +30,10 @@ pub fn core_set(items: usize, levels: usize, core: usize, key: u64) -> usize
     let mut power = keys_of(items);
     let mut rest = key;
     let mut set = 0;
-    let mut i = 0;
-    while i < items {
-        power = power / KEY_BASE;
+    for _i in 0..items {
+        power /= KEY_BASE;
         set = set * 2 + runs_on(levels, core, (rest / power) as usize);
-        rest = rest % power;
-        i += 1;
+        rest %= power;
     }
     set
 }

@@ -1,7 +1,7 @@
 use Prim.Native.Nat.{◌^◌, ◌≤◌, ◌<◌}
-use mathlib.Core.Path.{◌≡◌, refl, ◌∙◌}
+use mathlib.Core.Path.{◌≡◌, refl}
 use native.Mathlib.Omega.{arith}
-use lib.ListN.{length, length-set}
+use lib.ListN.{length}
 use lib.Pow.{pow_mono}
 use Rattle.set_tables.specs.LiftingLaws.{none_lifted, next_cost, one_lifted}
 use Rattle.set_tables.proofs.lifting.lift_all.Goals as goal
@@ -16,16 +16,16 @@ pub sets_of-all-requires : goal.sets_of-all-requires
 sets_of-all-requires c = c.requires.lift_ready.few_items
 
 pub loop-x-init : goal.loop-x-init
-loop-x-init c = (refl, refl, omega arith, none_lifted)
+loop-x-init c = none_lifted
 
 under : (c : goal.In-loop-x) → c.loop-x.x < 2 ^ c.args.items
 under c = omega (arith, c.sets_of-all.ensures)
 
 in_costs : (c : goal.In-loop-x) → c.loop-x.x < length c.loop-x.costs
-in_costs c = omega (arith, under c, c.loop-x.invariant.0, c.requires.lift_ready.table.costs_for_all)
+in_costs c = omega (arith, under c, c.loop-x.auto.costs, c.requires.lift_ready.table.costs_for_all)
 
 in_keys : (c : goal.In-loop-x) → c.loop-x.x < length c.loop-x.keys
-in_keys c = omega (arith, under c, c.loop-x.invariant.1, c.requires.lift_ready.table.keys_for_all)
+in_keys c = omega (arith, under c, c.loop-x.auto.keys, c.requires.lift_ready.table.keys_for_all)
 
 room : (c : goal.In-loop-x) → 2 ^ c.args.items ≤ 4096
 room c = pow_mono c.requires.lift_ready.few_items
@@ -46,7 +46,7 @@ pub lifted-new-requires : goal.lifted-new-requires
 lifted-new-requires c =
     let at = c.loop-x in
     let ready = c.requires.lift_ready in
-    (omega (arith, next_cost at.invariant.3, ready.table.cost_bound at.x (under (goal.at.lifted-new-requires c).In-loop-x)), ready.low_budget)
+    (omega (arith, next_cost at.invariant, ready.table.cost_bound at.x (under (goal.at.lifted-new-requires c).In-loop-x)), ready.low_budget)
 
 pub bounds-costs-x-in-loop-x : goal.bounds-costs-x-in-loop-x
 bounds-costs-x-in-loop-x c = in_costs (goal.at.bounds-costs-x-in-loop-x c).In-loop-x
@@ -54,30 +54,13 @@ bounds-costs-x-in-loop-x c = in_costs (goal.at.bounds-costs-x-in-loop-x c).In-lo
 pub bounds-keys-x-in-loop-x : goal.bounds-keys-x-in-loop-x
 bounds-keys-x-in-loop-x c = in_keys (goal.at.bounds-keys-x-in-loop-x c).In-loop-x
 
-pub overflow_add-x : goal.overflow_add-x
-overflow_add-x c = omega (arith, under (goal.at.overflow_add-x c).In-loop-x, room (goal.at.overflow_add-x c).In-loop-x)
-
-pub loop-x-smaller : goal.loop-x-smaller
-loop-x-smaller c = omega (arith, under (goal.at.loop-x-smaller c).In-loop-x)
-
 pub loop-x-preserved : goal.loop-x-preserved
 loop-x-preserved c =
-    let in-loop = c in
-    let at = c.loop-x in (
-      length-set at.costs at.x _ ∙ at.invariant.0,
-      length-set at.keys at.x _ ∙ at.invariant.1,
-      omega (arith, under (goal.at.loop-x-preserved c).In-loop-x),
-      one_lifted at.invariant.3 (under (goal.at.loop-x-preserved c).In-loop-x) (in_costs (goal.at.loop-x-preserved c).In-loop-x) (in_keys (goal.at.loop-x-preserved c).In-loop-x) c.fill_sums.ensures c.requires.weights_below c.lifted-new.ensures,
-    )
-
-pub shape_of-costs : goal.shape_of-costs
-shape_of-costs c = c.loop-x.invariant.0
-
-pub shape_of-keys : goal.shape_of-keys
-shape_of-keys c = c.loop-x.invariant.1
+    let at = c.loop-x in
+    one_lifted at.invariant (under (goal.at.loop-x-preserved c).In-loop-x) (in_costs (goal.at.loop-x-preserved c).In-loop-x) (in_keys (goal.at.loop-x-preserved c).In-loop-x) c.fill_sums.ensures c.requires.weights_below c.lifted-new.ensures
 
 pub returns : goal.returns
 returns c =
     let at = c.loop-x in
     let all : at.x ≡ 2 ^ c.args.items = omega (arith, c.sets_of-all.ensures) in
-    rw all at at.invariant.3
+    rw all at at.invariant

@@ -1,13 +1,11 @@
-use Prim.Native.Nat.{suc, ◌+◌}
-use mathlib.Core.Path.{◌≡◌, refl, ◌∙◌}
-use native.Mathlib.Omega.{arith}
+use Rattle.std.proofs.Common.{suc, ◌+◌, ◌≡◌, refl, ◌∙◌, arith}
 use Rattle.set_tables.specs.OwnLevelLaws.{own_at_most, own_below}
 use Rattle.set_tables.specs.OwnPatterns.{own_level}
 use Rattle.set_tables.proofs.own.own_level.Goals as goal
 
 pub loop-level-init : goal.loop-level-init
 unfolding own_level
-loop-level-init c = (omega arith, refl)
+loop-level-init c = refl
 
 pub better_level-own-requires : goal.better_level-own-requires
 better_level-own-requires c =
@@ -17,7 +15,7 @@ better_level-own-requires c =
     record {
       is_item = omega (arith, pre.timed_ready.timed_items.few_items);
       is_level = omega (arith, levels, c.loop-level-test.true);
-      is_best = omega (arith, levels, c.loop-level-test.true, at.invariant.1, own_at_most c.args.timings.now c.args.cost.now c.args.item at.level);
+      is_best = omega (arith, levels, c.loop-level-test.true, at.invariant, own_at_most c.args.timings.now c.args.cost.now c.args.item at.level);
       timings_for_it = omega (arith, pre.timed_ready.timed_items.timings_for_all);
       costs_for_it = omega (arith, pre.timed_ready.costs_for_all);
     }
@@ -27,11 +25,11 @@ unfolding own_level
 loop-level-preserved c =
     let at = c.loop-level in
     let next : at.level + 1 ≡ suc at.level = omega arith in
-    (omega (arith, c.loop-level-test.true), rw next (c.better_level-own.ensures ∙ rw at.invariant.1 refl))
+    rw next (c.better_level-own.ensures ∙ rw at.invariant refl)
 
 pub returns : goal.returns
 returns c =
     let at = c.loop-level in
-    let all : at.level ≡ c.args.timed.levels = omega (arith, c.loop-level-test.false, at.invariant.0) in
-    let own = rw all at at.invariant.1 in
+    let all : at.level ≡ c.args.timed.levels = omega (arith, c.loop-level-test.false, at.auto.level-end) in
+    let own = rw all at at.invariant in
     record { value = own; upper_bound = rw own (own_below c.args.timings.now c.args.cost.now c.args.item c.args.timed.levels c.requires.le_levels.0) }

@@ -1,10 +1,6 @@
 -- `core_set` reads one choice after the other, from the first.
-use Prim.Native.Nat.{◌-◌}
 use Rattle.set_tables.specs.CoreSets.{SetRead}
 use Rattle.set_tables.proofs.sets.core_set.Given as goal
 
 abbrev pub invariant-loop-i : goal.invariant-loop-i
-invariant-loop-i l = SetRead l.items l.levels l.core l.key l.power l.rest l.set l.i
-
-abbrev pub decreases-loop-i : goal.decreases-loop-i
-decreases-loop-i l = l.items - l.i
+invariant-loop-i l = SetRead l.items l.levels l.core l.key l.power l.rest l.set l._i
