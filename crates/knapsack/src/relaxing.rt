@@ -31,30 +31,73 @@ pub struct Choice {
     pub key: u64,
 }
 
-// Each entry of a knapsack becomes that of the choice before another knapsack, where that is cheaper. Levels are taken in ascending
-// order, so at equal costs the entry has the smaller key.
-fn relax_level(
-    choice: Choice,
-    capacity: usize,
-    knapsack_costs: &[u64],
-    knapsack_keys: &[u64],
-    costs: &mut [u64],
-    keys: &mut [u64],
-)
-    requires knapsack_sums_fit { KnapsackSumsFit choice.load choice.cost choice.key capacity knapsack_costs.now knapsack_keys.now }
-    requires capacity_in_bounds { (capacity < length costs.old) × (capacity < length keys.old) }
-    ensures { (w : ℕ) → w ≤ capacity →
-        Relaxed choice.load choice.cost choice.key knapsack_costs.now knapsack_keys.now w
-        (get_or costs.old w 0) (get_or keys.old w 0)
-        (get_or costs.new w 0) (get_or keys.new w 0) }
-{
-    let load = choice.load;
-    for w in load..=capacity {
-        let rest = w - load;
-        let cost = choice.cost + knapsack_costs[rest];
-        if cost < costs[w] {
-            costs[w] = cost;
-            keys[w] = choice.key + knapsack_keys[rest];
+impl Choice {
+    // Each entry of a knapsack becomes that of the choice before another knapsack, where that is cheaper. Levels are taken in ascending
+    // order, so at equal costs the entry has the smaller key.
+    fn relax(
+        self,
+        capacity: usize,
+        knapsack_costs: &[u64],
+        knapsack_keys: &[u64],
+        costs: &mut [u64],
+        keys: &mut [u64],
+    )
+        requires knapsack_sums_fit { KnapsackSumsFit self.load self.cost self.key capacity knapsack_costs.now knapsack_keys.now }
+        requires capacity_in_bounds { (capacity < length costs.old) × (capacity < length keys.old) }
+        ensures { (w : ℕ) → w ≤ capacity →
+            Relaxed self.load self.cost self.key knapsack_costs.now knapsack_keys.now w
+            (get_or costs.old w 0) (get_or keys.old w 0)
+            (get_or costs.new w 0) (get_or keys.new w 0) }
+    {
+        for w in self.load..=capacity {
+            let rest = w - self.load;
+            let cost = self.cost + knapsack_costs[rest];
+            if cost < costs[w] {
+                costs[w] = cost;
+                keys[w] = self.key + knapsack_keys[rest];
+            }
+        }
+    }
+}
+
+impl Front {
+    // The item at a level.
+    pub fn choice_at(self, load: &[u64], cost: &[u64], level: usize) -> Choice
+        requires { ChoiceFits load.now cost.now self level }
+        ensures { result ≡ choice_of load.now cost.now self level }
+    {
+        let at = self.item * STRIDE + level;
+        Choice {
+            load: load[at] as usize,
+            cost: cost[at],
+            key: (level as u64 + 1) * self.digit,
+        }
+    }
+
+    // The knapsack of a set with the item, from a knapsack of none.
+    pub fn relax(
+        self,
+        load: &[u64],
+        cost: &[u64],
+        knapsack_costs: &[u64],
+        knapsack_keys: &[u64],
+        costs: &mut [u64],
+        keys: &mut [u64],
+    )
+        requires item_before { ItemBefore self load.now cost.now knapsack_costs.now knapsack_keys.now }
+        requires flat_knapsack { FlatKnapsack no_cost 0 self.core.capacity costs.old keys.old }
+        ensures { KnapsackWithItem self load.now cost.now knapsack_costs.now knapsack_keys.now
+            self.core.levels costs.new keys.new }
+    {
+        for l in 0..self.core.levels {
+            let choice = self.choice_at(load, cost, l);
+            choice.relax(
+                self.core.capacity,
+                knapsack_costs,
+                knapsack_keys,
+                costs,
+                keys,
+            );
         }
     }
 }
@@ -63,12 +106,7 @@ pub fn choice_at(load: &[u64], cost: &[u64], front: Front, level: usize) -> Choi
     requires { ChoiceFits load.now cost.now front level }
     ensures { result ≡ choice_of load.now cost.now front level }
 {
-    let at = front.item * STRIDE + level;
-    Choice {
-        load: load[at] as usize,
-        cost: cost[at],
-        key: (level as u64 + 1) * front.digit,
-    }
+    front.choice_at(load, cost, level)
 }
 
 // The knapsack of a set with the item, from a knapsack of none.
@@ -86,15 +124,5 @@ pub fn relax(
     ensures { KnapsackWithItem front load.now cost.now knapsack_costs.now knapsack_keys.now
         front.core.levels costs.new keys.new }
 {
-    for l in 0..front.core.levels {
-        let choice = choice_at(load, cost, front, l);
-        relax_level(
-            choice,
-            front.core.capacity,
-            knapsack_costs,
-            knapsack_keys,
-            costs,
-            keys,
-        );
-    }
+    front.relax(load, cost, knapsack_costs, knapsack_keys, costs, keys);
 }

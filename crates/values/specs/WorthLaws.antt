@@ -63,6 +63,13 @@ is_first-decides a b = go (ltb a.cost b.cost) (eqb a.cost b.cost) (ltb a.key b.k
     go false false r ep eq er =
         ⊎_elim (λ less. omega (arith, ltb-false a.cost b.cost ep)) (λ tied. eqb-false _ _ eq tied.0)
 
+-- as `a < b` answers
+pub less_first : {a b : Worth} → partial_lt PartialOrder.ghosts.partial_cmp a b ≡ true → First a b
+less_first {a} {b} less = rw (← less_is_first a b, less) at (is_first-decides a b)
+
+pub less_not_first : {a b : Worth} → partial_lt PartialOrder.ghosts.partial_cmp a b ≡ false → ¬ (First a b)
+less_not_first {a} {b} less = rw (← less_is_first a b, less) at (is_first-decides a b)
+
 pub lesser_worth-is_second : (a b : Worth) → First b a → lesser_worth a b ≡ b
 unfolding lesser_worth
 lesser_worth-is_second a b before = go (is_first b a) (is_first-decides b a)

@@ -2,7 +2,7 @@
 ghost use Rattle.std.specs.Prelude.{◌≡◌, ◌<◌, length};
 ghost use Rattle.assignment.specs.Entries.{Lowered};
 ghost use Rattle.assignment.specs.Words.{value_of};
-ghost use Rattle.values.specs.Worths.{lesser_worth};
+ghost use Rattle.values.specs.Worths.{lesser_worth, worth_of};
 
 // 2^62: a cost from here on stands for none.
 pub const NO_COST: u64 = 0x4000_0000_0000_0000;
@@ -20,6 +20,22 @@ impl Worth {
         cost: NO_COST,
         key: 0,
     };
+
+    // Lowers entry s of a table, a slice of costs and one of keys, to this, where it comes first.
+    pub fn lower(self, s: usize, costs: &mut [u64], keys: &mut [u64])
+        requires s_in_bounds { s < length costs.old }
+        requires s_in_bounds_2 { s < length keys.old }
+        ensures { Lowered s (worth_of self) costs.old keys.old costs.new keys.new }
+    {
+        let entry = Worth {
+            cost: costs[s],
+            key: keys[s],
+        };
+        if self < entry {
+            costs[s] = self.cost;
+            keys[s] = self.key;
+        }
+    }
 }
 
 // The cheaper of the two, of equal costs the one with the smaller key, and the first where both are equal.
@@ -36,14 +52,5 @@ pub fn lower(s: usize, cost: u64, key: u64, costs: &mut [u64], keys: &mut [u64])
     requires s_in_bounds_2 { s < length keys.old }
     ensures { Lowered s (value_of cost key) costs.old keys.old costs.new keys.new }
 {
-    if cost < costs[s] {
-        costs[s] = cost;
-        keys[s] = key;
-        return;
-    }
-    if cost == costs[s] {
-        if key < keys[s] {
-            keys[s] = key;
-        }
-    }
+    Worth { cost, key }.lower(s, costs, keys);
 }

@@ -2,8 +2,8 @@ use Prim.Native.Nat.{suc}
 use native.Mathlib.Numerals.{add-one}
 use native.Mathlib.Omega.{arith}
 use Rattle.knapsack.specs.RelaxedKnapsacks.{RelaxedBelow, relaxed_start, relaxed_kept, relaxed_stored}
-use Rattle.knapsack.proofs.relaxing.relax_level.Goals.{Joined-cost-costs, then-cost-costs, else-cost-costs}
-use Rattle.knapsack.proofs.relaxing.relax_level.Goals as goal
+use Rattle.knapsack.proofs.relaxing.Choice.relax.Goals.{Joined-cost-costs, then-cost-costs, else-cost-costs}
+use Rattle.knapsack.proofs.relaxing.Choice.relax.Goals as goal
 
 pub loop-w-init : goal.loop-w-init
 loop-w-init c = relaxed_start _ _ _ _ _ _ _ _
@@ -17,7 +17,7 @@ overflow_add-keys c = record { fits = c.requires.knapsack_sums_fit.key_fits _ (o
 -- entry w is relaxed beside those below it
 relaxed : (c : goal.Joined-cost-costs) →
     let a = c.args in
-    RelaxedBelow a.choice.load a.choice.cost a.choice.key a.knapsack_costs.now a.knapsack_keys.now a.costs.now a.keys.now a.capacity (suc c.loop-w.w) c.if-cost-costs.costs c.if-cost-costs.keys
+    RelaxedBelow a.self.load a.self.cost a.self.key a.knapsack_costs.now a.knapsack_keys.now a.costs.now a.keys.now a.capacity (suc c.loop-w.w) c.if-cost-costs.costs c.if-cost-costs.keys
 relaxed c =
     let at = c.loop-w in
     elim c.if-cost-costs.branch [

@@ -1,7 +1,0 @@
--- Entries below `w` are relaxed, the others as they were.
-use Rattle.knapsack.specs.RelaxedKnapsacks.{RelaxedBelow}
-use Rattle.knapsack.proofs.relaxing.relax_level.Given as goal
-
-abbrev pub invariant-loop-w : goal.invariant-loop-w
-invariant-loop-w l =
-    RelaxedBelow l.load l.choice.cost l.choice.key l.knapsack_costs l.knapsack_keys l.initial.costs l.initial.keys l.capacity l.w l.costs l.keys
