@@ -26,7 +26,7 @@ least_below-parts n (suc m) f =
     let more : n + suc m ≡ suc (n + m) = omega arith in
     rw (more, least_below-parts n m f) (lesser_assoc _ _ _)
 
-least_listed-parts : (points : List ℕ) {from mid to : ℕ} (rest : ℕ → Value) (w : ℕ) → from ≤ mid → mid ≤ to →
+least_listed-parts : (points : List Choice) {from mid to : ℕ} (rest : ℕ → Value) (w : ℕ) → from ≤ mid → mid ≤ to →
     least_listed points from (to - from) rest w
     ≡ lesser (least_listed points from (mid - from) rest w) (least_listed points mid (to - mid) rest w)
 unfolding least_listed
@@ -38,7 +38,7 @@ least_listed-parts points {from} {mid} {to} rest w first second =
     (least_below-alike (to - mid) _ _ (λ i below. let same : from + (mid - from + i) ≡ mid + i = omega arith in rw same))
 
 module _ {front : Front} {from to used : ℕ} {load cost : List ℕ} where
-  pub append_no_level : (points : List ℕ) → ItemAppended front from to used load cost points 0 points used
+  pub append_no_level : (points : List Choice) → ItemAppended front from to used load cost points 0 points used
   unfolding least_listed least_below
   append_no_level points =
       let no_entry : used - used ≡ 0 = omega arith in
@@ -50,8 +50,8 @@ module _ {front : Front} {from to used : ℕ} {load cost : List ℕ} where
         small = λ n places sum small p after below. absurd (omega arith);
       }
 
-  module _ {points₀ : List ℕ} (fits : ItemRoom front from to used load cost points₀) {l : ℕ} (under : l < front.core.levels)
-      {points : List ℕ} {end : ℕ} (sofar : ItemAppended front from to used load cost points₀ l points end)
+  module _ {points₀ : List Choice} (fits : ItemRoom front from to used load cost points₀) {l : ℕ} (under : l < front.core.levels)
+      {points : List Choice} {end : ℕ} (sofar : ItemAppended front from to used load cost points₀ l points end)
       {choice : Choice} (chosen : choice ≡ choice_of load cost front l) where
     -- the entries that are read stay
     read_same : (p : ℕ) → p < to → point_at points p ≡ point_at points₀ p
@@ -97,7 +97,7 @@ module _ {front : Front} {from to used : ℕ} {load cost : List ℕ} where
           small = sofar.small;
         }
 
-    pub append_one_level : {points' : List ℕ} {end' : ℕ} → choice.load ≤ front.core.capacity →
+    pub append_one_level : {points' : List Choice} {end' : ℕ} → choice.load ≤ front.core.capacity →
         LevelAppended front.core.capacity choice from to end points points' end' →
         ItemAppended front from to used load cost points₀ (suc l) points' end'
     unfolding least_below

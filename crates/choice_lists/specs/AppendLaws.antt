@@ -1,5 +1,5 @@
 -- A choice is appended with one entry of a list after the other.
-use Rattle.std.specs.Prelude.{ℕ, suc, ◌+◌, ◌*◌, ◌-◌, ◌≤◌, ◌<◌, ◌≡◌, ◌⊎◌, List, length}
+use Rattle.std.specs.Prelude.{ℕ, suc, ◌+◌, ◌-◌, ◌≤◌, ◌<◌, ◌≡◌, ◌⊎◌, List, length, set}
 use Rattle.std.proofs.Math.Path.{refl}
 use Rattle.std.proofs.Common.{sym, ap, ◌∙◌, inl, inr}
 use Rattle.std.proofs.Math.Nat.{le_refl}
@@ -7,18 +7,17 @@ use native.Mathlib.Omega.{arith}
 use Rattle.laws.specs.Below.{lt_or_le}
 use Rattle.choice_lists.specs.Appended.{LevelAppended}
 use Rattle.assignment.specs.LeastLaws.{lesser_none}
-use Rattle.choice_lists.specs.Listed.{before, point_at, least_listed, PointSmall, point_width}
-use Rattle.choice_lists.specs.PointLaws.{least_listed-alike, least_listed-more, point_older, with_point_older, with_point_there}
+use Rattle.choice_lists.specs.Listed.{before, point_at, least_listed, PointSmall}
+use Rattle.choice_lists.specs.PointLaws.{least_listed-alike, least_listed-more, point_older, entry_put_older, entry_put}
 use Rattle.choice_lists.specs.Spread.{sum_of, least_sums, Sound, present}
 use Rattle.choice_lists.specs.SpreadLaws.{before_none}
 use Rattle.choice_lists.specs.SpreadLevels.{one_more_sum}
-use Rattle.choice_lists.specs.Sweep.{with_point, Older}
+use Rattle.choice_lists.specs.Sweep.{Older}
 use Rattle.assignment.specs.Values.{Value, pair, lesser, least_below}
 use Rattle.knapsack.specs.declared.relaxing.Choice.{Choice}
-use Rattle.values.specs.declared.value.Worth.{Worth}
 
 module _ {capacity from start : ℕ} {choice : Choice} where
-  pub append_nothing : (points : List ℕ) → LevelAppended capacity choice from from start points points start
+  pub append_nothing : (points : List Choice) → LevelAppended capacity choice from from start points points start
   unfolding least_listed least_sums least_below
   append_nothing points =
       let empty : from - from ≡ 0 = omega arith in
@@ -31,7 +30,7 @@ module _ {capacity from start : ℕ} {choice : Choice} where
         small = λ n places sums p after below. absurd (omega arith);
       }
 
-  module _ {p end : ℕ} (after : from ≤ p) {points₀ points : List ℕ}
+  module _ {p end : ℕ} (after : from ≤ p) {points₀ points : List Choice}
       (sofar : LevelAppended capacity choice from p start points₀ points end) where
     pub append_over : capacity < choice.load + (point_at points₀ p).load →
         LevelAppended capacity choice from (suc p) start points₀ points end
@@ -49,11 +48,9 @@ module _ {capacity from start : ℕ} {choice : Choice} where
           small = λ n places sums. sofar.small n places (λ q behind below. sums q behind (omega arith));
         }
 
-    pub append_stored : {worth : Worth} → choice.load + (point_at points₀ p).load ≤ capacity → suc end * point_width ≤ length points₀ →
-        worth.cost ≡ choice.cost + (point_at points₀ p).cost → worth.key ≡ choice.key + (point_at points₀ p).key →
-        LevelAppended capacity choice from (suc p) start points₀
-        (with_point points end (choice.load + (point_at points₀ p).load) worth) (suc end)
-    append_stored {worth} fits room is_cost is_key =
+    pub append_stored : choice.load + (point_at points₀ p).load ≤ capacity → end < length points₀ →
+        LevelAppended capacity choice from (suc p) start points₀ (set points end (sum_of choice (point_at points₀ p))) (suc end)
+    append_stored fits room =
         record {
           older =
               record {
@@ -73,22 +70,20 @@ module _ {capacity from start : ℕ} {choice : Choice} where
           small = λ n places sums q behind below. new n places sums q behind below (lt_or_le q end);
         }
       where
-        sum_load : ℕ
-        sum_load = choice.load + (point_at points₀ p).load
+        sum : Choice
+        sum = sum_of choice (point_at points₀ p)
 
-        points' : List ℕ
-        points' = with_point points end sum_load worth
+        points' : List Choice
+        points' = set points end sum
 
         stored : Older end points points'
-        stored = with_point_older points end sum_load worth
+        stored = entry_put_older points end sum
 
-        there : point_at points' end ≡ sum_of choice (point_at points₀ p)
-        there =
-            with_point_there points end sum_load worth (omega (arith, sofar.older.same_length))
-            ∙ rw (is_cost, is_key) refl
+        there : point_at points' end ≡ sum
+        there = entry_put points end sum (omega (arith, sofar.older.same_length))
 
         new_small : {n places c k : ℕ} → Sound n places (pair c k) →
-            PointSmall capacity n places record { load = sum_load; cost = c; key = k }
+            PointSmall capacity n places record { load = sum.load; cost = c; key = k }
         new_small (present c k cheap digits) = record { fits = fits; cheap = cheap; digits = digits }
 
         new : (n places : ℕ) →

@@ -1,6 +1,6 @@
 -- The choices for a set with one item more, written as they come behind the entries of a list.
 use Rattle.std.specs.Prelude.{ℕ, suc, ◌+◌, ◌*◌, ◌-◌, ◌≤◌, ◌<◌, ◌≡◌, List, length}
-use Rattle.choice_lists.specs.Listed.{point_at, least_listed, PointSmall, point_width}
+use Rattle.choice_lists.specs.Listed.{point_at, least_listed, PointSmall}
 use Rattle.knapsack.specs.Offered.{offer_at}
 use Rattle.knapsack.specs.Knapsacks.{at_level}
 use Rattle.choice_lists.specs.Spread.{least_sums, Sound, SumsSmall, ItemFits}
@@ -10,13 +10,13 @@ use Rattle.knapsack.specs.declared.relaxing.Choice.{Choice}
 use Rattle.knapsack.specs.declared.relaxing.Front.{Front}
 
 -- there is room for a choice with each of the entries from `from` to `to`, behind the first `start` entries
-pub record LevelRoom (capacity : ℕ) (choice : Choice) (from to start : ℕ) (points : List ℕ) : Type 0 where
+pub record LevelRoom (capacity : ℕ) (choice : Choice) (from to start : ℕ) (points : List Choice) : Type 0 where
   pub sums : SumsSmall capacity choice from to points
   pub behind : to ≤ start
-  pub room : (start + (to - from)) * point_width ≤ length points
+  pub room : start + (to - from) ≤ length points
 
 -- the sums of a choice with the entries from `from` to `to` are those from `start` to `end`, but for sums above the capacity
-pub record LevelAppended (capacity : ℕ) (choice : Choice) (from to start : ℕ) (points₀ points : List ℕ) (end : ℕ) : Type 0 where
+pub record LevelAppended (capacity : ℕ) (choice : Choice) (from to start : ℕ) (points₀ points : List Choice) (end : ℕ) : Type 0 where
   pub older : Older start points₀ points
   pub ordered : start ≤ end
   pub few : end ≤ start + (to - from)
@@ -28,13 +28,13 @@ pub record LevelAppended (capacity : ℕ) (choice : Choice) (from to start : ℕ
       (p : ℕ) → start ≤ p → p < end → PointSmall capacity n places (point_at points p)
 
 -- there is room for an item at every level before the entries from `from` to `to`, behind the first `used` entries
-pub record ItemRoom (front : Front) (from to used : ℕ) (load cost points : List ℕ) : Type 0 where
+pub record ItemRoom (front : Front) (from to used : ℕ) (load cost : List ℕ) (points : List Choice) : Type 0 where
   pub item : ItemFits front from to load cost points
   pub behind : to ≤ used
-  pub room : (used + front.core.levels * (to - from)) * point_width ≤ length points
+  pub room : used + front.core.levels * (to - from) ≤ length points
 
 -- the item's first l levels before the entries from `from` to `to` are the entries from `used` to `end`
-pub record ItemAppended (front : Front) (from to used : ℕ) (load cost points₀ : List ℕ) (l : ℕ) (points : List ℕ)
+pub record ItemAppended (front : Front) (from to used : ℕ) (load cost : List ℕ) (points₀ : List Choice) (l : ℕ) (points : List Choice)
     (end : ℕ) : Type 0 where
   pub older : Older used points₀ points
   pub ordered : used ≤ end

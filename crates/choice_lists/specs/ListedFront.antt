@@ -5,19 +5,17 @@ use Rattle.std.proofs.Math.Nat.{pow-le-pow_right}
 use Rattle.laws.specs.Below.{lt_or_le}
 use Rattle.laws.specs.Truth.{false_not_true}
 use Rattle.assignment.specs.LeastLaws.{none_lesser}
-use Rattle.choice_lists.specs.Listed.{before, point_at, least_listed, Listed, SetsListed, FrontListed, point_width}
+use Rattle.choice_lists.specs.Listed.{before, nothing, point_at, least_listed, Listed, SetsListed, FrontListed}
 use Rattle.choice_lists.specs.ListedSets.{WithItem, SetsFit}
 use Rattle.assignment.specs.Limits.{most_items}
 use Rattle.knapsack.specs.Offered.{Affordable}
-use Rattle.choice_lists.specs.PointLaws.{least_listed-more, with_point_older, with_point_there}
+use Rattle.choice_lists.specs.PointLaws.{least_listed-more, entry_put_older, entry_put}
 use Rattle.assignment.specs.Keys.{key_base}
 use Rattle.knapsack.specs.KnapsackSteps.{knapsack_before}
-use Rattle.choice_lists.specs.Sweep.{with_point}
 use Rattle.assignment.specs.Values.{Value, none, pair, add, least_below}
 use Rattle.knapsack.specs.declared.relaxing.Choice.{Choice}
 use Rattle.knapsack.specs.declared.relaxing.Core.{Core}
 use Rattle.knapsack.specs.declared.relaxing.Front.{Front}
-use Rattle.values.specs.declared.value.Worth.{Worth}
 
 -- as many items at most have lists
 abbrev pub most_listed : ℕ
@@ -32,16 +30,16 @@ abbrev pub front_at : Core → (n c items : ℕ) → Front
 front_at core n c items = record { core = core; item = n - 1 - c; places = items - n + c; digit = key_base ^ (items - n + c) }
 
 -- the first n of `items` items
-pub record ListsFit (core : Core) (n items : ℕ) (load cost points starts : List ℕ) : Type 0 where
+pub record ListsFit (core : Core) (n items : ℕ) (load cost : List ℕ) (points : List Choice) (starts : List ℕ) : Type 0 where
   pub items_limited : items ≤ most_items
   pub some_items : n ≤ items
   pub few : n ≤ most_listed
   pub affordable : Affordable items core.levels core.capacity load cost
-  pub some_points : point_width ≤ length points
+  pub some_points : 0 < length points
   pub starts_long : most_starts ≤ length starts
 
 -- the lengths alone matter
-pub lists_stay : {core : Core} {n items : ℕ} {load cost points starts points' starts' : List ℕ} → length points' ≡ length points →
+pub lists_stay : {core : Core} {n items : ℕ} {load cost : List ℕ} {points : List Choice} {starts : List ℕ} {points' : List Choice} {starts' : List ℕ} → length points' ≡ length points →
     length starts' ≡ length starts → ListsFit core n items load cost points starts → ListsFit core n items load cost points' starts'
 lists_stay same_points same_starts fits =
     record {
@@ -55,7 +53,7 @@ lists_stay same_points same_starts fits =
 
 -- with one item less, where there is one
 
-pub fewer_fit : {core : Core} {n items : ℕ} {load cost points starts : List ℕ} → ListsFit core n items load cost points starts →
+pub fewer_fit : {core : Core} {n items : ℕ} {load cost : List ℕ} {points : List Choice} {starts : List ℕ} → ListsFit core n items load cost points starts →
     ListsFit core (n - 1) items load cost points starts
 fewer_fit fits =
     record {
@@ -76,27 +74,23 @@ some_item {n} listed left always = go listed left always (lt_or_le 0 n)
     go false tried fits (inr zero) = absurd (false_not_true refl (fits (omega arith)))
 
 -- the sets of the last c of the first n items
-abbrev pub LastListed : Core → (n items : ℕ) (load cost : List ℕ) (c : ℕ) (points starts : List ℕ) → Type 0
+abbrev pub LastListed : Core → (n items : ℕ) (load cost : List ℕ) (c : ℕ) (points : List Choice) (starts : List ℕ) → Type 0
 LastListed core n items load cost c = SetsListed core load cost (n - c) c (items - n) (2 ^ c)
-
--- the choice of nothing
-abbrev pub nothing : Worth
-nothing = record { cost = 0; key = 0 }
 
 add_nothing : (v : Value) → add (pair 0 0) v ≡ v
 unfolding add
 add_nothing none = refl
 add_nothing (pair c k) = ap₂ pair (zero-add c) (zero-add k)
 
-nothing_before : (rest : ℕ → Value) (w : ℕ) → before record { load = 0; cost = 0; key = 0 } rest w ≡ rest w
+nothing_before : (rest : ℕ → Value) (w : ℕ) → before nothing rest w ≡ rest w
 unfolding before
 nothing_before rest w =
     let all : w - 0 ≡ w = omega arith in
     rw (le-leb 0 w (omega arith), all) (add_nothing (rest w))
 
 -- no item has one set, with one choice
-pub none_listed : {core : Core} (n items : ℕ) {load cost : List ℕ} (points starts : List ℕ) → point_width ≤ length points → 1 < length starts →
-    LastListed core n items load cost 0 (with_point points 0 0 nothing) (set (set starts 0 0) 1 1)
+pub none_listed : {core : Core} (n items : ℕ) {load cost : List ℕ} (points : List Choice) (starts : List ℕ) → 0 < length points → 1 < length starts →
+    LastListed core n items load cost 0 (set points 0 nothing) (set (set starts 0 0) 1 1)
 unfolding knapsack_before least_listed least_below
 none_listed {core} n items points starts room long =
     record {
@@ -104,8 +98,8 @@ none_listed {core} n items points starts room long =
       each = λ k below. let is : k ≡ 0 = omega arith in rw (is, first, second) one;
     }
   where
-    points' : List ℕ
-    points' = with_point points 0 0 nothing
+    points' : List Choice
+    points' = set points 0 nothing
 
     first : get_or (set (set starts 0 0) 1 1) 0 0 ≡ 0
     first = get_or-set_other (set starts 0 0) 1 0 1 0 (λ same. absurd (omega arith)) ∙ get_or-set_same starts 0 0 0 (omega arith)
@@ -113,14 +107,14 @@ none_listed {core} n items points starts room long =
     second : get_or (set (set starts 0 0) 1 1) 1 0 ≡ 1
     second = get_or-set_same (set starts 0 0) 1 1 0 (omega (arith, length-set starts 0 0))
 
-    there : point_at points' 0 ≡ record { load = 0; cost = 0; key = 0 }
-    there = with_point_there points 0 0 nothing (omega arith)
+    there : point_at points' 0 ≡ nothing
+    there = entry_put points 0 nothing (omega arith)
 
     one : Listed core.capacity 0 (items - n) (λ rest. rest) points' 0 1
     one =
         record {
           ordered = omega arith;
-          there = omega (arith, (with_point_older points 0 0 nothing).same_length);
+          there = omega (arith, (entry_put_older points 0 nothing).same_length);
           least = λ rest falling w under.
               least_listed-more points' {from = 0} {to = 0} rest w (omega arith)
               ∙ none_lesser _
@@ -131,7 +125,7 @@ none_listed {core} n items points starts room long =
               rw (is, there) record { fits = omega arith; cheap = omega arith; digits = rw (zero-add (items - n)) (omega arith) };
         }
 
-module _ {core : Core} {n items : ℕ} {load cost points starts : List ℕ} (fits : ListsFit core n items load cost points starts)
+module _ {core : Core} {n items : ℕ} {load cost : List ℕ} {points : List Choice} {starts : List ℕ} (fits : ListsFit core n items load cost points starts)
     {c : ℕ} (under : c < n) where
   behind_all : items - n + c - c ≡ items - n
   behind_all = omega arith
@@ -161,13 +155,13 @@ module _ {core : Core} {n items : ℕ} {load cost points starts : List ℕ} (fit
         behind = rw (next, behind_all) listed;
       }
 
-  pub one_more_listed : {points' starts' : List ℕ} → WithItem (front_at core n c items) c load cost points' starts' →
+  pub one_more_listed : {points' : List Choice} {starts' : List ℕ} → WithItem (front_at core n c items) c load cost points' starts' →
       LastListed core n items load cost (suc c) points' starts'
   one_more_listed listed =
       let next : n - 1 - c ≡ n - suc c = omega arith in
       rw (next, behind_all) at listed
 
-pub all_listed : {core : Core} {n : ℕ} (items : ℕ) {load cost points starts : List ℕ} →
+pub all_listed : {core : Core} {n : ℕ} (items : ℕ) {load cost : List ℕ} {points : List Choice} {starts : List ℕ} →
     LastListed core n items load cost n points starts → FrontListed core load cost n (items - n) points starts
 all_listed {n = n} items listed =
     let first : n - n ≡ 0 = omega arith in

@@ -1,42 +1,68 @@
 -- The sets with an item are listed one after the other.
-use Rattle.std.specs.Prelude.{ℕ, suc, ◌+◌, ◌*◌, ◌-◌, ◌^◌, ◌≤◌, ◌<◌, ◌≡◌, refl, Bool, true, false, List, leb, length}
-use Rattle.std.proofs.Common.{sym, ap, ◌∙◌, pow-suc, zero-add, add-zero, mul-le-mul_right, arith, leb-true, leb-false}
+use Rattle.std.specs.Prelude.{ℕ, suc, ◌+◌, ◌*◌, ◌-◌, ◌^◌, ◌≤◌, ◌<◌, ◌≡◌, true, false, List, length}
+use Rattle.std.proofs.Common.{sym, ap, le_refl, ◌∙◌, pow-suc, zero-add, add-zero, mul-le-mul_right, arith}
 use Rattle.choice_lists.specs.Appended.{ItemRoom, ItemAppended}
 use Rattle.knapsack.specs.FrontKnapsacks.{knapsack_before-first, knapsack_before-items}
-use Rattle.choice_lists.specs.Listed.{PointSmall, Listed, point_width}
-use Rattle.choice_lists.specs.ListedSets.{most_short, Short, SetFits, SetAdded}
+use Rattle.choice_lists.specs.Listed.{part, point_at, PointSmall, Listed}
+use Rattle.choice_lists.specs.ListedSets.{Short, SetFits, SetAdded}
 use Rattle.knapsack.specs.Offered.{offer_at}
 use Rattle.assignment.specs.Keys.{key_base}
 use Rattle.knapsack.specs.KnapsackSteps.{with_item, knapsack_before, with_item-same}
+use Rattle.choice_lists.specs.PointLaws.{part_length, part_entry, part_listed}
 use Rattle.choice_lists.specs.Spread.{ItemFits, ItemSpread}
 use Rattle.choice_lists.specs.Sweep.{Swept}
 use Rattle.assignment.specs.Values.{Value}
 use Rattle.knapsack.specs.declared.relaxing.Choice.{Choice}
 use Rattle.knapsack.specs.declared.relaxing.Core.{Core}
 use Rattle.knapsack.specs.declared.relaxing.Front.{Front}
-use Rattle.laws.specs.Tests.{Decides}
 
--- what is spread and swept is listed
-pub set_added : {front : Front} {from to used end : ℕ} {load cost points₀ points costs keys : List ℕ} →
-    ItemSpread front from to load cost points₀ front.core.levels costs keys →
+-- what is so of every entry from `from` to `to` is so of every entry of the part
+part_small : {capacity n places : ℕ} (points : List Choice) (from to : ℕ) → to ≤ length points →
+    ((p : ℕ) → from ≤ p → p < to → PointSmall capacity n places (point_at points p)) →
+    (p : ℕ) → 0 ≤ p → p < length (part points from to) → PointSmall capacity n places (point_at (part points from to) p)
+part_small points from to there small p after below =
+    let within : from + p < to = omega (arith, part_length points from to there) in
+    rw (part_entry points from to p within) (small (from + p) (omega arith) within)
+
+-- a list fits as a part of its own
+pub part_fits : {front : Front} {from to : ℕ} {load cost : List ℕ} {points : List Choice} → ItemFits front from to load cost points →
+    ItemFits front 0 (length (part points from to)) load cost (part points from to)
+part_fits {from = from} {to} {points = points} fits =
+    record {
+      affordable = fits.affordable;
+      places_limited = fits.places_limited;
+      digit_is = fits.digit_is;
+      ordered = omega arith;
+      there = le_refl _;
+      small = part_small points from to fits.there fits.small;
+    }
+
+-- what is spread of it and swept is listed
+pub set_added : {front : Front} {from to used end : ℕ} {load cost : List ℕ} {points₀ points : List Choice} {costs keys : List ℕ} →
+    to ≤ length points₀ →
+    ItemSpread front 0 (length (part points₀ from to)) load cost (part points₀ from to) front.core.levels costs keys →
     Swept front.core.capacity used costs keys points₀ points end →
     SetAdded front from to used load cost points₀ points end
 unfolding with_item
-set_added spread swept =
+set_added {front} {from} {to} {load = load} {cost} {points₀} there spread swept =
     record {
       older = swept.older;
       listed = λ n places sum small.
-          let list = swept.listed (suc n) places (spread.sound n places sum small) in
+          let list = swept.listed (suc n) places (spread.sound n places sum (part_small points₀ from to there small)) in
           record {
             ordered = list.ordered;
             there = list.there;
-            least = λ rest falling w under. list.least rest falling w under ∙ spread.least rest w under;
+            least = λ rest falling w under.
+                list.least rest falling w under
+                ∙ spread.least rest w under
+                ∙ with_item-same front.core.levels (offer_at load cost front.item) front.places _ _ w
+                (λ u below. part_listed points₀ from to there rest u);
             small = list.small;
           };
     }
 
 -- and so is what is appended
-pub set_appended : {front : Front} {from to used end : ℕ} {load cost points₀ points : List ℕ} →
+pub set_appended : {front : Front} {from to used end : ℕ} {load cost : List ℕ} {points₀ points : List Choice} →
     ItemRoom front from to used load cost points₀ →
     ItemAppended front from to used load cost points₀ front.core.levels points end →
     SetAdded front from to used load cost points₀ points end
@@ -53,16 +79,9 @@ set_appended fits appended =
           };
     }
 
-pub decides_short : (core : Core) (from to : ℕ) → Decides (leb (core.levels * (to - from)) most_short) (Short core from to)
-decides_short core from to = go (leb (core.levels * (to - from)) most_short) refl
-  where
-    go : (answer : Bool) → leb (core.levels * (to - from)) most_short ≡ answer → Decides answer (Short core from to)
-    go true e = leb-true (core.levels * (to - from)) most_short e
-    go false e = λ le. absurd (omega (arith, leb-false (core.levels * (to - from)) most_short e))
-
-module _ {front : Front} {from to : ℕ} {load cost points : List ℕ} where
+module _ {front : Front} {from to : ℕ} {load cost : List ℕ} {points : List Choice} where
   -- the sums of all levels are no more than 64 bits count
-  pub sums_counted : ItemFits front from to load cost points → length points * 8 < 2 ^ 63 → front.core.levels * (to - from) < 2 ^ 64
+  pub sums_counted : ItemFits front from to load cost points → length points * 24 < 2 ^ 63 → front.core.levels * (to - from) < 2 ^ 64
   sums_counted fits counted =
       omega (arith, counted, fits.there, mul-le-mul_right (to - from) fits.affordable.levels_limited)
 
@@ -75,7 +94,7 @@ module _ {front : Front} {from to : ℕ} {load cost points : List ℕ} where
           room = omega (arith, fits.room.short short, fits.there);
         }
 
-    pub room_long : ¬ (Short front.core from to) → (used + suc front.core.capacity) * point_width ≤ length points
+    pub room_long : ¬ (Short front.core from to) → used + suc front.core.capacity ≤ length points
     room_long long = omega (arith, fits.room.long long, fits.there)
 
 module _ (levels first n places : ℕ) (load cost : List ℕ) {k : ℕ} (there : k < 2 ^ n) (rest : ℕ → Value) where
@@ -117,7 +136,7 @@ module _ (load cost : List ℕ) where
   abbrev set_knapsack : Core → (first n places k : ℕ) → (ℕ → Value) → ℕ → Value
   set_knapsack core first n places k = knapsack_before core.levels (λ i. offer_at load cost (first + i)) n places k
 
-  pub listed_absent : (core : Core) (first k : ℕ) {n places from to : ℕ} {points : List ℕ} → k < 2 ^ n →
+  pub listed_absent : (core : Core) (first k : ℕ) {n places from to : ℕ} {points : List Choice} → k < 2 ^ n →
       Listed core.capacity n places (set_knapsack core (suc first) n places k) points from to →
       Listed core.capacity (suc n) places (set_knapsack core first (suc n) places k) points from to
   listed_absent core first k {n} {places} there list =
@@ -130,7 +149,7 @@ module _ (load cost : List ℕ) where
         small = λ p after below. small_for_more (list.small p after below);
       }
 
-  pub listed_present : (front : Front) (k : ℕ) {n places from to used end : ℕ} {points₀ points : List ℕ} → n + places ≡ front.places →
+  pub listed_present : (front : Front) (k : ℕ) {n places from to used end : ℕ} {points₀ points : List Choice} → n + places ≡ front.places →
       k < 2 ^ n → Listed front.core.capacity n places (set_knapsack front.core (suc front.item) n places k) points₀ from to →
       SetAdded front from to used load cost points₀ points end →
       Listed front.core.capacity (suc n) places (set_knapsack front.core front.item (suc n) places (2 ^ n + k)) points used end

@@ -1,8 +1,8 @@
 -- One set more is listed, and the lists before it stay.
-use Rattle.std.specs.Prelude.{ℕ, zero, suc, ◌+◌, ◌*◌, ◌-◌, ◌/◌, ◌^◌, ◌≤◌, ◌<◌, ◌≡◌, refl, ◌⊎◌, Bool, true, false, not, List, length, get_or, set}
+use Rattle.std.specs.Prelude.{ℕ, zero, suc, ◌+◌, ◌-◌, ◌^◌, ◌≤◌, ◌<◌, ◌≡◌, refl, ◌⊎◌, Bool, true, false, not, List, length, get_or, set}
 use Rattle.std.proofs.Common.{sym, inl, inr, le_refl, eq-or-lt_of_le, pow-suc, add-zero, arith, length-set, pow_pos, get_or-set_same, get_or-set_other}
 use Rattle.laws.specs.Below.{below_suc}
-use Rattle.choice_lists.specs.Listed.{Listed, SetsListed, point_width}
+use Rattle.choice_lists.specs.Listed.{Listed, SetsListed}
 use Rattle.choice_lists.specs.ListedSets.{Enough, SetFits, SetAdded, SetsRoom, WithItem, SetsFit, SetsGoing, NextSetFits}
 use Rattle.choice_lists.specs.ListedSetLaws.{listed_absent, listed_present}
 use Rattle.knapsack.specs.Offered.{offer_at}
@@ -13,6 +13,7 @@ use Rattle.choice_lists.specs.SpreadItems.{small_alone}
 use Rattle.choice_lists.specs.Sweep.{Older}
 use Rattle.knapsack.specs.declared.relaxing.Core.{Core}
 use Rattle.knapsack.specs.declared.relaxing.Front.{Front}
+use Rattle.knapsack.specs.declared.relaxing.Choice.{Choice}
 
 -- the other answer of a test for "not"
 pub not_not : (answer : Bool) → not answer ≡ false → answer ≡ true
@@ -27,19 +28,19 @@ rises f (suc upto) j each le = go (eq-or-lt_of_le le) (λ less. rises f upto j (
     go (inl is) ih = rw is (le_refl (f (suc upto)))
     go (inr less) ih = omega (arith, ih (omega arith), each upto (omega arith))
 
-module _ {core : Core} {load cost : List ℕ} {first n places upto : ℕ} {points starts : List ℕ}
+module _ {core : Core} {load cost : List ℕ} {first n places upto : ℕ} {points : List Choice} {starts : List ℕ}
     (sets : SetsListed core load cost first n places upto points starts) where
   -- lists stand one after the other
   pub ends_before : (j : ℕ) → j ≤ upto → get_or starts j 0 ≤ get_or starts upto 0
   ends_before j le = rises (λ i. get_or starts i 0) upto j (λ k below. (sets.each k below).ordered) le
 
-  pub last_there : 0 < upto → get_or starts upto 0 * point_width ≤ length points
+  pub last_there : 0 < upto → get_or starts upto 0 ≤ length points
   last_there some =
       let is : suc (upto - 1) ≡ upto = omega arith in
       rw is at (sets.each (upto - 1) (omega arith)).there
 
   -- where another list is put behind them they stay
-  pub sets_stay : (end : ℕ) {used at : ℕ} {points' : List ℕ} → Older used points points' → get_or starts upto 0 ≤ used → upto < at →
+  pub sets_stay : (end : ℕ) {used at : ℕ} {points' : List Choice} → Older used points points' → get_or starts upto 0 ≤ used → upto < at →
       SetsListed core load cost first n places upto points' (set starts at end)
   sets_stay end {used} {at} older behind above =
       record {
@@ -64,7 +65,7 @@ module _ {core : Core} {load cost : List ℕ} {first n places upto : ℕ} {point
       }
 
 module _ {front : Front} {count : ℕ} {load cost : List ℕ} where
-  pub sets_start : {points starts : List ℕ} → SetsFit front count load cost points starts →
+  pub sets_start : {points : List Choice} {starts : List ℕ} → SetsFit front count load cost points starts →
       SetsGoing front count load cost 0 points starts
   sets_start fits =
       record {
@@ -88,14 +89,14 @@ module _ {front : Front} {count : ℕ} {load cost : List ℕ} where
         starts_long = omega (arith, room.starts_long);
       }
 
-  module _ {k : ℕ} {points starts : List ℕ} (fits : NextSetFits front count k load cost points starts) where
+  module _ {k : ℕ} {points : List Choice} {starts : List ℕ} (fits : NextSetFits front count k load cost points starts) where
     sum : count + (front.places - count) ≡ front.places
     sum = omega (arith, fits.room.count_behind)
 
     place_there : suc (2 ^ count + k) < length starts
     place_there = omega (arith, fits.there, fits.room.starts_long, pow-suc 2 count)
 
-    pub used_there : get_or starts (2 ^ count + k) 0 * point_width ≤ length points
+    pub used_there : get_or starts (2 ^ count + k) 0 ≤ length points
     used_there = last_there fits.going.sofar (omega (arith, pow_pos count))
 
     pub list_fits : ItemFits front (get_or starts k 0) (get_or starts (suc k) 0) load cost points
@@ -111,7 +112,7 @@ module _ {front : Front} {count : ℕ} {load cost : List ℕ} where
         }
 
     pub set_fits : {most : ℕ} → Enough front.core (get_or starts k 0) (get_or starts (suc k) 0) most →
-        most ≤ length points / point_width - get_or starts (2 ^ count + k) 0 →
+        most ≤ length points - get_or starts (2 ^ count + k) 0 →
         SetFits front (get_or starts k 0) (get_or starts (suc k) 0) (get_or starts (2 ^ count + k) 0) load cost points
     set_fits enough free =
         record {
@@ -125,7 +126,7 @@ module _ {front : Front} {count : ℕ} {load cost : List ℕ} where
               };
         }
 
-    pub sets_step : {points' : List ℕ} {end : ℕ} →
+    pub sets_step : {points' : List Choice} {end : ℕ} →
         SetAdded front (get_or starts k 0) (get_or starts (suc k) 0) (get_or starts (2 ^ count + k) 0) load cost points points' end →
         SetsGoing front count load cost (suc k) points' (set starts (suc (2 ^ count + k)) end)
     sets_step {points'} {end} added =
@@ -144,7 +145,7 @@ module _ {front : Front} {count : ℕ} {load cost : List ℕ} where
               (listed_present load cost front k sum fits.there (going.behind.each k fits.there) added)));
         }
 
-  pub sets_done : {points starts : List ℕ} → SetsGoing front count load cost (2 ^ count) points starts →
+  pub sets_done : {points : List Choice} {starts : List ℕ} → SetsGoing front count load cost (2 ^ count) points starts →
       WithItem front count load cost points starts
   sets_done going =
       let all : 2 ^ suc count ≡ 2 ^ count + 2 ^ count = omega (arith, pow-suc 2 count) in

@@ -1,6 +1,6 @@
 -- What listing all sets asks for: those without an item are listed, and with it the sets that have it.
-use Rattle.std.specs.Prelude.{ℕ, suc, ◌+◌, ◌*◌, ◌-◌, ◌/◌, ◌^◌, ◌≤◌, ◌<◌, ◌≡◌, List, length}
-use Rattle.choice_lists.specs.Listed.{point_at, least_listed, PointSmall, Listed, SetsListed, point_width}
+use Rattle.std.specs.Prelude.{ℕ, suc, ◌+◌, ◌*◌, ◌-◌, ◌^◌, ◌≤◌, ◌<◌, ◌≡◌, List, length}
+use Rattle.choice_lists.specs.Listed.{point_at, least_listed, PointSmall, Listed, SetsListed}
 use Rattle.assignment.specs.Limits.{most_items}
 use Rattle.knapsack.specs.Offered.{offer_at, Affordable}
 use Rattle.assignment.specs.Keys.{key_base}
@@ -9,6 +9,7 @@ use Rattle.choice_lists.specs.Spread.{ItemFits}
 use Rattle.choice_lists.specs.Sweep.{Older}
 use Rattle.knapsack.specs.declared.relaxing.Core.{Core}
 use Rattle.knapsack.specs.declared.relaxing.Front.{Front}
+use Rattle.knapsack.specs.declared.relaxing.Choice.{Choice}
 
 -- so many entries are written as they come
 abbrev pub most_short : ℕ
@@ -24,14 +25,14 @@ pub record Enough (core : Core) (from to most : ℕ) : Type 0 where
   pub long : ¬ (Short core from to) → core.capacity < most
 
 -- there is room for another list behind the first `used` entries
-pub record SetFits (front : Front) (from to used : ℕ) (load cost points : List ℕ) : Type 0 where
+pub record SetFits (front : Front) (from to used : ℕ) (load cost : List ℕ) (points : List Choice) : Type 0 where
   pub item : ItemFits front from to load cost points
   pub behind : to ≤ used
-  pub there : used * point_width ≤ length points
-  pub room : Enough front.core from to (length points / point_width - used)
+  pub there : used ≤ length points
+  pub room : Enough front.core from to (length points - used)
 
 -- the item before the list from `from` to `to` is listed from `used` to `end`
-pub record SetAdded (front : Front) (from to used : ℕ) (load cost points₀ points : List ℕ) (end : ℕ) : Type 0 where
+pub record SetAdded (front : Front) (from to used : ℕ) (load cost : List ℕ) (points₀ points : List Choice) (end : ℕ) : Type 0 where
   pub older : Older used points₀ points
   pub listed : (n places : ℕ) → n + places ≡ front.places →
       ((p : ℕ) → from ≤ p → p < to → PointSmall front.core.capacity n places (point_at points₀ p)) →
@@ -49,25 +50,25 @@ pub record SetsRoom (front : Front) (count : ℕ) (load cost starts : List ℕ) 
   pub starts_long : 2 ^ suc count < length starts
 
 -- the sets without the item are listed
-abbrev pub Without : Front → ℕ → (load cost points starts : List ℕ) → Type 0
+abbrev pub Without : Front → ℕ → (load cost : List ℕ) (points : List Choice) (starts : List ℕ) → Type 0
 Without front count load cost =
     SetsListed front.core load cost (suc front.item) count (front.places - count) (2 ^ count)
 
 -- and those with it
-abbrev pub WithItem : Front → ℕ → (load cost points starts : List ℕ) → Type 0
+abbrev pub WithItem : Front → ℕ → (load cost : List ℕ) (points : List Choice) (starts : List ℕ) → Type 0
 WithItem front count load cost =
     SetsListed front.core load cost front.item (suc count) (front.places - count) (2 ^ suc count)
 
-pub record SetsFit (front : Front) (count : ℕ) (load cost points starts : List ℕ) : Type 0 where
+pub record SetsFit (front : Front) (count : ℕ) (load cost : List ℕ) (points : List Choice) (starts : List ℕ) : Type 0 where
   pub room : SetsRoom front count load cost starts
   pub behind : Without front count load cost points starts
 
 -- the sets without the item, and k of those with it
-pub record SetsGoing (front : Front) (count : ℕ) (load cost : List ℕ) (k : ℕ) (points starts : List ℕ) : Type 0 where
+pub record SetsGoing (front : Front) (count : ℕ) (load cost : List ℕ) (k : ℕ) (points : List Choice) (starts : List ℕ) : Type 0 where
   pub behind : Without front count load cost points starts
   pub sofar : SetsListed front.core load cost front.item (suc count) (front.places - count) (2 ^ count + k) points starts
 
-pub record NextSetFits (front : Front) (count k : ℕ) (load cost points starts : List ℕ) : Type 0 where
+pub record NextSetFits (front : Front) (count k : ℕ) (load cost : List ℕ) (points : List Choice) (starts : List ℕ) : Type 0 where
   pub room : SetsRoom front count load cost starts
   pub going : SetsGoing front count load cost k points starts
   pub there : k < 2 ^ count

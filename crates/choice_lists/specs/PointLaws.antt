@@ -1,25 +1,25 @@
 -- Entries of a list are stored behind the others, which stay as they are.
-use Rattle.std.specs.Prelude.{ℕ, suc, ◌+◌, ◌*◌, ◌-◌, ◌≤◌, ◌<◌, ◌≡◌, List, length, set}
-use Rattle.std.proofs.Common.{◌∙◌, arith}
-use Rattle.std.proofs.Math.ListN.{get_or, length-set}
+use Rattle.std.specs.Prelude.{ℕ, suc, ◌+◌, ◌-◌, ◌≤◌, ◌<◌, ◌≡◌, List, length, drop, set}
+use Rattle.std.proofs.Common.{ap, ◌∙◌, zero-add, arith, length-drop, length-take-le, get_or-take, get_or-drop}
+use Rattle.std.proofs.Math.ListN.{length-set}
 use Rattle.std.proofs.Math.Seq.{get_or-set_same, get_or-set_other}
 use Rattle.assignment.specs.LeastLaws.{least_below-alike}
-use Rattle.choice_lists.specs.Listed.{before, point_at, least_listed, Listed, point_width}
-use Rattle.choice_lists.specs.Sweep.{with_point, Older}
+use Rattle.choice_lists.specs.Listed.{before, nothing, part, point_at, least_listed, Listed}
+use Rattle.choice_lists.specs.Sweep.{Older}
 use Rattle.assignment.specs.Values.{Value, lesser, least_below}
-use Rattle.values.specs.declared.value.Worth.{Worth}
+use Rattle.knapsack.specs.declared.relaxing.Choice.{Choice}
 
 -- a list is that of its entries
-pub least_listed-alike : (points₀ points : List ℕ) (from count : ℕ) (rest : ℕ → Value) (w : ℕ) →
-    ((i : ℕ) → i < (from + count) * point_width → get_or points i 0 ≡ get_or points₀ i 0) →
+pub least_listed-alike : (points₀ points : List Choice) (from count : ℕ) (rest : ℕ → Value) (w : ℕ) →
+    ((i : ℕ) → i < from + count → point_at points i ≡ point_at points₀ i) →
     least_listed points from count rest w ≡ least_listed points₀ from count rest w
 unfolding least_listed
 least_listed-alike points₀ points from count rest w same =
     least_below-alike count _ _
     (λ i below.
-    rw (same ((from + i) * point_width) (omega arith), same ((from + i) * point_width + 1) (omega arith), same ((from + i) * point_width + 2) (omega arith)))
+    rw (same (from + i) (omega arith)))
 
-pub least_listed-more : (points : List ℕ) {from to : ℕ} (rest : ℕ → Value) (w : ℕ) → from ≤ to →
+pub least_listed-more : (points : List Choice) {from to : ℕ} (rest : ℕ → Value) (w : ℕ) → from ≤ to →
     least_listed points from (suc to - from) rest w
     ≡ lesser (least_listed points from (to - from) rest w) (before (point_at points to) rest w)
 unfolding least_listed least_below
@@ -29,16 +29,12 @@ least_listed-more points {from} {to} rest w ordered =
     rw (more, last)
 
 -- entries that stay make the same list
-pub point_alike : (points₀ points : List ℕ) (p : ℕ) → ((i : ℕ) → i < suc p * point_width → get_or points i 0 ≡ get_or points₀ i 0) →
-    point_at points p ≡ point_at points₀ p
-point_alike points₀ points p same =
-    rw (same (p * point_width) (omega arith), same (p * point_width + 1) (omega arith), same (p * point_width + 2) (omega arith))
 
-pub point_older : {used : ℕ} {points₀ points : List ℕ} → Older used points₀ points → (p : ℕ) → p < used →
+pub point_older : {used : ℕ} {points₀ points : List Choice} → Older used points₀ points → (p : ℕ) → p < used →
     point_at points p ≡ point_at points₀ p
-point_older {points₀ = points₀} {points} older p below = point_alike points₀ points p (λ i less. older.as_before i (omega arith))
+point_older older p below = older.as_before p below
 
-pub listed_older : {capacity n places from to used : ℕ} {f : (ℕ → Value) → ℕ → Value} {points₀ points : List ℕ} →
+pub listed_older : {capacity n places from to used : ℕ} {f : (ℕ → Value) → ℕ → Value} {points₀ points : List Choice} →
     Older used points₀ points → to ≤ used → Listed capacity n places f points₀ from to → Listed capacity n places f points from to
 listed_older {capacity} {n} {places} {from} {to} {points₀ = points₀} {points} older below listed =
     record {
@@ -51,47 +47,31 @@ listed_older {capacity} {n} {places} {from} {to} {points₀ = points₀} {points
       small = λ p after less. rw (point_older older p (omega arith)) (listed.small p after less);
     }
 
+-- the entries of a part
+
+pub part_length : (points : List Choice) (from to : ℕ) → to ≤ length points → length (part points from to) ≡ to - from
+part_length points from to there = length-take-le (to - from) (drop from points) (omega (arith, length-drop from points))
+
+pub part_entry : (points : List Choice) (from to i : ℕ) → from + i < to → point_at (part points from to) i ≡ point_at points (from + i)
+part_entry points from to i below =
+    get_or-take (to - from) (drop from points) i nothing (omega arith) ∙ get_or-drop from points i nothing
+
+pub part_listed : (points : List Choice) (from to : ℕ) → to ≤ length points → (rest : ℕ → Value) (w : ℕ) →
+    least_listed (part points from to) 0 (length (part points from to) - 0) rest w ≡ least_listed points from (to - from) rest w
+unfolding least_listed
+part_listed points from to there rest w =
+    let all : length (part points from to) - 0 ≡ to - from = omega (arith, part_length points from to there) in
+    rw all
+    (least_below-alike (to - from) _ _
+    (λ i below. ap (λ (point : Choice). before point rest w) (rw zero-add (part_entry points from to i (omega arith)))))
+
 -- an entry is put behind the others
+pub entry_put_older : (points : List Choice) (p : ℕ) (point : Choice) → Older p points (set points p point)
+entry_put_older points p point =
+    record {
+      same_length = length-set points p point;
+      as_before = λ i below. get_or-set_other points p i point nothing (λ same. absurd (omega arith));
+    }
 
-module _ (points : List ℕ) (p load : ℕ) (worth : Worth) where
-  abbrev loaded : List ℕ
-  loaded = set points (p * point_width) load
-
-  abbrev costed : List ℕ
-  costed = set loaded (p * point_width + 1) worth.cost
-
-  loaded_length : length loaded ≡ length points
-  loaded_length = length-set points (p * point_width) load
-
-  costed_length : length costed ≡ length points
-  costed_length = length-set loaded (p * point_width + 1) worth.cost ∙ loaded_length
-
-  pub with_point_older : Older p points (with_point points p load worth)
-  unfolding with_point
-  with_point_older =
-      record {
-        same_length = length-set costed (p * point_width + 2) worth.key ∙ costed_length;
-        as_before = λ i below.
-            get_or-set_other costed (p * point_width + 2) i worth.key 0 (λ same. absurd (omega arith))
-            ∙ get_or-set_other loaded (p * point_width + 1) i worth.cost 0 (λ same. absurd (omega arith))
-            ∙ get_or-set_other points (p * point_width) i load 0 (λ same. absurd (omega arith));
-      }
-
-  pub with_point_there : suc p * point_width ≤ length points →
-      point_at (with_point points p load worth) p ≡ record { load = load; cost = worth.cost; key = worth.key }
-  unfolding with_point
-  with_point_there room = rw (the_load, the_cost, the_key)
-    where
-      the_load : get_or (set costed (p * point_width + 2) worth.key) (p * point_width) 0 ≡ load
-      the_load =
-          get_or-set_other costed (p * point_width + 2) (p * point_width) worth.key 0 (λ same. absurd (omega arith))
-          ∙ get_or-set_other loaded (p * point_width + 1) (p * point_width) worth.cost 0 (λ same. absurd (omega arith))
-          ∙ get_or-set_same points (p * point_width) load 0 (omega arith)
-
-      the_cost : get_or (set costed (p * point_width + 2) worth.key) (p * point_width + 1) 0 ≡ worth.cost
-      the_cost =
-          get_or-set_other costed (p * point_width + 2) (p * point_width + 1) worth.key 0 (λ same. absurd (omega arith))
-          ∙ get_or-set_same loaded (p * point_width + 1) worth.cost 0 (omega (arith, loaded_length))
-
-      the_key : get_or (set costed (p * point_width + 2) worth.key) (p * point_width + 2) 0 ≡ worth.key
-      the_key = get_or-set_same costed (p * point_width + 2) worth.key 0 (omega (arith, costed_length))
+pub entry_put : (points : List Choice) (p : ℕ) (point : Choice) → p < length points → point_at (set points p point) p ≡ point
+entry_put points p point there = get_or-set_same points p point nothing there

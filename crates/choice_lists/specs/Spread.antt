@@ -1,6 +1,6 @@
 -- The choices for a set with one item more, spread over their loads: entry u of two slices is the best choice of load u.
 use Rattle.std.specs.Prelude.{ℕ, suc, ◌+◌, ◌*◌, ◌-◌, ◌^◌, ◌≤◌, ◌<◌, ◌≡◌, cond, List, leb, length, get_or}
-use Rattle.choice_lists.specs.Listed.{before, point_at, least_listed, PointSmall, point_width}
+use Rattle.choice_lists.specs.Listed.{before, point_at, least_listed, PointSmall}
 use Rattle.assignment.specs.Limits.{most_items, most_capacity, most_cost}
 use Rattle.knapsack.specs.Offered.{offer_at, Affordable}
 use Rattle.assignment.specs.Keys.{key_base}
@@ -23,8 +23,14 @@ least_spread capacity costs keys rest w = least_below (suc capacity) (λ u. valu
 abbrev pub sum_of : Choice → Choice → Choice
 sum_of a b = record { load = a.load + b.load; cost = a.cost + b.cost; key = a.key + b.key }
 
+-- that choice fits 64 bits
+pub record SumFits (a b : Choice) : Type 0 where
+  pub load_fits : a.load + b.load < 2 ^ 64
+  pub cost_fits : a.cost + b.cost < 2 ^ 64
+  pub key_fits : a.key + b.key < 2 ^ 64
+
 -- the least of a choice with each of some entries of a list
-unfoldable pub least_sums : Choice → List ℕ → (from count : ℕ) → (ℕ → Value) → ℕ → Value
+unfoldable pub least_sums : Choice → List Choice → (from count : ℕ) → (ℕ → Value) → ℕ → Value
 least_sums choice points from count rest w = least_below count (λ i. before (sum_of choice (point_at points (from + i))) rest w)
 
 -- what n items in front of `places` others may be worth
@@ -43,17 +49,17 @@ abbrev pub AllSound : (capacity n places : ℕ) (costs keys : List ℕ) → Type
 AllSound capacity n places costs keys = (u : ℕ) → u ≤ capacity → Sound n places (entry_at costs keys u)
 
 -- the sums of a choice with the entries of a list fit 64 bits, and stand for no none
-pub record SumsSmall (capacity : ℕ) (choice : Choice) (from to : ℕ) (points : List ℕ) : Type 0 where
+pub record SumsSmall (capacity : ℕ) (choice : Choice) (from to : ℕ) (points : List Choice) : Type 0 where
   pub capacity_limited : capacity ≤ most_capacity
   pub ordered : from ≤ to
-  pub there : to * point_width ≤ length points
+  pub there : to ≤ length points
   pub choice_fits : choice.load ≤ capacity
   pub point_fits : (p : ℕ) → from ≤ p → p < to → (point_at points p).load ≤ capacity
   pub real : (p : ℕ) → from ≤ p → p < to → choice.cost + (point_at points p).cost < no_cost
   pub digits_fit : (p : ℕ) → from ≤ p → p < to → choice.key + (point_at points p).key < 2 ^ 64
 
 -- every entry was lowered to the sums of its load, of a choice and the entries of a list from `from` to `to`
-pub record LevelSpread (capacity : ℕ) (choice : Choice) (from to : ℕ) (points costs₀ keys₀ costs keys : List ℕ) : Type 0 where
+pub record LevelSpread (capacity : ℕ) (choice : Choice) (from to : ℕ) (points : List Choice) (costs₀ keys₀ costs keys : List ℕ) : Type 0 where
   pub least : (rest : ℕ → Value) (w : ℕ) → w ≤ capacity →
       least_spread capacity costs keys rest w
       ≡ lesser (least_spread capacity costs₀ keys₀ rest w) (least_sums choice points from (to - from) rest w)
@@ -62,12 +68,12 @@ pub record LevelSpread (capacity : ℕ) (choice : Choice) (from to : ℕ) (point
       AllSound capacity n places costs keys
 
 -- an item is within the limits, and the list is one of the `places` items behind it
-pub record ItemFits (front : Front) (from to : ℕ) (load cost points : List ℕ) : Type 0 where
+pub record ItemFits (front : Front) (from to : ℕ) (load cost : List ℕ) (points : List Choice) : Type 0 where
   pub affordable : Affordable (suc front.item) front.core.levels front.core.capacity load cost
   pub places_limited : front.places < most_items
   pub digit_is : front.digit ≡ key_base ^ front.places
   pub ordered : from ≤ to
-  pub there : to * point_width ≤ length points
+  pub there : to ≤ length points
   pub small : (p : ℕ) → from ≤ p → p < to → PointSmall front.core.capacity front.places 0 (point_at points p)
 
 -- no entry up to the capacity
@@ -75,7 +81,7 @@ pub record Cleared (capacity : ℕ) (costs : List ℕ) : Type 0 where
   pub each : (u : ℕ) → u ≤ capacity → get_or costs u 0 ≡ no_cost
 
 -- the item's first l levels before the entries of a list
-pub record ItemSpread (front : Front) (from to : ℕ) (load cost points : List ℕ) (l : ℕ) (costs keys : List ℕ) :
+pub record ItemSpread (front : Front) (from to : ℕ) (load cost : List ℕ) (points : List Choice) (l : ℕ) (costs keys : List ℕ) :
     Type 0 where
   pub least : (rest : ℕ → Value) (w : ℕ) → w ≤ front.core.capacity →
       least_spread front.core.capacity costs keys rest w

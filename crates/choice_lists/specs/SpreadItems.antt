@@ -44,7 +44,7 @@ knapsacks_long c k under =
 pub knapsacks_cleared : {capacity : ℕ} → capacity ≤ most_capacity → Cleared capacity (replicate (suc most_capacity) no_cost)
 knapsacks_cleared under = record { each = λ u below. get_or-replicate (suc most_capacity) u no_cost 0 (omega arith) }
 
-module _ {front : Front} {from to : ℕ} {load cost points : List ℕ} where
+module _ {front : Front} {from to : ℕ} {load cost : List ℕ} {points : List Choice} where
   pub spread_no_level : {costs keys : List ℕ} → Cleared front.core.capacity costs →
       ItemSpread front from to load cost points 0 costs keys
   unfolding least_spread least_below entry_at

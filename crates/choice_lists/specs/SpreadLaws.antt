@@ -84,7 +84,7 @@ before-least_below a n f w = go (leb a.load w)
     go true = add-least_below worth n _
     go false = sym (least_below-none n _ (λ i h. refl))
 
-pub least_sums-is : (choice : Choice) (points : List ℕ) (from count : ℕ) (rest : ℕ → Value) (w : ℕ) →
+pub least_sums-is : (choice : Choice) (points : List Choice) (from count : ℕ) (rest : ℕ → Value) (w : ℕ) →
     least_sums choice points from count rest w ≡ before choice (least_listed points from count rest) w
 unfolding least_sums least_listed
 least_sums-is choice points from count rest w =

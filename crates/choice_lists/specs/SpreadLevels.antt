@@ -6,7 +6,7 @@ use Rattle.std.proofs.Math.Decide.{ℕ_discrete}
 use native.Mathlib.Omega.{arith}
 use Rattle.assignment.specs.LeastLaws.{lesser_none}
 use Rattle.choice_lists.specs.Listed.{before, point_at}
-use Rattle.choice_lists.specs.Spread.{value_before, least_spread, sum_of, least_sums, Sound, LevelSpread}
+use Rattle.choice_lists.specs.Spread.{value_before, least_spread, sum_of, SumFits, least_sums, Sound, SumsSmall, LevelSpread}
 use Rattle.choice_lists.specs.SpreadLaws.{before_none, least_spread-lowered}
 use Rattle.assignment.specs.ValueLaws.{lesser_assoc, lesser_either}
 use Rattle.assignment.specs.Values.{Value, pair, lesser, least_below}
@@ -14,8 +14,18 @@ use Rattle.assignment.specs.Words.{no_cost, value_of, words_pair}
 use Rattle.knapsack.specs.declared.relaxing.Choice.{Choice}
 use Rattle.assignment.specs.Entries.{entry_at, Lowered}
 
+-- the sum with an entry of the list
+pub sum_fits : {capacity from to : ℕ} {choice : Choice} {points : List Choice} → SumsSmall capacity choice from to points →
+    {p : ℕ} → from ≤ p → p < to → SumFits choice (point_at points p)
+sum_fits small {p} after below =
+    record {
+      load_fits = omega (arith, small.choice_fits, small.capacity_limited, small.point_fits p after below);
+      cost_fits = omega (arith, small.real p after below);
+      key_fits = small.digits_fit p after below;
+    }
+
 -- the sums with one entry more
-pub one_more_sum : (choice : Choice) (points : List ℕ) {from p : ℕ} → from ≤ p → (rest : ℕ → Value) (w : ℕ) →
+pub one_more_sum : (choice : Choice) (points : List Choice) {from p : ℕ} → from ≤ p → (rest : ℕ → Value) (w : ℕ) →
     least_sums choice points from (suc p - from) rest w
     ≡ lesser (least_sums choice points from (p - from) rest w) (before (sum_of choice (point_at points p)) rest w)
 unfolding least_sums least_below
@@ -24,7 +34,7 @@ one_more_sum choice points {from} {p} behind rest w =
     let last : from + (p - from) ≡ p = omega arith in
     rw (more, last)
 
-module _ {capacity from : ℕ} {choice : Choice} {points : List ℕ} where
+module _ {capacity from : ℕ} {choice : Choice} {points : List Choice} where
   pub spread_nothing : (costs keys : List ℕ) → LevelSpread capacity choice from from points costs keys costs keys
   unfolding least_sums least_below
   spread_nothing costs keys =

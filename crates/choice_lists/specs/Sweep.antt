@@ -1,24 +1,25 @@
 -- The entries that come before all of smaller load, gathered to a list, one load after the other.
-use Rattle.std.specs.Prelude.{ℕ, ◌+◌, ◌*◌, ◌-◌, ◌≤◌, ◌<◌, ◌≡◌, List, length, get_or, set}
-use Rattle.choice_lists.specs.Listed.{Falling, point_at, least_listed, PointSmall, Listed, point_width}
+use Rattle.std.specs.Prelude.{ℕ, ◌+◌, ◌-◌, ◌≤◌, ◌<◌, ◌≡◌, List, length}
+use Rattle.choice_lists.specs.Listed.{Falling, point_at, least_listed, PointSmall, Listed}
 use Rattle.choice_lists.specs.Spread.{value_before, least_spread, AllSound}
 use Rattle.assignment.specs.Values.{Value, least_below, AtMost}
 use Rattle.assignment.specs.Words.{no_cost}
 use Rattle.values.specs.Worths.{worth_of}
+use Rattle.knapsack.specs.declared.relaxing.Choice.{Choice}
 use Rattle.values.specs.declared.value.Worth.{Worth}
 use Rattle.assignment.specs.Entries.{entry_at}
 
--- the list with entry p
-unfoldable pub with_point : List ℕ → (p load : ℕ) → Worth → List ℕ
-with_point points p load worth = set (set (set points (p * point_width) load) (p * point_width + 1) worth.cost) (p * point_width + 2) worth.key
+-- the entry of load u as a choice
+abbrev pub spread_choice : ℕ → Worth → Choice
+spread_choice u worth = record { load = u; cost = worth.cost; key = worth.key }
 
 -- entries below `used` are as they were
-pub record Older (used : ℕ) (points₀ points : List ℕ) : Type 0 where
+pub record Older (used : ℕ) (points₀ points : List Choice) : Type 0 where
   pub same_length : length points ≡ length points₀
-  pub as_before : (i : ℕ) → i < used * point_width → get_or points i 0 ≡ get_or points₀ i 0
+  pub as_before : (i : ℕ) → i < used → point_at points i ≡ point_at points₀ i
 
 -- the loads below u are gathered in the entries from `from` to `to`, and `best` is the last of these
-pub record Gathered (capacity from u : ℕ) (costs keys points₀ points : List ℕ) (best : Worth) (to : ℕ) : Type 0 where
+pub record Gathered (capacity from u : ℕ) (costs keys : List ℕ) (points₀ points : List Choice) (best : Worth) (to : ℕ) : Type 0 where
   pub older : Older from points₀ points
   pub ordered : from ≤ to
   pub few : to ≤ from + u
@@ -31,7 +32,7 @@ pub record Gathered (capacity from u : ℕ) (costs keys points₀ points : List 
       PointSmall capacity n places (point_at points p)
 
 -- the entries from `from` to `to` have before any knapsack the least value of the spread ones
-pub record Swept (capacity from : ℕ) (costs keys points₀ points : List ℕ) (to : ℕ) : Type 0 where
+pub record Swept (capacity from : ℕ) (costs keys : List ℕ) (points₀ points : List Choice) (to : ℕ) : Type 0 where
   pub older : Older from points₀ points
   pub listed : (n places : ℕ) → AllSound capacity n places costs keys →
       Listed capacity n places (least_spread capacity costs keys) points from to

@@ -1,6 +1,6 @@
 -- What each load adds to a list, and what it does not.
-use Prim.Native.Nat.{ℕ, suc, ◌+◌, ◌*◌, ◌-◌, ◌≤◌, ◌<◌}
-use Rattle.std.specs.Prelude.{◌≡◌, ◌⊎◌, length, get_or}
+use Prim.Native.Nat.{ℕ, suc, ◌+◌, ◌-◌, ◌≤◌, ◌<◌}
+use Rattle.std.specs.Prelude.{◌≡◌, ◌⊎◌, length, get_or, set}
 use Rattle.std.proofs.Math.Path.{refl, sym}
 use Rattle.std.proofs.Common.{ap, ◌∙◌, inl, inr, le-leb}
 use mathlib.Core.List.{List}
@@ -8,11 +8,11 @@ use Rattle.std.proofs.Math.Nat.{le_refl}
 use native.Mathlib.Omega.{arith}
 use Rattle.std.proofs.lemmas.Bool.{lt-leb}
 use Rattle.laws.specs.Below.{lt_or_le}
-use Rattle.choice_lists.specs.Listed.{before, Falling, point_at, least_listed, PointSmall, point_width}
-use Rattle.choice_lists.specs.PointLaws.{least_listed-alike, least_listed-more, point_alike, with_point_older, with_point_there}
+use Rattle.choice_lists.specs.Listed.{before, Falling, point_at, least_listed, PointSmall}
+use Rattle.choice_lists.specs.PointLaws.{least_listed-alike, least_listed-more, point_older, entry_put_older, entry_put}
 use Rattle.choice_lists.specs.Spread.{value_before, least_spread, Sound, present, AllSound}
 use Rattle.choice_lists.specs.SpreadLaws.{none_before}
-use Rattle.choice_lists.specs.Sweep.{with_point, Older, Gathered, Swept}
+use Rattle.choice_lists.specs.Sweep.{spread_choice, Older, Gathered, Swept}
 use Rattle.assignment.specs.ValueLaws.{at_most-refl, at_most-trans, add_mono, lesser_second, lesser_is_first}
 use Rattle.assignment.specs.Values.{Value, pair, lesser, least_below, AtMost, to_none}
 use Rattle.assignment.specs.Words.{no_cost, words_none, words_pair, words-at_most}
@@ -45,7 +45,7 @@ value_before-mono {a} {b} u rest w order = go (lt_or_le w u)
     go (inr room) = rw (le-leb u w room) (add_mono order (at_most-refl _))
 
 module _ {capacity from : ℕ} {costs keys : List ℕ} where
-  pub gathered_none : (points : List ℕ) (best : Worth) → best.cost ≡ no_cost → best.key ≡ 0 →
+  pub gathered_none : (points : List Choice) (best : Worth) → best.cost ≡ no_cost → best.key ≡ 0 →
       Gathered capacity from 0 costs keys points points best from
   unfolding least_listed least_below
   gathered_none points best costs_nothing no_key =
@@ -61,7 +61,7 @@ module _ {capacity from : ℕ} {costs keys : List ℕ} where
         small = λ n places sound p after below. absurd (omega arith);
       }
 
-  module _ {u to : ℕ} {points₀ points : List ℕ} {best : Worth}
+  module _ {u to : ℕ} {points₀ points : List Choice} {best : Worth}
       (sofar : Gathered capacity from u costs keys points₀ points best to) where
     pub gathered_skip : {worth : Worth} → worth.cost ≡ get_or costs u 0 → worth.key ≡ get_or keys u 0 → ¬ (First worth best) →
         Gathered capacity from (suc u) costs keys points₀ points best to
@@ -84,9 +84,9 @@ module _ {capacity from : ℕ} {costs keys : List ℕ} where
         no_better : AtMost (worth_of best) (entry_at costs keys u)
         no_better = rw (← is_cost, ← is_key) (words-at_most _ _ _ _ (not_first later))
 
-    pub gathered_more : {worth : Worth} → u ≤ capacity → suc to * point_width ≤ length points₀ → worth.cost ≡ get_or costs u 0 →
+    pub gathered_more : {worth : Worth} → u ≤ capacity → to < length points₀ → worth.cost ≡ get_or costs u 0 →
         worth.key ≡ get_or keys u 0 → First worth best →
-        Gathered capacity from (suc u) costs keys points₀ (with_point points to u worth) worth (suc to)
+        Gathered capacity from (suc u) costs keys points₀ (set points to (spread_choice u worth)) worth (suc to)
     unfolding least_below entry_at before value_before
     gathered_more {worth} within room is_cost is_key first =
         record {
@@ -105,11 +105,11 @@ module _ {capacity from : ℕ} {costs keys : List ℕ} where
           small = λ n places sound p after below. new n places sound p after below (lt_or_le p to);
         }
       where
-        points' : List ℕ
-        points' = with_point points to u worth
+        points' : List Choice
+        points' = set points to (spread_choice u worth)
 
         stored : Older to points points'
-        stored = with_point_older points to u worth
+        stored = entry_put_older points to (spread_choice u worth)
 
         real : worth.cost < no_cost
         real = go first (lt_or_le best.cost no_cost)
@@ -134,7 +134,7 @@ module _ {capacity from : ℕ} {costs keys : List ℕ} where
             ∙ ap (λ (v : Value). lesser v (before (point_at points' to) rest w))
             (least_listed-alike points points' from (to - from) rest w (λ i below. stored.as_before i (omega (arith, sofar.ordered))))
             ∙ ap (λ (point : Choice). lesser (least_listed points from (to - from) rest w) (before point rest w))
-            (with_point_there points to u worth (omega (arith, sofar.older.same_length)))
+            (entry_put points to (spread_choice u worth) (omega (arith, sofar.older.same_length)))
 
         new_small : {n places c k : ℕ} → Sound n places (pair c k) → PointSmall capacity n places record { load = u; cost = c; key = k }
         new_small (present c k cheap digits) = record { fits = within; cheap = cheap; digits = digits }
@@ -142,13 +142,13 @@ module _ {capacity from : ℕ} {costs keys : List ℕ} where
         new : (n places : ℕ) → AllSound capacity n places costs keys → (p : ℕ) → from ≤ p → p < suc to → (p < to) ⊎ (to ≤ p) →
             PointSmall capacity n places (point_at points' p)
         new n places sound p after below (inl less) =
-            rw (point_alike points points' p (λ i under. stored.as_before i (omega arith))) (sofar.small n places sound p after less)
+            rw (point_older stored p less) (sofar.small n places sound p after less)
         new n places sound p after below (inr last) =
             let is : p ≡ to = omega arith in
-            let there = with_point_there points to u worth (omega (arith, sofar.older.same_length)) in
+            let there = entry_put points to (spread_choice u worth) (omega (arith, sofar.older.same_length)) in
             rw (is, there) (new_small (rw entry_is at (sound u within)))
 
-  pub gathered_all : {points₀ points : List ℕ} {best : Worth} {to : ℕ} → (from + suc capacity) * point_width ≤ length points₀ →
+  pub gathered_all : {points₀ points : List Choice} {best : Worth} {to : ℕ} → from + suc capacity ≤ length points₀ →
       Gathered capacity from (suc capacity) costs keys points₀ points best to → Swept capacity from costs keys points₀ points to
   unfolding least_spread
   gathered_all room all =

@@ -7,4 +7,4 @@ mod points;
 mod short;
 
 pub use lists::{STARTS, list_front};
-pub use points::WIDTH;
+pub use points::NOTHING;

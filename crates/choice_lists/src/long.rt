@@ -1,13 +1,12 @@
 // Long lists of choices: those of one set more are spread over all loads, and only those are kept that no other beats.
-ghost use Rattle.std.specs.Prelude.{◌≡◌, suc, ◌+◌, ◌*◌, ◌≤◌, ◌<◌, length, get_or};
-ghost use Rattle.choice_lists.specs.Listed.{point_width};
+ghost use Rattle.std.specs.Prelude.{◌≡◌, suc, ◌+◌, ◌≤◌, ◌<◌, length, get_or};
 ghost use Rattle.choice_lists.specs.ListedSets.{SetAdded};
 ghost use Rattle.choice_lists.specs.Spread.{Cleared, ItemFits, ItemSpread, LevelSpread, Long, SumsSmall};
 ghost use Rattle.choice_lists.specs.Sweep.{Swept};
 ghost use Rattle.values.specs.Worths.{First};
 ghost use Rattle.laws.specs.Tests.{Decides};
 
-use crate::points::{Part, point_at, store_point};
+use crate::points::{Part, sum_of};
 use knapsack::{Choice, Front, choice_at};
 use values::{ENTRIES, NO_COST, Worth, lower};
 
@@ -30,23 +29,18 @@ fn comes_first(a: Worth, b: Worth) -> bool
 fn spread_level(
     capacity: usize,
     choice: Choice,
-    part: Part,
-    points: &[u64],
+    list: &[Choice],
     costs: &mut [u64],
     keys: &mut [u64],
 )
-    requires sums_small { SumsSmall capacity choice part.from part.to points.now }
+    requires sums_small { SumsSmall capacity choice 0 (length list.now) list.now }
     requires long { Long capacity costs.old keys.old }
-    ensures { LevelSpread capacity choice part.from part.to points.now costs.old keys.old
-        costs.new keys.new }
+    ensures { LevelSpread capacity choice 0 (length list.now) list.now costs.old keys.old costs.new keys.new }
 {
-    for p in part.from..part.to {
-        let point = point_at(points, p);
-        let load = choice.load + point.load;
-        if load <= capacity {
-            let cost = choice.cost + point.cost;
-            let key = choice.key + point.key;
-            lower(load, cost, key, costs, keys);
+    for point in list {
+        let sum = sum_of(choice, *point);
+        if sum.load <= capacity {
+            lower(sum.load, sum.cost, sum.key, costs, keys);
         }
     }
 }
@@ -54,23 +48,22 @@ fn spread_level(
 // The item at each level.
 fn spread_item(
     front: Front,
-    part: Part,
+    list: &[Choice],
     load: &[u64],
     cost: &[u64],
-    points: &[u64],
     costs: &mut [u64],
     keys: &mut [u64],
 )
-    requires item_fits { ItemFits front part.from part.to load.now cost.now points.now }
+    requires item_fits { ItemFits front 0 (length list.now) load.now cost.now list.now }
     requires long { Long front.core.capacity costs.old keys.old }
     requires cleared { Cleared front.core.capacity costs.old }
-    ensures { ItemSpread front part.from part.to load.now cost.now points.now
+    ensures { ItemSpread front 0 (length list.now) load.now cost.now list.now
         front.core.levels costs.new keys.new }
 {
     for l in 0..front.core.levels {
         let choice = choice_at(load, cost, front, l);
         if choice.load <= front.core.capacity {
-            spread_level(front.core.capacity, choice, part, points, costs, keys);
+            spread_level(front.core.capacity, choice, list, costs, keys);
         }
     }
 }
@@ -86,9 +79,9 @@ fn entry(knapsack_costs: &[u64], knapsack_keys: &[u64], w: usize) -> Worth
 }
 
 // The entries that come before all of smaller load become points, from the point `from` on. Answers where they end.
-fn sweep(capacity: usize, from: usize, costs: &[u64], keys: &[u64], points: &mut [u64]) -> usize
+fn sweep(capacity: usize, from: usize, costs: &[u64], keys: &[u64], points: &mut [Choice]) -> usize
     requires long { Long capacity costs.now keys.now }
-    requires point_width_in_bounds { (from + suc capacity) * point_width ≤ length points.old }
+    requires room { from + suc capacity ≤ length points.old }
     ensures { Swept capacity from costs.now keys.now points.old points.new result }
 {
     let mut best = Worth {
@@ -99,7 +92,11 @@ fn sweep(capacity: usize, from: usize, costs: &[u64], keys: &[u64], points: &mut
     for u in 0..capacity + 1 {
         let worth = entry(costs, keys, u);
         if comes_first(worth, best) {
-            store_point(to, u, worth, points);
+            points[to] = Choice {
+                load: u,
+                cost: worth.cost,
+                key: worth.key,
+            };
             best = worth;
             to += 1;
         }
@@ -115,14 +112,15 @@ pub(crate) fn list_long(
     used: usize,
     load: &[u64],
     cost: &[u64],
-    points: &mut [u64],
+    points: &mut [Choice],
 ) -> usize
     requires item_fits { ItemFits front part.from part.to load.now cost.now points.old }
-    requires point_width_in_bounds { (used + suc front.core.capacity) * point_width ≤ length points.old }
+    requires room { used + suc front.core.capacity ≤ length points.old }
     ensures { SetAdded front part.from part.to used load.now cost.now points.old points.new result }
 {
     let mut costs = [NO_COST; ENTRIES];
     let mut keys = [0u64; ENTRIES];
-    spread_item(front, part, load, cost, points, &mut costs, &mut keys);
+    let list = &points[part.from..part.to];
+    spread_item(front, list, load, cost, &mut costs, &mut keys);
     sweep(front.core.capacity, used, &costs, &keys, points)
 }

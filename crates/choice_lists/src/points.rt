@@ -1,37 +1,61 @@
-// The points of the lists, three numbers each, in one slice.
-ghost use Rattle.std.specs.Prelude.{◌≡◌, suc, ◌*◌, ◌≤◌, length};
-ghost use Rattle.choice_lists.specs.Listed.{point_at, point_width};
-ghost use Rattle.choice_lists.specs.Sweep.{with_point};
+// The points of the lists, one list after the other in one slice.
+ghost use Rattle.std.specs.Prelude.{◌≡◌, ◌*◌, ◌-◌, ◌^◌, ◌≤◌, ◌<◌};
+ghost use Rattle.choice_lists.specs.ListedSets.{Enough, Short};
+ghost use Rattle.choice_lists.specs.Spread.{SumFits, sum_of};
+ghost use Rattle.assignment.specs.Limits.{most_capacity};
+ghost use Rattle.laws.specs.Tests.{Decides};
 
-use knapsack::Choice;
-use values::Worth;
+use knapsack::{Choice, Core};
 
-// Three numbers make a point: a load, a cost and a key.
-pub const WIDTH: usize = 3;
+// The choice of no item.
+pub const NOTHING: Choice = Choice {
+    load: 0,
+    cost: 0,
+    key: 0,
+};
+
+// So many points are written as they come: to spread them over all loads and to sweep these takes longer.
+const SHORT: usize = 256;
 
 // The points of one list.
 #[derive(Clone, Copy)]
 pub(crate) struct Part {
     pub(crate) from: usize,
     pub(crate) to: usize,
+    ghost ordered: { from ≤ to },
 }
 
-pub(crate) fn point_at(points: &[u64], p: usize) -> Choice
-    requires { suc p * point_width ≤ length points.now }
-    ensures { result ≡ point_at points.now p }
-{
-    Choice {
-        load: points[p * WIDTH] as usize,
-        cost: points[p * WIDTH + 1],
-        key: points[p * WIDTH + 2],
+impl Part {
+    // Whether an item at every level before these points makes a short list.
+    pub(crate) fn is_short(self, core: Core) -> bool
+        requires { core.levels * (self.to - self.from) < 2 ^ 64 }
+        ensures { Decides result (Short core self.from self.to) }
+    {
+        core.levels * (self.to - self.from) <= SHORT
+    }
+
+    // The most points that the list of an item before these points may have.
+    pub(crate) fn most_points(self, core: Core) -> usize
+        requires from_bound { core.levels * (self.to - self.from) < 2 ^ 64 }
+        requires capacity_le_most_capacity { core.capacity ≤ most_capacity }
+        ensures { Enough core self.from self.to result }
+    {
+        if self.is_short(core) {
+            core.levels * (self.to - self.from)
+        } else {
+            core.capacity + 1
+        }
     }
 }
 
-pub(crate) fn store_point(p: usize, load: usize, worth: Worth, points: &mut [u64])
-    requires { suc p * point_width ≤ length points.old }
-    ensures { points.new ≡ with_point points.old p load worth }
+// Two choices of different items in one.
+pub(crate) fn sum_of(a: Choice, b: Choice) -> Choice
+    requires { SumFits a b }
+    ensures { result ≡ sum_of a b }
 {
-    points[p * WIDTH] = load as u64;
-    points[p * WIDTH + 1] = worth.cost;
-    points[p * WIDTH + 2] = worth.key;
+    Choice {
+        load: a.load + b.load,
+        cost: a.cost + b.cost,
+        key: a.key + b.key,
+    }
 }

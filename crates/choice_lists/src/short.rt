@@ -1,9 +1,8 @@
 // Short lists of choices: those of one set more are written as they come.
 ghost use Rattle.choice_lists.specs.Appended.{ItemAppended, ItemRoom, LevelAppended, LevelRoom};
 
-use crate::points::{Part, point_at, store_point};
+use crate::points::{Part, sum_of};
 use knapsack::{Choice, Front, choice_at};
-use values::Worth;
 
 // The choice with each point of the list becomes a point, from the point `start` on, where the capacity takes both.
 // Answers where they end.
@@ -12,21 +11,16 @@ fn append_level(
     choice: Choice,
     part: Part,
     start: usize,
-    points: &mut [u64],
+    points: &mut [Choice],
 ) -> usize
     requires { LevelRoom capacity choice part.from part.to start points.old }
     ensures { LevelAppended capacity choice part.from part.to start points.old points.new result }
 {
     let mut end = start;
     for p in part.from..part.to {
-        let point = point_at(points, p);
-        let load = choice.load + point.load;
-        if load <= capacity {
-            let worth = Worth {
-                cost: choice.cost + point.cost,
-                key: choice.key + point.key,
-            };
-            store_point(end, load, worth, points);
+        let sum = sum_of(choice, points[p]);
+        if sum.load <= capacity {
+            points[end] = sum;
             end += 1;
         }
     }
@@ -40,7 +34,7 @@ pub(crate) fn append_item(
     used: usize,
     load: &[u64],
     cost: &[u64],
-    points: &mut [u64],
+    points: &mut [Choice],
 ) -> usize
     requires { ItemRoom front part.from part.to used load.now cost.now points.old }
     ensures { ItemAppended front part.from part.to used load.now cost.now points.old

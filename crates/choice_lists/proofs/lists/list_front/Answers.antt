@@ -1,19 +1,18 @@
-use Rattle.choice_lists.specs.ListedFront.{fewer_fit}
+use Rattle.std.proofs.Common.{arith}
+use Rattle.choice_lists.specs.ListedFront.{fewer_fit, lists_stay}
 use Rattle.choice_lists.proofs.lists.list_front.Goals as goal
 
-pub list_items-listed-requires : goal.list_items-listed-requires
-list_items-listed-requires c =
+pub loop-core-init : goal.loop-core-init
+loop-core-init c =
     let pre = c.requires in
-    let most = c.most_listed-n.ensures in
     record {
       items_limited = pre.le_most_items;
-      some_items = most.0;
-      few = most.1;
+      some_items = omega arith;
+      few = omega arith;
       affordable = pre.affordable;
-      some_points = pre.point_width_in_bounds;
+      some_points = pre.some_points;
       starts_long = pre.most_starts_in_bounds;
     }
 
-pub list_items-listed-requires-in-loop-listed : goal.list_items-listed-requires-in-loop-listed
-list_items-listed-requires-in-loop-listed c =
-    fewer_fit c.loop-listed.invariant.2
+pub loop-core-preserved : goal.loop-core-preserved
+loop-core-preserved c = fewer_fit (lists_stay c.list_items.auto.points c.list_items.auto.starts c.loop-core.invariant)

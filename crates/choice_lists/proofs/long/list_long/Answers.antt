@@ -1,5 +1,5 @@
 -- `list_long` spreads the item over the list, and sweeps that to another.
-use Rattle.choice_lists.specs.ListedSetLaws.{set_added}
+use Rattle.choice_lists.specs.ListedSetLaws.{part_fits, set_added}
 use Rattle.choice_lists.specs.SpreadItems.{knapsacks_cleared, knapsacks_long}
 use Rattle.assignment.specs.Words.{no_cost}
 use Rattle.choice_lists.proofs.long.list_long.Goals as goal
@@ -8,8 +8,8 @@ pub spread_item-requires : goal.spread_item-requires
 spread_item-requires c =
     let fits = c.requires.item_fits in
     let limited = fits.affordable.capacity_limited in
-    record { item_fits = fits; long = knapsacks_long no_cost 0 limited; cleared = knapsacks_cleared limited }
+    record { item_fits = part_fits fits; long = knapsacks_long no_cost 0 limited; cleared = knapsacks_cleared limited }
 
 pub returns : goal.returns
 returns c =
-    set_added c.spread_item.ensures c.sweep.ensures
+    set_added c.requires.item_fits.there c.spread_item.ensures c.sweep.ensures

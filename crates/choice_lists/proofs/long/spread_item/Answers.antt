@@ -1,14 +1,10 @@
-use mathlib.Core.Path.{◌≡◌, refl}
-use native.Mathlib.Numerals.{add-one}
-use native.Mathlib.Omega.{arith}
-use borrow.Author.Rules.{rules}
+use Rattle.std.proofs.Common.{◌≡◌, add-one, arith}
 use Rattle.choice_lists.specs.SpreadItems.{item_choice_fits, sums_small, spread_no_level, spread_no_room, spread_one_level}
 use Rattle.choice_lists.proofs.long.spread_item.Goals.{then-choice-front, else-choice-front}
 use Rattle.choice_lists.proofs.long.spread_item.Goals as goal
 
 pub loop-l-init : goal.loop-l-init
-loop-l-init c =
-    (search rules, refl, refl, spread_no_level c.requires.cleared)
+loop-l-init c = spread_no_level c.requires.cleared
 
 pub choice_at-choice-requires : goal.choice_at-choice-requires
 choice_at-choice-requires c =
@@ -17,37 +13,26 @@ choice_at-choice-requires c =
 pub spread_level-requires : goal.spread_level-requires
 spread_level-requires c =
     let pre = c.requires in
-    let at = c.loop-l in
-    let long = pre.long in record { sums_small = sums_small pre.item_fits c.loop-l-test.true c.choice_at-choice.ensures c.if-choice-front.true; long = record { costs_to_capacity = omega (arith, long, at.invariant); keys_to_capacity = omega (arith, long, at.invariant) } }
-
-pub shape_of-costs : goal.shape_of-costs
-shape_of-costs c =
-    c.loop-l.invariant.1
-
-pub shape_of-keys : goal.shape_of-keys
-shape_of-keys c =
-    c.loop-l.invariant.2
+    let long = pre.long in
+    record {
+      sums_small = sums_small pre.item_fits c.loop-l-test.true c.choice_at-choice.ensures c.if-choice-front.true;
+      long = record { costs_to_capacity = omega (arith, long); keys_to_capacity = omega (arith, long) };
+    }
 
 pub returns : goal.returns
 returns c =
     let at = c.loop-l in
     let all : at.l ≡ c.args.front.core.levels = omega arith in
-    rw all at at.invariant.3
+    rw all at at.invariant
 
 pub loop-l-preserved : goal.loop-l-preserved
 loop-l-preserved c =
     let fits = c.requires.item_fits in
-    let at = c.loop-l in
+    let sofar = c.loop-l.invariant in
     let under = c.loop-l-test.true in
     let chosen = c.choice_at-choice.ensures in
     rw add-one
     (elim c.if-choice-front.branch [
-      | then-choice-front w ↦ rw (w.costs-is, w.keys-is) (
-        omega arith,
-        omega arith,
-        omega arith,
-        spread_one_level fits under chosen at.invariant.3 w.if-choice-front.true w.spread_level.ensures,
-      )
-      | else-choice-front w ↦ rw (w.costs-is, w.keys-is)
-          (omega arith, at.invariant.1, at.invariant.2, spread_no_room fits under chosen at.invariant.3 (omega (arith, w.if-choice-front.false)))
+      | then-choice-front w ↦ rw (w.costs-is, w.keys-is) (spread_one_level fits under chosen sofar w.if-choice-front.true w.spread_level.ensures)
+      | else-choice-front w ↦ rw (w.costs-is, w.keys-is) (spread_no_room fits under chosen sofar (omega (arith, w.if-choice-front.false)))
     ])
