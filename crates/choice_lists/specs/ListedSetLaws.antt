@@ -3,26 +3,18 @@ use Rattle.std.specs.Prelude.{ℕ, suc, ◌+◌, ◌*◌, ◌-◌, ◌^◌, ◌�
 use Rattle.std.proofs.Common.{sym, ap, le_refl, ◌∙◌, pow-suc, zero-add, add-zero, mul-le-mul_right, arith}
 use Rattle.choice_lists.specs.Appended.{ItemRoom, ItemAppended}
 use Rattle.knapsack.specs.FrontKnapsacks.{knapsack_before-first, knapsack_before-items}
-use Rattle.choice_lists.specs.Listed.{part, point_at, PointSmall, Listed}
+use Rattle.choice_lists.specs.Listed.{part, PointSmall, Listed}
 use Rattle.choice_lists.specs.ListedSets.{Short, SetFits, SetAdded}
 use Rattle.knapsack.specs.Offered.{offer_at}
 use Rattle.assignment.specs.Keys.{key_base}
 use Rattle.knapsack.specs.KnapsackSteps.{with_item, knapsack_before, with_item-same}
-use Rattle.choice_lists.specs.PointLaws.{part_length, part_entry, part_listed}
+use Rattle.choice_lists.specs.PointLaws.{part_small, part_listed}
 use Rattle.choice_lists.specs.Spread.{ItemFits, ItemSpread}
 use Rattle.choice_lists.specs.Sweep.{Swept}
 use Rattle.assignment.specs.Values.{Value}
 use Rattle.knapsack.specs.declared.relaxing.Choice.{Choice}
 use Rattle.knapsack.specs.declared.relaxing.Core.{Core}
 use Rattle.knapsack.specs.declared.relaxing.Front.{Front}
-
--- what is so of every entry from `from` to `to` is so of every entry of the part
-part_small : {capacity n places : ℕ} (points : List Choice) (from to : ℕ) → to ≤ length points →
-    ((p : ℕ) → from ≤ p → p < to → PointSmall capacity n places (point_at points p)) →
-    (p : ℕ) → 0 ≤ p → p < length (part points from to) → PointSmall capacity n places (point_at (part points from to) p)
-part_small points from to there small p after below =
-    let within : from + p < to = omega (arith, part_length points from to there) in
-    rw (part_entry points from to p within) (small (from + p) (omega arith) within)
 
 -- a list fits as a part of its own
 pub part_fits : {front : Front} {from to : ℕ} {load cost : List ℕ} {points : List Choice} → ItemFits front from to load cost points →

@@ -1,10 +1,10 @@
 -- Entries of a list are stored behind the others, which stay as they are.
 use Rattle.std.specs.Prelude.{ℕ, suc, ◌+◌, ◌-◌, ◌≤◌, ◌<◌, ◌≡◌, List, length, drop, set}
-use Rattle.std.proofs.Common.{ap, ◌∙◌, zero-add, arith, length-drop, length-take-le, get_or-take, get_or-drop}
+use Rattle.std.proofs.Common.{ap, ◌∙◌, le_refl, zero-add, arith, length-drop, length-take-le, get_or-take, get_or-drop}
 use Rattle.std.proofs.Math.ListN.{length-set}
 use Rattle.std.proofs.Math.Seq.{get_or-set_same, get_or-set_other}
 use Rattle.assignment.specs.LeastLaws.{least_below-alike}
-use Rattle.choice_lists.specs.Listed.{before, nothing, part, point_at, least_listed, Listed}
+use Rattle.choice_lists.specs.Listed.{before, nothing, part, point_at, least_listed, PointSmall, Listed}
 use Rattle.choice_lists.specs.Sweep.{Older}
 use Rattle.assignment.specs.Values.{Value, lesser, least_below}
 use Rattle.knapsack.specs.declared.relaxing.Choice.{Choice}
@@ -56,6 +56,14 @@ pub part_entry : (points : List Choice) (from to i : ℕ) → from + i < to → 
 part_entry points from to i below =
     get_or-take (to - from) (drop from points) i nothing (omega arith) ∙ get_or-drop from points i nothing
 
+-- what is small of every entry from `from` to `to` is small in the part
+pub part_small : {capacity n places : ℕ} (points : List Choice) (from to : ℕ) → to ≤ length points →
+    ((p : ℕ) → from ≤ p → p < to → PointSmall capacity n places (point_at points p)) →
+    (p : ℕ) → 0 ≤ p → p < length (part points from to) → PointSmall capacity n places (point_at (part points from to) p)
+part_small points from to there small p after below =
+    let within : from + p < to = omega (arith, part_length points from to there) in
+    rw (part_entry points from to p within) (small (from + p) (omega arith) within)
+
 pub part_listed : (points : List Choice) (from to : ℕ) → to ≤ length points → (rest : ℕ → Value) (w : ℕ) →
     least_listed (part points from to) 0 (length (part points from to) - 0) rest w ≡ least_listed points from (to - from) rest w
 unfolding least_listed
@@ -64,6 +72,18 @@ part_listed points from to there rest w =
     rw all
     (least_below-alike (to - from) _ _
     (λ i below. ap (λ (point : Choice). before point rest w) (rw zero-add (part_entry points from to i (omega arith)))))
+
+-- a list is listed as a part of its own
+pub listed_part : {capacity n places from to : ℕ} {f : (ℕ → Value) → ℕ → Value} {points : List Choice} →
+    Listed capacity n places f points from to →
+    Listed capacity n places f (part points from to) 0 (length (part points from to))
+listed_part {from = from} {to} {points = points} listed =
+    record {
+      ordered = omega arith;
+      there = le_refl _;
+      least = λ rest falling w under. part_listed points from to listed.there rest w ∙ listed.least rest falling w under;
+      small = part_small points from to listed.there listed.small;
+    }
 
 -- an entry is put behind the others
 pub entry_put_older : (points : List Choice) (p : ℕ) (point : Choice) → Older p points (set points p point)

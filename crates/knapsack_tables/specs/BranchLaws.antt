@@ -4,19 +4,20 @@ use Rattle.std.proofs.Common.{sym, ap, ◌∙◌, pow-suc, arith}
 use Rattle.std.proofs.Math.Nat.{pow-le-pow_right}
 use Rattle.knapsack.specs.Offers.{Offer}
 use Rattle.assignment.specs.KeyLaws.{keys_fit}
-use Rattle.knapsack_tables.specs.Branches.{costs_at, part_from, offer_in, NextFits, BranchFits, BranchFilled}
+use Rattle.knapsack_tables.specs.Branches.{NextFits, BranchFits, BranchFilled}
 use Rattle.knapsack_tables.specs.Branches.{next_item, settled, without_next, with_next}
 use Rattle.knapsack_tables.specs.FallingLaws.{falling_same, falling_with_item}
 use Rattle.knapsack_tables.specs.FilledTables.{Holds, filled_same, filled_both}
 use Rattle.choice_lists.specs.Listed.{Falling}
 use Rattle.assignment.specs.Limits.{most_capacity, most_items, most_levels}
-use Rattle.knapsack.specs.Offered.{Affordable}
+use Rattle.knapsack.specs.Offered.{offer_at, Affordable}
 use Rattle.knapsack.specs.RelaxedItems.{ItemBefore, KnapsackWithItem}
 use Rattle.assignment.specs.Keys.{key_base}
 use Rattle.knapsack.specs.KnapsackSteps.{with_item}
 use Rattle.knapsack.specs.KnapsackWords.{KnapsackHeld, knapsack_of, LeastAt, least_of_all_levels}
 use Rattle.values.specs.Worths.{Small}
 use Rattle.assignment.specs.Values.{Value}
+use Rattle.knapsack.specs.declared.relaxing.Choice.{Choice}
 use Rattle.knapsack_tables.specs.declared.filling.Branch.{Branch}
 
 -- a knapsack of fewer items is within the limits of more
@@ -53,8 +54,8 @@ held_for_more held =
       small = λ w le. small_for_more (held.small w le);
     }
 
-module _ {branch : Branch} {offers starts knapsack_costs knapsack_keys costs keys : List ℕ}
-    (fits : BranchFits branch offers starts knapsack_costs knapsack_keys costs keys) where
+module _ {branch : Branch} {load cost : List ℕ} {points : List Choice} {starts knapsack_costs knapsack_keys costs keys : List ℕ}
+    (fits : BranchFits branch load cost points starts knapsack_costs knapsack_keys costs keys) where
   bit_above_0 : 0 < branch.bit
   bit_above_0 = omega (arith, fits.index_below)
 
@@ -81,7 +82,7 @@ module _ {branch : Branch} {offers starts knapsack_costs knapsack_keys costs key
           index_fits = omega (arith, bit_doubled, fits.index_below);
         }
 
-    pub item_before : ItemBefore (next_item branch) offers (part_from costs_at offers) knapsack_costs knapsack_keys
+    pub item_before : ItemBefore (next_item branch) load cost knapsack_costs knapsack_keys
     item_before =
         record {
           affordable = rw one_ahead at fits.affordable;
@@ -94,12 +95,11 @@ module _ {branch : Branch} {offers starts knapsack_costs knapsack_keys costs key
         KnapsackHeld (suc branch.places) branch.core.capacity knapsack_costs₁ knapsack_keys₁ →
         Falling branch.core.capacity (knapsack_of knapsack_costs₁ knapsack_keys₁) →
         length costs₁ ≡ length costs → length keys₁ ≡ length keys →
-        BranchFits (settled branch index) offers starts knapsack_costs₁ knapsack_keys₁ costs₁ keys₁
+        BranchFits (settled branch index) load cost points starts knapsack_costs₁ knapsack_keys₁ costs₁ keys₁
     settled_fits below held falls same_costs same_keys =
         let sums : branch.ahead - 1 + suc branch.places ≡ branch.ahead + branch.places = omega arith in
         record {
           items_limited = omega (arith, fits.items_limited);
-          offers_there = fits.offers_there;
           affordable = affordable_without_last (rw one_ahead at fits.affordable);
           bit_is = bit_doubled;
           digit_is = digit_moved;
@@ -112,23 +112,23 @@ module _ {branch : Branch} {offers starts knapsack_costs knapsack_keys costs key
           keys_for_all = rw (sums, same_keys) fits.keys_for_all;
         }
 
-    pub without_fits : BranchFits (without_next branch) offers starts knapsack_costs knapsack_keys costs keys
+    pub without_fits : BranchFits (without_next branch) load cost points starts knapsack_costs knapsack_keys costs keys
     without_fits = settled_fits (omega (arith, fits.index_below)) (held_for_more fits.knapsack_held) fits.knapsack_falls refl refl
 
     with_knapsack : {more_costs more_keys : List ℕ} →
-        KnapsackWithItem (next_item branch) offers (part_from costs_at offers) knapsack_costs knapsack_keys branch.core.levels
+        KnapsackWithItem (next_item branch) load cost knapsack_costs knapsack_keys branch.core.levels
         more_costs more_keys → (u : ℕ) → u ≤ branch.core.capacity →
         knapsack_of more_costs more_keys u
-        ≡ with_item branch.core.levels (offer_in offers (branch.ahead - 1)) branch.places (knapsack_of knapsack_costs knapsack_keys) u
+        ≡ with_item branch.core.levels (offer_at load cost (branch.ahead - 1)) branch.places (knapsack_of knapsack_costs knapsack_keys) u
     unfolding knapsack_of
     with_knapsack more u le = (least_holds fits.affordable.levels_limited (more.least u le)).is
 
     pub with_fits : {more_costs more_keys costs₁ keys₁ : List ℕ} → length more_costs ≡ suc most_capacity →
         length more_keys ≡ suc most_capacity →
-        KnapsackWithItem (next_item branch) offers (part_from costs_at offers) knapsack_costs knapsack_keys branch.core.levels
+        KnapsackWithItem (next_item branch) load cost knapsack_costs knapsack_keys branch.core.levels
         more_costs more_keys →
         length costs₁ ≡ length costs → length keys₁ ≡ length keys →
-        BranchFits (with_next branch) offers starts more_costs more_keys costs₁ keys₁
+        BranchFits (with_next branch) load cost points starts more_costs more_keys costs₁ keys₁
     with_fits full_costs full_keys more same_costs same_keys =
         settled_fits (omega (arith, fits.index_below))
         record {
@@ -137,16 +137,16 @@ module _ {branch : Branch} {offers starts knapsack_costs knapsack_keys costs key
           small = λ w le. least_of_all_levels fits.affordable.levels_limited (more.least w le);
         }
         (falling_same (λ u le. sym (with_knapsack more u le))
-        (falling_with_item (offer_in offers (branch.ahead - 1)) branch.places fits.knapsack_falls branch.core.levels))
+        (falling_with_item (offer_at load cost (branch.ahead - 1)) branch.places fits.knapsack_falls branch.core.levels))
         same_costs same_keys
 
     pub both_filled : {costs₁ keys₁ more_costs more_keys costs₂ keys₂ : List ℕ} →
-        BranchFilled (without_next branch) offers knapsack_costs knapsack_keys costs keys costs₁ keys₁ →
-        KnapsackWithItem (next_item branch) offers (part_from costs_at offers) knapsack_costs knapsack_keys branch.core.levels
+        BranchFilled (without_next branch) load cost knapsack_costs knapsack_keys costs keys costs₁ keys₁ →
+        KnapsackWithItem (next_item branch) load cost knapsack_costs knapsack_keys branch.core.levels
         more_costs more_keys →
-        BranchFilled (with_next branch) offers more_costs more_keys costs₁ keys₁ costs₂ keys₂ →
-        BranchFilled branch offers knapsack_costs knapsack_keys costs keys costs₂ keys₂
+        BranchFilled (with_next branch) load cost more_costs more_keys costs₁ keys₁ costs₂ keys₂ →
+        BranchFilled branch load cost knapsack_costs knapsack_keys costs keys costs₂ keys₂
     both_filled without more with =
         rw one_ahead
-        (filled_both branch.core.levels branch.core.capacity (offer_in offers) bit_above_0 without
-        (filled_same branch.core.levels branch.core.capacity (offer_in offers) (with_knapsack more) with))
+        (filled_both branch.core.levels branch.core.capacity (offer_at load cost) bit_above_0 without
+        (filled_same branch.core.levels branch.core.capacity (offer_at load cost) (with_knapsack more) with))

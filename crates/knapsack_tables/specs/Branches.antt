@@ -1,30 +1,14 @@
 -- What filling a branch of the sets asks for, and what it does.
-use Rattle.std.specs.Prelude.{ℕ, suc, ◌+◌, ◌*◌, ◌-◌, ◌^◌, ◌≤◌, ◌<◌, ◌≡◌, List, length, take, drop}
+use Rattle.std.specs.Prelude.{ℕ, suc, ◌+◌, ◌*◌, ◌-◌, ◌^◌, ◌≤◌, ◌<◌, ◌≡◌, List, length}
 use Rattle.knapsack_tables.specs.FilledTables.{Filled}
 use Rattle.choice_lists.specs.Listed.{Falling, FrontListed}
-use Rattle.assignment.specs.Limits.{most_items, most_levels}
+use Rattle.assignment.specs.Limits.{most_items}
 use Rattle.knapsack.specs.Offered.{offer_at, Affordable}
-use Rattle.knapsack.specs.Offers.{Offer}
 use Rattle.assignment.specs.Keys.{key_base}
 use Rattle.knapsack.specs.KnapsackWords.{KnapsackHeld, knapsack_of}
 use Rattle.knapsack_tables.specs.declared.filling.Branch.{Branch}
+use Rattle.knapsack.specs.declared.relaxing.Choice.{Choice}
 use Rattle.knapsack.specs.declared.relaxing.Front.{Front}
-
--- All branches read one slice of offers: the loads of all items at every level, from here on their costs,
-abbrev pub costs_at : ℕ
-costs_at = most_items * most_levels
-
--- and from here on the points of the lists
-abbrev pub lists_at : ℕ
-lists_at = 2 * costs_at
-
--- what stands from a on, as code lends it
-abbrev pub part_from : ℕ → List ℕ → List ℕ
-part_from a xs = take (length xs - a) (drop a xs)
-
--- item i, as it stands there
-abbrev pub offer_in : List ℕ → ℕ → Offer
-offer_in offers = offer_at offers (part_from costs_at offers)
 
 -- with the next item settled
 abbrev pub settled : Branch → ℕ → Branch
@@ -57,10 +41,9 @@ pub record NextFits (branch : Branch) : Type 0 where
   pub digit_fits : branch.digit * key_base < 2 ^ 64
   pub index_fits : branch.index + branch.bit < 2 ^ 64
 
-pub record BranchFits (branch : Branch) (offers starts knapsack_costs knapsack_keys costs keys : List ℕ) : Type 0 where
+pub record BranchFits (branch : Branch) (load cost : List ℕ) (points : List Choice) (starts knapsack_costs knapsack_keys costs keys : List ℕ) : Type 0 where
   pub items_limited : branch.ahead + branch.places ≤ most_items
-  pub offers_there : lists_at ≤ length offers
-  pub affordable : Affordable branch.ahead branch.core.levels branch.core.capacity offers (part_from costs_at offers)
+  pub affordable : Affordable branch.ahead branch.core.levels branch.core.capacity load cost
   pub bit_is : branch.bit ≡ 2 ^ branch.places
   pub digit_is : branch.digit ≡ key_base ^ branch.places
   pub index_below : branch.index < branch.bit
@@ -68,13 +51,12 @@ pub record BranchFits (branch : Branch) (offers starts knapsack_costs knapsack_k
   pub knapsack_falls : Falling branch.core.capacity (knapsack_of knapsack_costs knapsack_keys)
   pub listed_ahead : branch.listed ≤ branch.ahead
   pub front_listed :
-      FrontListed branch.core offers (part_from costs_at offers) branch.listed (branch.ahead + branch.places - branch.listed)
-      (part_from lists_at offers) starts
+      FrontListed branch.core load cost branch.listed (branch.ahead + branch.places - branch.listed) points starts
   pub costs_for_all : 2 ^ (branch.ahead + branch.places) ≤ length costs
   pub keys_for_all : 2 ^ (branch.ahead + branch.places) ≤ length keys
 
 -- the entries of the branch's sets hold their knapsacks, the others what they held
-abbrev pub BranchFilled : Branch → (offers knapsack_costs knapsack_keys costs₀ keys₀ costs keys : List ℕ) → Type 0
-BranchFilled branch offers knapsack_costs knapsack_keys =
-    Filled branch.core.levels branch.core.capacity (offer_in offers) branch.ahead branch.places branch.bit branch.index
+abbrev pub BranchFilled : Branch → (load cost knapsack_costs knapsack_keys costs₀ keys₀ costs keys : List ℕ) → Type 0
+BranchFilled branch load cost knapsack_costs knapsack_keys =
+    Filled branch.core.levels branch.core.capacity (offer_at load cost) branch.ahead branch.places branch.bit branch.index
     (knapsack_of knapsack_costs knapsack_keys)

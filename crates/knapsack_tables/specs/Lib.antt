@@ -4,5 +4,4 @@ pub mod ListReads
 pub mod Branches
 pub mod BranchLaws
 pub mod ListedBranches
-pub mod CopiedOffers
 pub mod TabledKnapsacks

@@ -1,12 +1,12 @@
 -- The value of a knapsack read from a list of choices, one after the other.
-use Rattle.std.specs.Prelude.{ℕ, suc, ◌+◌, ◌*◌, ◌-◌, ◌^◌, ◌≤◌, ◌<◌, ◌≡◌, ◌⊎◌, List, length, get_or}
+use Rattle.std.specs.Prelude.{ℕ, suc, ◌+◌, ◌-◌, ◌^◌, ◌≤◌, ◌<◌, ◌≡◌, ◌⊎◌, List, length, get_or}
 use Rattle.std.proofs.Common.{sym, inl, inr, le_refl}
 use Rattle.std.proofs.Math.Nat.{one-le-pow}
 use native.Mathlib.Omega.{arith}
 use borrow.Author.Tests.{le-leb}
 use Rattle.assignment.specs.KeyLaws.{keys_fit}
 use Rattle.knapsack_tables.specs.FilledTables.{Holds}
-use Rattle.choice_lists.specs.Listed.{before, Falling, point_at, least_listed, Listed, point_width}
+use Rattle.choice_lists.specs.Listed.{before, Falling, point_at, least_listed, Listed}
 use Rattle.assignment.specs.Limits.{most_items}
 use Rattle.choice_lists.specs.PointLaws.{least_listed-more}
 use Rattle.assignment.specs.Keys.{key_base}
@@ -16,19 +16,19 @@ use Rattle.assignment.specs.Values.{Value, least_below}
 use Rattle.assignment.specs.Words.{no_cost, words_none, words_pair, words_add, words_lesser_first}
 use Rattle.values.specs.WorthLaws.{lesser_worth-either, lesser_worth-value}
 use Rattle.values.specs.Worths.{lesser_worth, worth_of}
+use Rattle.knapsack.specs.declared.relaxing.Choice.{Choice}
 use Rattle.values.specs.declared.value.Worth.{Worth}
 
 -- the entries from `from` to `to` are n items' choices for f, in front of the `places` items of the knapsack
-pub record ListRead (capacity from to : ℕ) (points knapsack_costs knapsack_keys : List ℕ) (n places : ℕ) (f : (ℕ → Value) → ℕ → Value) :
+pub record ListRead (capacity from to : ℕ) (points : List Choice) (knapsack_costs knapsack_keys : List ℕ) (n places : ℕ) (f : (ℕ → Value) → ℕ → Value) :
     Type 0 where
   pub items_limited : n + places ≤ most_items
   pub listed : Listed capacity n places f points from to
   pub knapsack_held : KnapsackHeld places capacity knapsack_costs knapsack_keys
   pub knapsack_falls : Falling capacity (knapsack_of knapsack_costs knapsack_keys)
 
--- the numbers that the entry p asks for are there, and their sums fit 64 bits
-pub record PointRead (capacity p : ℕ) (points knapsack_costs knapsack_keys : List ℕ) : Type 0 where
-  pub in_points : p * point_width + 2 < length points
+-- what the entry p asks for of the knapsack is there, and their sums fit 64 bits
+pub record PointRead (capacity p : ℕ) (points : List Choice) (knapsack_costs knapsack_keys : List ℕ) : Type 0 where
   pub room : (point_at points p).load ≤ capacity
   pub in_costs : capacity - (point_at points p).load < length knapsack_costs
   pub in_keys : capacity - (point_at points p).load < length knapsack_keys
@@ -36,7 +36,7 @@ pub record PointRead (capacity p : ℕ) (points knapsack_costs knapsack_keys : L
   pub key_fits : (point_at points p).key + get_or knapsack_keys (capacity - (point_at points p).load) 0 < 2 ^ 64
 
 -- what the entry p and the knapsack behind it are worth
-abbrev pub point_worth : (capacity p : ℕ) (points knapsack_costs knapsack_keys : List ℕ) → Worth
+abbrev pub point_worth : (capacity p : ℕ) (points : List Choice) (knapsack_costs knapsack_keys : List ℕ) → Worth
 point_worth capacity p points knapsack_costs knapsack_keys =
     record {
       cost = (point_at points p).cost + get_or knapsack_costs (capacity - (point_at points p).load) 0;
@@ -44,12 +44,12 @@ point_worth capacity p points knapsack_costs knapsack_keys =
     }
 
 -- the least of the entries below p, for every f that they are choices for
-abbrev pub LeastTo : (capacity from to : ℕ) (points knapsack_costs knapsack_keys : List ℕ) (p : ℕ) (best : Worth) → Type 0
+abbrev pub LeastTo : (capacity from to : ℕ) (points : List Choice) (knapsack_costs knapsack_keys : List ℕ) (p : ℕ) (best : Worth) → Type 0
 LeastTo capacity from to points knapsack_costs knapsack_keys p best =
     (n places : ℕ) (f : (ℕ → Value) → ℕ → Value) → ListRead capacity from to points knapsack_costs knapsack_keys n places f →
     Holds (n + places) (least_listed points from (p - from) (knapsack_of knapsack_costs knapsack_keys) capacity) best.cost best.key
 
-module _ {capacity from to : ℕ} {points knapsack_costs knapsack_keys : List ℕ} where
+module _ {capacity from to : ℕ} {points : List Choice} {knapsack_costs knapsack_keys : List ℕ} where
   pub least_of_none : LeastTo capacity from to points knapsack_costs knapsack_keys from record { cost = no_cost; key = 0 }
   unfolding least_listed least_below key_base
   least_of_none n places f read =
@@ -72,7 +72,6 @@ module _ {capacity from to : ℕ} {points knapsack_costs knapsack_keys : List �
     point_read =
         let small = read.listed.small p lower under in
         record {
-          in_points = omega (arith, read.listed.there);
           room = small.fits;
           in_costs = omega (arith, read.knapsack_held.costs_to_capacity);
           in_keys = omega (arith, read.knapsack_held.keys_to_capacity);

@@ -1,20 +1,17 @@
 -- The branch of all sets: what filling it asks for, and that the filled tables hold the knapsack of every set.
-use Prim.Native.Nat.{ℕ, ◌+◌, ◌*◌, ◌-◌, ◌^◌, ◌≤◌, ◌<◌}
-use Rattle.std.specs.Prelude.{◌≡◌, refl, Bool, List, length, get_or, replicate}
+use Prim.Native.Nat.{ℕ, ◌-◌, ◌^◌, ◌≤◌, ◌<◌}
+use Rattle.std.specs.Prelude.{◌≡◌, refl, Bool, List, length, get_or}
 use Rattle.std.proofs.Common.{sym, ◌∙◌, mul-one}
 use Rattle.std.proofs.Math.Path.{ap}
 use Rattle.std.proofs.Math.Nat.{add-zero}
 use native.Mathlib.Omega.{arith}
-use Rattle.std.proofs.lemmas.List.{length-replicate}
 use Rattle.laws.specs.JoinedLaws.{length-list_of}
 use Rattle.assignment.specs.Assignment.{Item}
 use Rattle.assignment.specs.CoreTables.{CoreTable, Keyed}
-use Rattle.knapsack_tables.specs.Branches.{lists_at, part_from, offer_in, BranchFits}
-use Rattle.knapsack_tables.specs.CopiedOffers.{Copied, offers_alike, affordable_copied, front_copied}
+use Rattle.knapsack_tables.specs.Branches.{BranchFits}
 use Rattle.knapsack_tables.specs.FallingLaws.{falling_flat}
-use Rattle.choice_lists.specs.Listed.{FrontListed, point_width}
-use Rattle.assignment.specs.Limits.{most_items, most_levels, most_core_cost}
-use Rattle.knapsack.specs.FrontKnapsacks.{knapsack_before-alike}
+use Rattle.choice_lists.specs.Listed.{FrontListed}
+use Rattle.assignment.specs.Limits.{most_items, most_core_cost}
 use Rattle.knapsack.specs.Offered.{Affordable, offer_at, offers_of}
 use Rattle.knapsack_tables.specs.FilledTables.{Elsewhere, Holds, Filled, filled_same}
 use Rattle.knapsack.specs.RelaxedItems.{FlatKnapsack}
@@ -30,6 +27,7 @@ use Rattle.assignment.specs.Sets.{set_number, table_at, Tabled}
 use Rattle.assignment.specs.Values.{Value, pair}
 use Rattle.assignment.specs.Words.{no_cost, words_pair}
 use Rattle.knapsack_tables.specs.declared.filling.Branch.{Branch}
+use Rattle.knapsack.specs.declared.relaxing.Choice.{Choice}
 use Rattle.knapsack.specs.declared.relaxing.Core.{Core}
 
 pub record KnapsacksFit (n levels capacity : ℕ) (load cost costs keys : List ℕ) : Type 0 where
@@ -66,31 +64,26 @@ filled_core_table {n} {levels} {capacity} {load} {cost} filled cores items all =
     let table = knapsack_table cores levels capacity (offers_of load cost n) items (offers_counted load cost n ∙ sym all) in
     record { least = λ T beside. rw (filled.tabled.holds T (beside ∙ all)) (table.least T beside) }
 
--- there is room for loads, costs and a choice where there is any
-pub some_room : (n : ℕ) → lists_at + point_width ≤ n → lists_at + point_width ≤ length {A = ℕ} (replicate n 0)
-some_room n some = rw (length-replicate {A = ℕ} n 0) some
-
 -- where nothing is settled yet
 abbrev pub all_sets : Core → (listed n : ℕ) → Branch
 all_sets core listed n = record { core = core; listed = listed; ahead = n; places = 0; bit = 1; digit = 1; index = 0 }
 
-module _ {core : Core} {n : ℕ} {load cost offers costs₀ keys₀ empty_costs empty_keys : List ℕ}
-    (fit : KnapsacksFit n core.levels core.capacity load cost costs₀ keys₀) (there : lists_at ≤ length offers)
-    (copied : Copied (n * most_levels) load cost offers) (empty : FlatKnapsack 0 0 core.capacity empty_costs empty_keys) where
+module _ {core : Core} {n : ℕ} {load cost costs₀ keys₀ empty_costs empty_keys : List ℕ}
+    (fit : KnapsacksFit n core.levels core.capacity load cost costs₀ keys₀)
+    (empty : FlatKnapsack 0 0 core.capacity empty_costs empty_keys) where
   -- at load u no item costs nothing
   empty_knapsack : (u : ℕ) → u ≤ core.capacity → knapsack_of empty_costs empty_keys u ≡ pair 0 0
   unfolding knapsack_of
   empty_knapsack u le = rw (empty.each_cost u le, empty.each_key u le) (words_pair 0 0 (omega arith))
 
-  pub all_sets_fit : {listed : ℕ} {starts : List ℕ} → listed ≤ n →
-      FrontListed core load cost listed (n - listed) (part_from lists_at offers) starts →
-      BranchFits (all_sets core listed n) offers starts empty_costs empty_keys costs₀ keys₀
+  pub all_sets_fit : {listed : ℕ} {points : List Choice} {starts : List ℕ} → listed ≤ n →
+      FrontListed core load cost listed (n - listed) points starts →
+      BranchFits (all_sets core listed n) load cost points starts empty_costs empty_keys costs₀ keys₀
   unfolding key_base
   all_sets_fit le lists =
       record {
         items_limited = omega (arith, fit.items_limited);
-        offers_there = there;
-        affordable = affordable_copied fit.items_limited there copied fit.affordable;
+        affordable = fit.affordable;
         bit_is = refl;
         digit_is = refl;
         index_below = omega arith;
@@ -104,26 +97,22 @@ module _ {core : Core} {n : ℕ} {load cost offers costs₀ keys₀ empty_costs 
             };
         knapsack_falls = falling_flat (pair 0 0) empty_knapsack;
         listed_ahead = le;
-        front_listed =
-            rw add-zero (front_copied fit.items_limited there copied fit.affordable.levels_limited le lists);
+        front_listed = rw add-zero lists;
         costs_for_all = rw add-zero fit.costs_for_all;
         keys_for_all = rw add-zero fit.keys_for_all;
       }
 
   module _ {costs keys : List ℕ}
-      (filled : Filled core.levels core.capacity (offer_in offers) n 0 1 0 (knapsack_of empty_costs empty_keys)
+      (filled : Filled core.levels core.capacity (offer_at load cost) n 0 1 0 (knapsack_of empty_costs empty_keys)
       costs₀ keys₀ costs keys) where
     entry_of : (x : ℕ) → x < 2 ^ n →
         Holds n (knapsack_before core.levels (offer_at load cost) n 0 x (λ w. pair 0 0) core.capacity) (get_or costs x 0) (get_or keys x 0)
     entry_of x under =
-        let at_last = filled_same core.levels core.capacity (offer_in offers) empty_knapsack filled in
+        let at_last = filled_same core.levels core.capacity (offer_at load cost) empty_knapsack filled in
         let held = rw (mul-one x, add-zero x, add-zero n) at (at_last.entries x under) in
         record {
           is =
-              held.is
-              ∙ sym
-              (knapsack_before-alike core.levels _ _ n 0 x _ core.capacity
-              (λ i less. offers_alike fit.items_limited there copied fit.affordable.levels_limited less));
+              held.is;
           small = held.small;
         }
 

@@ -1,31 +1,38 @@
 // The knapsacks of all sets of items, branch by branch.
-ghost use Rattle.std.specs.Prelude.{◌≡◌, ◌+◌, ◌*◌, ◌≤◌, length};
-ghost use Rattle.knapsack_tables.specs.Branches.{BranchFilled, BranchFits, NextFits, lists_at, next_item, without_next, with_next};
-ghost use Rattle.knapsack_tables.specs.CopiedOffers.{Copied, CopyFits};
+ghost use Rattle.std.specs.Prelude.{◌≡◌, ◌≤◌, ◌<◌};
+ghost use Rattle.knapsack_tables.specs.Branches.{BranchFilled, BranchFits, NextFits, next_item, without_next, with_next};
 ghost use Rattle.knapsack_tables.specs.TabledKnapsacks.{KnapsacksFilled, KnapsacksFit};
-ghost use Rattle.choice_lists.specs.Listed.{point_width};
-ghost use Rattle.assignment.specs.Limits.{most_levels};
 
 use crate::front::store_listed;
-use choice_lists::{STARTS, WIDTH, list_front};
-use knapsack::{Core, Front, relax};
-use values::{ENTRIES, KEY_BASE, MOST_ITEMS, NO_COST, STRIDE};
-
-// All branches read one slice of offers, since no struct holds slices: the loads of all items at every level, from here on
-// their costs,
-const COSTS: usize = MOST_ITEMS * STRIDE;
-
-// and from here on the points of the lists.
-pub(crate) const LISTS: usize = 2 * COSTS;
+use choice_lists::{NOTHING, STARTS, list_front};
+use knapsack::{Choice, Core, Front, relax};
+use values::{ENTRIES, KEY_BASE, NO_COST};
 
 // Room for the lists of the first items' choices: of two items, which have at most 81 choices, of ten, and of more. Making
 // room takes time, and pays the more the more often a list is read, 2^(n - 6) times for n items. With the most room the lists of
 // six items fit even where most loads have a choice that none beats, as they do where idle power is above the power of every level.
-const FEW_OFFERS: usize = LISTS + 81 * WIDTH;
+const FEW_CHOICES: usize = 81;
 
-const SOME_OFFERS: usize = LISTS + 12288 * WIDTH;
+const SOME_CHOICES: usize = 12288;
 
-const MANY_OFFERS: usize = LISTS + 18432 * WIDTH;
+const MANY_CHOICES: usize = 18432;
+
+// What all branches read: the loads and costs of all items at every level, and the lists of the first items' choices, with
+// where the list of each set of these starts.
+#[derive(Clone, Copy)]
+pub(crate) struct Offers<'a> {
+    pub(crate) load: &'a [u64],
+    pub(crate) cost: &'a [u64],
+    pub(crate) points: &'a [Choice],
+    pub(crate) starts: &'a [usize],
+}
+
+// A knapsack of the items that are settled.
+#[derive(Clone, Copy)]
+pub(crate) struct Knapsack<'a> {
+    pub(crate) costs: &'a [u64],
+    pub(crate) keys: &'a [u64],
+}
 
 // Sets that agree on their last `places` items, the part of their number that these make up being `index`, on a core. The other
 // items are `ahead`, the first of them, `listed` in number, with lists of their choices; `bit` and `digit` are the weights
@@ -41,126 +48,92 @@ pub(crate) struct Branch {
     pub(crate) index: usize,
 }
 
-// The last of the items ahead, which is settled next.
-fn next_item(branch: Branch) -> Front
-    requires { NextFits branch }
-    ensures { result ≡ next_item branch }
-{
-    let core = branch.core;
-    Front {
-        core,
-        item: branch.ahead - 1,
-        places: branch.places,
-        digit: branch.digit,
+impl Branch {
+    // The last of the items ahead, which is settled next.
+    fn next_item(self) -> Front
+        requires { NextFits self }
+        ensures { result ≡ next_item self }
+    {
+        Front {
+            core: self.core,
+            item: self.ahead - 1,
+            places: self.places,
+            digit: self.digit,
+        }
     }
-}
 
-fn without_next(branch: Branch) -> Branch
-    requires { NextFits branch }
-    ensures { result ≡ without_next branch }
-{
-    let core = branch.core;
-    Branch {
-        core,
-        listed: branch.listed,
-        ahead: branch.ahead - 1,
-        places: branch.places + 1,
-        bit: branch.bit * 2,
-        digit: branch.digit * KEY_BASE,
-        index: branch.index,
+    fn without_next(self) -> Branch
+        requires { NextFits self }
+        ensures { result ≡ without_next self }
+    {
+        Branch {
+            ahead: self.ahead - 1,
+            places: self.places + 1,
+            bit: self.bit * 2,
+            digit: self.digit * KEY_BASE,
+            ..self
+        }
     }
-}
 
-fn with_next(branch: Branch) -> Branch
-    requires { NextFits branch }
-    ensures { result ≡ with_next branch }
-{
-    let mut r = without_next(branch);
-    r.index = branch.index + branch.bit;
-    r
+    fn with_next(self) -> Branch
+        requires { NextFits self }
+        ensures { result ≡ with_next self }
+    {
+        Branch {
+            index: self.index + self.bit,
+            ..self.without_next()
+        }
+    }
 }
 
 // The knapsacks of the branch's sets, from the knapsack of the items that these agree on.
-fn fill(
-    branch: Branch,
-    offers: &[u64],
-    starts: &[usize],
-    knapsack_costs: &[u64],
-    knapsack_keys: &[u64],
-    costs: &mut [u64],
-    keys: &mut [u64],
-)
-    requires { BranchFits branch offers.now starts.now knapsack_costs.now knapsack_keys.now costs.old keys.old }
-    ensures { BranchFilled branch offers.now knapsack_costs.now knapsack_keys.now
-        costs.old keys.old costs.new keys.new }
+fn fill(branch: Branch, offers: Offers, knapsack: Knapsack, costs: &mut [u64], keys: &mut [u64])
+    requires { BranchFits branch offers.load.now offers.cost.now offers.points.now offers.starts.now
+        knapsack.costs.now knapsack.keys.now costs.old keys.old }
+    ensures { BranchFilled branch offers.entry.load.now offers.entry.cost.now
+        knapsack.entry.costs.now knapsack.entry.keys.now costs.old keys.old costs.new keys.new }
 {
     if branch.ahead == branch.listed {
-        store_listed(
-            branch,
-            offers,
-            starts,
-            knapsack_costs,
-            knapsack_keys,
-            costs,
-            keys,
-        );
+        store_listed(branch, offers, knapsack, costs, keys);
         return;
     }
-    fill(
-        without_next(branch),
-        offers,
-        starts,
-        knapsack_costs,
-        knapsack_keys,
-        costs,
-        keys,
-    );
-    let front = next_item(branch);
-    let with = with_next(branch);
+    fill(branch.without_next(), offers, knapsack, costs, keys);
     let mut more_costs = [NO_COST; ENTRIES];
     let mut more_keys = [0u64; ENTRIES];
     relax(
-        front,
-        offers,
-        &offers[COSTS..],
-        knapsack_costs,
-        knapsack_keys,
+        branch.next_item(),
+        offers.load,
+        offers.cost,
+        knapsack.costs,
+        knapsack.keys,
         &mut more_costs,
         &mut more_keys,
     );
-    fill(with, offers, starts, &more_costs, &more_keys, costs, keys);
+    let more = Knapsack {
+        costs: &more_costs,
+        keys: &more_keys,
+    };
+    fill(branch.with_next(), offers, more, costs, keys);
 }
 
-// Loads and costs of n items, side by side.
-fn copy_offers(n: usize, load: &[u64], cost: &[u64], offers: &mut [u64])
-    requires { CopyFits n load.now cost.now offers.old }
-    ensures { Copied (n * most_levels) load.now cost.now offers.new }
-{
-    let all = n * STRIDE;
-    for i in 0..all {
-        offers[i] = load[i];
-        offers[COSTS + i] = cost[i];
-    }
-}
-
-// The knapsack of every set of n items at the whole capacity, in the entry of the set's number, with room for what is offered.
-fn fill_with(
+// The knapsack of every set of n items at the whole capacity, in the entry of the set's number, with room for so many
+// choices in lists.
+fn fill_with_room<const ROOM: usize>(
     core: Core,
     n: usize,
     load: &[u64],
     cost: &[u64],
-    offers: &mut [u64],
     costs: &mut [u64],
     keys: &mut [u64],
 )
     requires knapsacks_fit { KnapsacksFit n core.levels core.capacity load.now cost.now costs.old keys.old }
-    requires point_width_in_bounds { lists_at + point_width ≤ length offers.old }
+    requires some_room { (0 < ROOM) × (ROOM ≤ MANY_CHOICES) }
     ensures { KnapsacksFilled n core.levels core.capacity load.now cost.now
         costs.old keys.old costs.new keys.new }
 {
-    copy_offers(n, load, cost, offers);
+    let mut points = [NOTHING; ROOM];
     let mut starts = [0usize; STARTS];
-    let listed = list_front(core, n, load, cost, &mut offers[LISTS..], &mut starts);
+    let listed = list_front(core, n, load, cost, &mut points, &mut starts);
     let all = Branch {
         core,
         listed,
@@ -170,9 +143,19 @@ fn fill_with(
         digit: 1,
         index: 0,
     };
+    let offers = Offers {
+        load,
+        cost,
+        points: &points,
+        starts: &starts,
+    };
     // The set of no item costs nothing, and has key 0.
-    let empty = [0u64; ENTRIES];
-    fill(all, offers, &starts, &empty, &empty, costs, keys);
+    let nothing = [0u64; ENTRIES];
+    let empty = Knapsack {
+        costs: &nothing,
+        keys: &nothing,
+    };
+    fill(all, offers, empty, costs, keys);
 }
 
 // The knapsack of every set of n items, with as much room for lists as the items may need.
@@ -188,16 +171,9 @@ pub fn fill_knapsacks(
     ensures { KnapsacksFilled n core.levels core.capacity load.now cost.now
         costs.old keys.old costs.new keys.new }
 {
-    if n <= 2 {
-        let mut offers = [0u64; FEW_OFFERS];
-        fill_with(core, n, load, cost, &mut offers, costs, keys);
-        return;
+    match n {
+        0..=2 => fill_with_room::<FEW_CHOICES>(core, n, load, cost, costs, keys),
+        3..=10 => fill_with_room::<SOME_CHOICES>(core, n, load, cost, costs, keys),
+        _ => fill_with_room::<MANY_CHOICES>(core, n, load, cost, costs, keys),
     }
-    if n <= 10 {
-        let mut offers = [0u64; SOME_OFFERS];
-        fill_with(core, n, load, cost, &mut offers, costs, keys);
-        return;
-    }
-    let mut offers = [0u64; MANY_OFFERS];
-    fill_with(core, n, load, cost, &mut offers, costs, keys);
 }

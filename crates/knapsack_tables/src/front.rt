@@ -7,35 +7,27 @@ ghost use Rattle.knapsack_tables.specs.ListReads.{ListRead};
 ghost use Rattle.knapsack.specs.KnapsackWords.{knapsack_of};
 ghost use Rattle.assignment.specs.Values.{Value};
 
-use crate::filling::{Branch, LISTS};
-use choice_lists::WIDTH;
+use crate::filling::{Branch, Knapsack, Offers};
+use knapsack::Choice;
 use values::{NO_COST, Worth, lesser, sets_of};
 
-// The least value of the choices from entry `from` to `to`, each before the knapsack at hand.
-fn least_listed(
-    capacity: usize,
-    from: usize,
-    to: usize,
-    points: &[u64],
-    knapsack_costs: &[u64],
-    knapsack_keys: &[u64],
-) -> Worth
+// The least value of the choices of a list, each before the knapsack at hand.
+fn least_listed(capacity: usize, list: &[Choice], knapsack: Knapsack) -> Worth
     requires { (n : ℕ) × (places : ℕ) × (f : (ℕ → Value) → ℕ → Value) ×
-        ListRead capacity from to points.now knapsack_costs.now knapsack_keys.now n places f }
+        ListRead capacity 0 (length list.now) list.now knapsack.costs.now knapsack.keys.now n places f }
     ensures { (n places : ℕ) (f : (ℕ → Value) → ℕ → Value) →
-        ListRead capacity from to points.now knapsack_costs.now knapsack_keys.now n places f →
-        Holds (n + places) (f (knapsack_of knapsack_costs.now knapsack_keys.now) capacity) result.cost result.key }
+        ListRead capacity 0 (length list.now) list.now knapsack.entry.costs.now knapsack.entry.keys.now n places f →
+        Holds (n + places) (f (knapsack_of knapsack.entry.costs.now knapsack.entry.keys.now) capacity) result.cost result.key }
 {
     let mut best = Worth {
         cost: NO_COST,
         key: 0,
     };
-    for p in from..to {
-        let at = p * WIDTH;
-        let room = capacity - points[at] as usize;
-        let cost = points[at + 1] + knapsack_costs[room];
+    for choice in list {
+        let room = capacity - choice.load;
+        let cost = choice.cost + knapsack.costs[room];
         if cost <= best.cost {
-            let key = points[at + 2] + knapsack_keys[room];
+            let key = choice.key + knapsack.keys[room];
             best = lesser(best, Worth { cost, key });
         }
     }
@@ -54,29 +46,20 @@ fn store(at: usize, worth: Worth, costs: &mut [u64], keys: &mut [u64])
 // The knapsacks of the branch's sets, one by one, where all items ahead are listed.
 pub(crate) fn store_listed(
     branch: Branch,
-    offers: &[u64],
-    starts: &[usize],
-    knapsack_costs: &[u64],
-    knapsack_keys: &[u64],
+    offers: Offers,
+    knapsack: Knapsack,
     costs: &mut [u64],
     keys: &mut [u64],
 )
     requires ahead_value { branch.ahead ≡ branch.listed }
-    requires branch_fits { BranchFits branch offers.now starts.now knapsack_costs.now knapsack_keys.now costs.old keys.old }
-    ensures { BranchFilled branch offers.now knapsack_costs.now knapsack_keys.now
-        costs.old keys.old costs.new keys.new }
+    requires branch_fits { BranchFits branch offers.load.now offers.cost.now offers.points.now offers.starts.now
+        knapsack.costs.now knapsack.keys.now costs.old keys.old }
+    ensures { BranchFilled branch offers.entry.load.now offers.entry.cost.now
+        knapsack.entry.costs.now knapsack.entry.keys.now costs.old keys.old costs.new keys.new }
 {
-    let lists = &offers[LISTS..];
-    let sets = sets_of(branch.ahead);
-    for k in 0..sets {
-        let worth = least_listed(
-            branch.core.capacity,
-            starts[k],
-            starts[k + 1],
-            lists,
-            knapsack_costs,
-            knapsack_keys,
-        );
+    for k in 0..sets_of(branch.ahead) {
+        let list = &offers.points[offers.starts[k]..offers.starts[k + 1]];
+        let worth = least_listed(branch.core.capacity, list, knapsack);
         store(k * branch.bit + branch.index, worth, costs, keys);
     }
 }

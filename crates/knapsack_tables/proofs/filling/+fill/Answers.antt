@@ -13,7 +13,7 @@ fill-requires t c =
 pub relax-requires : goal.relax-requires
 relax-requires t c =
     let fits = c.requires in
-    let front = c.next_item-front.ensures in
+    let front = c.next_item.ensures in
     record {
       item_before = rw front (item_before fits c.if-branch.false);
       flat_knapsack = flat_knapsack _ _ _ (rw front fits.affordable.capacity_limited);
@@ -22,13 +22,13 @@ relax-requires t c =
 pub fill-requires-2 : goal.fill-requires-2
 fill-requires-2 t c =
     let made = c.relax in
-    rw c.with_next-with.ensures (
+    rw c.with_next.ensures (
       omega (arith, c.decreases, c.requires.listed_ahead, c.if-branch.false),
-      with_fits c.requires c.if-branch.false made.auto.costs made.auto.keys (rw c.next_item-front.ensures at made.ensures) c.fill.auto.costs
+      with_fits c.requires c.if-branch.false made.auto.costs made.auto.keys (rw c.next_item.ensures at made.ensures) c.fill.auto.costs
           c.fill.auto.keys,
     )
 
 pub returns : goal.returns
 returns t c =
-    both_filled c.requires c.if-branch.false (rw c.without_next.ensures at c.fill.ensures) (rw c.next_item-front.ensures at c.relax.ensures)
-    (rw c.with_next-with.ensures at c.fill-2.ensures)
+    both_filled c.requires c.if-branch.false (rw c.without_next.ensures at c.fill.ensures) (rw c.next_item.ensures at c.relax.ensures)
+    (rw c.with_next.ensures at c.fill-2.ensures)

@@ -2,7 +2,7 @@
 use native.Mathlib.Numerals.{add-one}
 use native.Mathlib.Omega.{arith}
 use Rattle.assignment.specs.Keys.{key_base}
-use Rattle.knapsack_tables.proofs.filling.without_next.Goals as goal
+use Rattle.knapsack_tables.proofs.filling.Branch.without_next.Goals as goal
 
 pub overflow_mul-result-2 : goal.overflow_mul-result-2
 unfolding key_base
