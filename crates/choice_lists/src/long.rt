@@ -84,10 +84,7 @@ fn sweep(capacity: usize, from: usize, costs: &[u64], keys: &[u64], points: &mut
     requires room { from + suc capacity ≤ length points.old }
     ensures { Swept capacity from costs.now keys.now points.old points.new result }
 {
-    let mut best = Worth {
-        cost: NO_COST,
-        key: 0,
-    };
+    let mut best = Worth::NONE;
     let mut to = from;
     for u in 0..capacity + 1 {
         let worth = entry(costs, keys, u);

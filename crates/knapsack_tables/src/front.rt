@@ -9,7 +9,7 @@ ghost use Rattle.assignment.specs.Values.{Value};
 
 use crate::filling::{Branch, Knapsack, Offers};
 use knapsack::Choice;
-use values::{NO_COST, Worth, lesser, sets_of};
+use values::{Worth, sets_of};
 
 // The least value of the choices of a list, each before the knapsack at hand.
 fn least_listed(capacity: usize, list: &[Choice], knapsack: Knapsack) -> Worth
@@ -19,16 +19,13 @@ fn least_listed(capacity: usize, list: &[Choice], knapsack: Knapsack) -> Worth
         ListRead capacity 0 (length list.now) list.now knapsack.entry.costs.now knapsack.entry.keys.now n places f →
         Holds (n + places) (f (knapsack_of knapsack.entry.costs.now knapsack.entry.keys.now) capacity) result.cost result.key }
 {
-    let mut best = Worth {
-        cost: NO_COST,
-        key: 0,
-    };
+    let mut best = Worth::NONE;
     for choice in list {
         let room = capacity - choice.load;
         let cost = choice.cost + knapsack.costs[room];
         if cost <= best.cost {
             let key = choice.key + knapsack.keys[room];
-            best = lesser(best, Worth { cost, key });
+            best = best.min(Worth { cost, key });
         }
     }
     best
