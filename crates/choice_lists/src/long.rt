@@ -3,27 +3,10 @@ ghost use Rattle.std.specs.Prelude.{◌≡◌, suc, ◌+◌, ◌≤◌, ◌<◌,
 ghost use Rattle.choice_lists.specs.ListedSets.{SetAdded};
 ghost use Rattle.choice_lists.specs.Spread.{Cleared, ItemFits, ItemSpread, LevelSpread, Long, SumsSmall};
 ghost use Rattle.choice_lists.specs.Sweep.{Swept};
-ghost use Rattle.values.specs.Worths.{First};
-ghost use Rattle.laws.specs.Tests.{Decides};
 
 use crate::points::{Part, sum_of};
-use knapsack::{Choice, Front, choice_at};
-use values::{ENTRIES, NO_COST, Worth, lower};
-
-fn comes_first(a: Worth, b: Worth) -> bool
-    ensures { Decides result (First a b) }
-{
-    if a.cost < b.cost {
-        return true;
-    }
-    if b.cost < a.cost {
-        return false;
-    }
-    if a.key < b.key {
-        return true;
-    }
-    false
-}
+use knapsack::{Choice, Front};
+use values::{ENTRIES, NO_COST, Worth};
 
 // The choice with each point of the list, as an entry of its load.
 fn spread_level(
@@ -40,7 +23,11 @@ fn spread_level(
     for point in list {
         let sum = sum_of(choice, *point);
         if sum.load <= capacity {
-            lower(sum.load, sum.cost, sum.key, costs, keys);
+            let worth = Worth {
+                cost: sum.cost,
+                key: sum.key,
+            };
+            worth.lower(sum.load, costs, keys);
         }
     }
 }
@@ -61,7 +48,7 @@ fn spread_item(
         front.core.levels costs.new keys.new }
 {
     for l in 0..front.core.levels {
-        let choice = choice_at(load, cost, front, l);
+        let choice = front.choice_at(load, cost, l);
         if choice.load <= front.core.capacity {
             spread_level(front.core.capacity, choice, list, costs, keys);
         }
@@ -88,7 +75,7 @@ fn sweep(capacity: usize, from: usize, costs: &[u64], keys: &[u64], points: &mut
     let mut to = from;
     for u in 0..capacity + 1 {
         let worth = entry(costs, keys, u);
-        if comes_first(worth, best) {
+        if worth < best {
             points[to] = Choice {
                 load: u,
                 cost: worth.cost,

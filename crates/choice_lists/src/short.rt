@@ -2,7 +2,7 @@
 ghost use Rattle.choice_lists.specs.Appended.{ItemAppended, ItemRoom, LevelAppended, LevelRoom};
 
 use crate::points::{Part, sum_of};
-use knapsack::{Choice, Front, choice_at};
+use knapsack::{Choice, Front};
 
 // The choice with each point of the list becomes a point, from the point `start` on, where the capacity takes both.
 // Answers where they end.
@@ -42,7 +42,7 @@ pub(crate) fn append_item(
 {
     let mut end = used;
     for l in 0..front.core.levels {
-        let choice = choice_at(load, cost, front, l);
+        let choice = front.choice_at(load, cost, l);
         if choice.load <= front.core.capacity {
             end = append_level(front.core.capacity, choice, part, end, points);
         }

@@ -5,7 +5,7 @@ ghost use Rattle.knapsack_tables.specs.TabledKnapsacks.{KnapsacksFilled, Knapsac
 
 use crate::front::store_listed;
 use choice_lists::{NOTHING, STARTS, list_front};
-use knapsack::{Choice, Core, Front, relax};
+use knapsack::{Choice, Core, Front};
 use values::{ENTRIES, KEY_BASE, NO_COST};
 
 // Room for the lists of the first items' choices: of two items, which have at most 81 choices, of ten, and of more. Making
@@ -100,8 +100,7 @@ fn fill(branch: Branch, offers: Offers, knapsack: Knapsack, costs: &mut [u64], k
     fill(branch.without_next(), offers, knapsack, costs, keys);
     let mut more_costs = [NO_COST; ENTRIES];
     let mut more_keys = [0u64; ENTRIES];
-    relax(
-        branch.next_item(),
+    branch.next_item().relax(
         offers.load,
         offers.cost,
         knapsack.costs,

@@ -1,6 +1,7 @@
-use Rattle.std.proofs.Common.{◌≡◌, refl, suc, add-one, arith}
+use Rattle.std.proofs.Common.{sym, ◌∙◌, ◌≡◌, refl, suc, add-one, arith}
+use Rattle.values.specs.WorthLaws.{less_first, less_not_first}
 use Rattle.choice_lists.specs.SweepLaws.{gathered_none, gathered_skip, gathered_more, gathered_all}
-use Rattle.choice_lists.proofs.long.sweep.Goals.{then-comes_first, else-comes_first}
+use Rattle.choice_lists.proofs.long.sweep.Goals.{then-lt, else-lt}
 use Rattle.choice_lists.proofs.long.sweep.Goals as goal
 
 pub loop-u-init : goal.loop-u-init
@@ -29,10 +30,10 @@ pub loop-u-preserved : goal.loop-u-preserved
 loop-u-preserved c =
     let sofar = c.loop-u.invariant in
     let worth = c.entry-worth.ensures in
-    let tells = c.comes_first.ensures in
+    let tells = c.lt.ensures in
     rw add-one
-    (elim c.if-comes_first.branch [
-      | then-comes_first w ↦ rw (w.points-is, w.best-is, w.to-is, add-one)
-          (gathered_more sofar (omega arith) (omega (arith, c.requires.room, sofar.few)) worth.0 worth.1 (rw w.if-comes_first.true at tells))
-      | else-comes_first w ↦ rw (w.points-is, w.best-is, w.to-is) (gathered_skip sofar worth.0 worth.1 (rw w.if-comes_first.false at tells))
+    (elim c.if-lt.branch [
+      | then-lt w ↦ rw (w.points-is, w.best-is, w.to-is, add-one)
+          (gathered_more sofar (omega arith) (omega (arith, c.requires.room, sofar.few)) worth.0 worth.1 (less_first (sym tells ∙ w.if-lt.true)))
+      | else-lt w ↦ rw (w.points-is, w.best-is, w.to-is) (gathered_skip sofar worth.0 worth.1 (less_not_first (sym tells ∙ w.if-lt.false)))
     ])
