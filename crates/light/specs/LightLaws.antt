@@ -1,5 +1,5 @@
 -- The picks of one item more, and that the picks of all items are the best plan.
-use Rattle.std.specs.Prelude.{ℕ, suc, ◌+◌, ◌*◌, ◌^◌, ◌≤◌, ◌<◌, ◌≡◌, refl, ◌⊎◌, Bool, true, cond, List, [], ◌∷◌, ◌++◌, eqb, length}
+use Rattle.std.specs.Prelude.{ℕ, suc, ◌+◌, ◌*◌, ◌^◌, ◌≤◌, ◌<◌, ◌≡◌, refl, ◌⊎◌, Bool, true, cond, List, [], ◌∷◌, ◌++◌, eqb, length, Some}
 use Rattle.std.proofs.Common.{ap, ◌∙◌, inl, inr, mul_assoc, pow-suc, length-append}
 use Rattle.std.proofs.Math.Nat.{pow-zero}
 use Rattle.std.proofs.Math.Numerals.{add-one}
@@ -20,7 +20,7 @@ use Rattle.values.specs.declared.value.Worth.{Worth}
 use Rattle.light.specs.CheapestChoices.{LowChoice, refusing, keeping, CheapestChoice, CheapestChoices, none, more, OfLoads}
 use Rattle.light.specs.CheapestChoiceLaws.{low_cost, low_load, pattern_on_core_0, no_load_elsewhere, cheapest_choices_cost, cheapest_choices_are_best}
 use Rattle.light.specs.Light.{OfferFits, LightBelow}
-use Rattle.light.specs.Picks.{PickedBelow, picked_is_cheapest}
+use Rattle.light.specs.Picks.{PickedBelow}
 use Rattle.light.specs.declared.picks.Pick.{Pick}
 
 -- One choice more at the end of a plan.
@@ -119,12 +119,11 @@ module _ {n levels capacity : ℕ} {load cost refusal : List ℕ} {must : List B
     key_low = rw (before.key_is, plan_counted) at (key_below plan_in_base)
 
     -- the pick of item i beside those before it
-    pub one_more_item : {pick : Pick} → i < n → PickedBelow capacity (offer_at load cost i) (item_at refusal must i) levels pick →
+    pub one_more_item : {pick : Pick} → i < n → PickedBelow capacity (offer_at load cost i) (item_at refusal must i) levels (Some pick) →
         used + pick.load ≤ capacity →
         LightBelow levels capacity load cost refusal must (i + 1) (used + pick.load) (total + pick.cost) (key * 33 + pick.choice)
     unfolding list_of offers_of items_of key_base
-    one_more_item {pick} next picked room =
-        let last = picked_is_cheapest picked (omega arith) in
+    one_more_item {pick} next last room =
         let all = longer before.cheapest last in
         rw add-one
         (record {

@@ -1,5 +1,5 @@
 -- How an item's first cheapest choice is picked: refusing it, and then one level of core 0 after the other.
-use Rattle.std.specs.Prelude.{ℕ, suc, ◌+◌, ◌≤◌, ◌<◌, ◌≡◌, ◌⊎◌, true, false}
+use Rattle.std.specs.Prelude.{ℕ, suc, ◌+◌, ◌≤◌, ◌<◌, ◌≡◌, ◌⊎◌, true, false, Option, Some, None, IfSome, MatchOption}
 use Rattle.std.proofs.Common.{inl, inr, ⊎_elim, add-one, arith}
 use Rattle.laws.specs.Below.{lt_or_le}
 use Rattle.laws.specs.Truth.{false_not_true}
@@ -8,51 +8,29 @@ use Rattle.knapsack.specs.Offers.{Offer}
 use Rattle.light.specs.CheapestChoices.{LowChoice, refusing, keeping, ComesFirst, CheapestChoice}
 use Rattle.light.specs.declared.picks.Pick.{Pick}
 
--- of refusing and the levels below l that a core takes the first cheapest; where there is none, a load that no core takes
-pub record PickedBelow (capacity : ℕ) (offer : Offer) (item : Item) (l : ℕ) (pick : Pick) : Type 0 where
-  pub choice_low : pick.choice ≤ l
-  pub load_low : pick.load ≤ suc capacity
-  pub is_choice : pick.load ≤ capacity → LowChoice offer item pick.choice pick.load pick.cost
-  pub comes_first : ComesFirst capacity offer item l pick.choice pick.cost
-
--- what is picked of all levels, where a core takes it
-pub picked_is_cheapest : {levels capacity : ℕ} {offer : Offer} {item : Item} {pick : Pick} →
-    PickedBelow capacity offer item levels pick → pick.load ≤ capacity →
-    CheapestChoice levels capacity offer item pick.choice pick.load pick.cost
-picked_is_cheapest picked fits =
-    record {
-      low = picked.choice_low;
-      is_choice = picked.is_choice fits;
-      fits = fits;
-      comes_first = picked.comes_first;
-    }
+-- of refusing and the levels below l that a core takes the first cheapest, or none where there is none
+abbrev pub PickedBelow : ℕ → Offer → Item → ℕ → Option Pick → Type 0
+PickedBelow capacity offer item l (Some pick) = CheapestChoice l capacity offer item pick.choice pick.load pick.cost
+PickedBelow capacity offer item l None = (c w v : ℕ) → c ≤ l → LowChoice offer item c w v → w ≤ capacity → ⊥
 
 -- the second pick where a core takes it and it is cheaper, else the first
-abbrev pub Cheaper : ℕ → (first second : Pick) → Pick → Type 0
+abbrev pub Cheaper : ℕ → (first : Option Pick) → (second : Pick) → Option Pick → Type 0
 Cheaper capacity first second pick =
-    ((second.load ≤ capacity) × (second.cost < first.cost) × (pick ≡ second))
-    ⊎ ((second.load ≤ capacity → first.cost ≤ second.cost) × (pick ≡ first))
+    ((second.load ≤ capacity) × IfSome first (λ p. second.cost < p.cost) × (pick ≡ Some second))
+    ⊎ ((second.load ≤ capacity → MatchOption first ⊥ (λ p. p.cost ≤ second.cost)) × (pick ≡ first))
 
-module _ {capacity : ℕ} (offer : Offer) (item : Item) (pick : Pick) (nothing : pick.choice ≡ 0) where
-  pub none_yet : item.must ≡ true → pick.load ≡ capacity + 1 → PickedBelow capacity offer item 0 pick
-  none_yet kept load =
-      record {
-        choice_low = omega arith;
-        load_low = omega arith;
-        is_choice = λ fits. absurd (omega arith);
-        comes_first = λ c w v low choice fits. absurd (no_other low choice);
-      }
-    where
-      no_other : {c w v : ℕ} → c ≤ 0 → LowChoice offer item c w v → ⊥
-      no_other low (refusing free) = false_not_true free kept
-      no_other low (keeping l) = omega arith
+module _ (capacity : ℕ) (offer : Offer) (item : Item) where
+  pub none_yet : item.must ≡ true → PickedBelow capacity offer item 0 None
+  none_yet kept c w v low (refusing free) fits = false_not_true free kept
+  none_yet kept c w v low (keeping l) fits = absurd (omega arith)
 
-  pub refusing_first : item.must ≡ false → pick.load ≡ 0 → pick.cost ≡ item.refusal → PickedBelow capacity offer item 0 pick
-  refusing_first free load cost =
+  pub refusing_first : (pick : Pick) → item.must ≡ false → pick.choice ≡ 0 → pick.load ≡ 0 → pick.cost ≡ item.refusal →
+      PickedBelow capacity offer item 0 (Some pick)
+  refusing_first pick free nothing load cost =
       record {
-        choice_low = omega arith;
-        load_low = omega arith;
-        is_choice = λ fits. rw (nothing, load, cost) (refusing free);
+        low = omega arith;
+        is_choice = rw (nothing, load, cost) (refusing free);
+        fits = omega arith;
         comes_first = λ c w v low choice fits. only low choice;
       }
     where
@@ -72,39 +50,52 @@ module _ {capacity : ℕ} (offer : Offer) (item : Item) {l : ℕ} where
       go (inl earlier) = before (suc m) (offer.load m) (offer.cost m) earlier (keeping m) fits
       go (inr last) = let same : m ≡ l = omega arith in rw same (here (rw same at fits))
 
-  module _ {first : Pick} (before : PickedBelow capacity offer item l first) where
-    level_taken : (second : Pick) → second.choice ≡ suc l → second.load ≡ offer.load l → second.cost ≡ offer.cost l →
-        second.load ≤ capacity → second.cost < first.cost → PickedBelow capacity offer item (suc l) second
-    level_taken second choice load cost fits less =
-        record {
-          choice_low = omega arith;
-          load_low = omega arith;
-          is_choice = λ fits. rw (choice, load, cost) (keeping l);
-          comes_first =
-              one_more second.choice second.cost
-              (λ c w v low other fits.
-              ⊎_elim (λ dearer. inl (omega arith)) (λ same. inl (omega arith)) (before.comes_first c w v low other fits))
-              (λ fits. inr (cost, omega arith));
-        }
+  level_taken : (first : Option Pick) (second : Pick) → PickedBelow capacity offer item l first → second.choice ≡ suc l →
+      second.load ≡ offer.load l → second.cost ≡ offer.cost l → second.load ≤ capacity → IfSome first (λ p. second.cost < p.cost) →
+      PickedBelow capacity offer item (suc l) (Some second)
+  level_taken first second before choice load cost fits less =
+      record {
+        low = omega arith;
+        is_choice = rw (choice, load, cost) (keeping l);
+        fits = fits;
+        comes_first = one_more second.choice second.cost (dearer first before less) (λ fits. inr (cost, omega arith));
+      }
+    where
+      dearer : (first : Option Pick) → PickedBelow capacity offer item l first → IfSome first (λ p. second.cost < p.cost) →
+          ComesFirst capacity offer item l second.choice second.cost
+      dearer (Some p) before less c w v low other fits =
+          ⊎_elim (λ dear. inl (omega arith)) (λ same. inl (omega arith)) (before.comes_first c w v low other fits)
+      dearer None before less c w v low other fits = absurd (before c w v low other fits)
 
-    level_left : (offer.load l ≤ capacity → first.cost ≤ offer.cost l) → PickedBelow capacity offer item (suc l) first
-    level_left dearer =
-        record {
-          choice_low = omega (arith, before.choice_low);
-          load_low = before.load_low;
-          is_choice = before.is_choice;
-          comes_first =
-              one_more first.choice first.cost before.comes_first
-              (λ fits.
-              let dear = dearer fits in
-              ⊎_elim inl (λ le. inr (omega arith, omega (arith, before.choice_low))) (lt_or_le first.cost (offer.cost l)));
-        }
+  still_none : PickedBelow capacity offer item l None → (offer.load l ≤ capacity → ⊥) → PickedBelow capacity offer item (suc l) None
+  still_none before dearer c w v low (refusing free) fits = before c w v (omega arith) (refusing free) fits
+  still_none before dearer c w v low (keeping m) fits = go (lt_or_le m l)
+    where
+      go : (m < l) ⊎ (l ≤ m) → ⊥
+      go (inl earlier) = before (suc m) (offer.load m) (offer.cost m) earlier (keeping m) fits
+      go (inr last) = let same : m ≡ l = omega arith in dearer (rw same at fits)
 
-    -- level l beside what was picked before it
-    pub with_level : {second pick : Pick} → second.choice ≡ l + 1 → second.load ≡ offer.load l → second.cost ≡ offer.cost l →
-        Cheaper capacity first second pick → PickedBelow capacity offer item (l + 1) pick
-    with_level {second} {pick} choice load cost either = rw add-one (go either)
-      where
-        go : Cheaper capacity first second pick → PickedBelow capacity offer item (suc l) pick
-        go (inl (fits, less, same)) = rw same (level_taken second (rw add-one at choice) load cost fits less)
-        go (inr (dearer, same)) = rw same (level_left (λ fits. omega (arith, dearer (omega arith))))
+  level_left : (first : Option Pick) → PickedBelow capacity offer item l first →
+      (offer.load l ≤ capacity → MatchOption first ⊥ (λ p. p.cost ≤ offer.cost l)) → PickedBelow capacity offer item (suc l) first
+  level_left (Some first) before dearer =
+      record {
+        low = omega (arith, before.low);
+        is_choice = before.is_choice;
+        fits = before.fits;
+        comes_first =
+            one_more first.choice first.cost before.comes_first
+            (λ fits.
+            let dear = dearer fits in
+            ⊎_elim inl (λ le. inr (omega arith, omega (arith, before.low))) (lt_or_le first.cost (offer.cost l)));
+      }
+  level_left None before dearer = still_none before dearer
+
+  -- level l beside what was picked before it
+  pub with_level : {first pick : Option Pick} {second : Pick} → PickedBelow capacity offer item l first → second.choice ≡ l + 1 →
+      second.load ≡ offer.load l → second.cost ≡ offer.cost l → Cheaper capacity first second pick →
+      PickedBelow capacity offer item (l + 1) pick
+  with_level {first} {pick} {second} before choice load cost either = rw add-one (go either)
+    where
+      go : Cheaper capacity first second pick → PickedBelow capacity offer item (suc l) pick
+      go (inl (fits, less, same)) = rw same (level_taken first second before (rw add-one at choice) load cost fits less)
+      go (inr (dearer, same)) = rw same (level_left first before (λ fits. rw cost at (dearer (rw (← load) at fits))))

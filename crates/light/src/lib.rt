@@ -12,7 +12,7 @@ ghost use Rattle.light.specs.Light.{OfferFits};
 ghost use Rattle.values.specs.BestKeys.{BestKey};
 
 use picks::first_cheapest;
-use values::{KEY_BASE, NO_COST, Worth};
+use values::{KEY_BASE, Worth};
 
 // The cost and the key of the first cheapest choices of all items, where core 0 takes them together.
 pub fn light_plan(
@@ -33,19 +33,15 @@ pub fn light_plan(
     let mut total = 0;
     let mut key = 0;
     for i in 0..items {
-        let pick = first_cheapest(i, levels, capacity, load, cost, refusal, must);
+        let Some(pick) = first_cheapest(i, levels, capacity, load, cost, refusal, must) else {
+            return Worth::NONE;
+        };
         used += pick.load;
         if capacity < used {
-            return Worth {
-                cost: NO_COST,
-                key: 0,
-            };
+            return Worth::NONE;
         }
         total += pick.cost;
         key = key * KEY_BASE + pick.choice;
     }
-    Worth {
-        cost: total,
-        key: key,
-    }
+    Worth { cost: total, key }
 }

@@ -1,15 +1,15 @@
 // An item's first cheapest choice, of refusing it and of the levels of core 0.
-ghost use Rattle.std.specs.Prelude.{◌≡◌, suc, ◌*◌, ◌≤◌, ◌<◌, length};
+ghost use Rattle.std.specs.Prelude.{ℕ, ◌≡◌, suc, ◌*◌, ◌≤◌, ◌<◌, length};
 ghost use Rattle.assignment.specs.Assignment.{Item};
-ghost use Rattle.assignment.specs.Limits.{most_capacity, most_levels};
+ghost use Rattle.assignment.specs.Limits.{most_levels};
 ghost use Rattle.knapsack.specs.Offers.{Offer};
 ghost use Rattle.knapsack.specs.Offered.{offer_at};
 ghost use Rattle.values.specs.Items.{item_at};
 ghost use Rattle.light.specs.Picks.{Cheaper, PickedBelow};
 
-use values::{NO_COST, STRIDE};
+use values::STRIDE;
 
-// A choice of an item, with what it puts on core 0 and what it costs. A load above the capacity stands for none.
+// A choice of an item, with what it puts on core 0 and what it costs.
 #[derive(Clone, Copy)]
 pub(crate) struct Pick {
     pub(crate) choice: u64,
@@ -18,35 +18,31 @@ pub(crate) struct Pick {
 }
 
 // Refusing an item, where it need not be kept.
-fn refused(refusal: u64, must: bool, capacity: u64) -> Pick
-    requires { capacity ≤ most_capacity }
-    ensures { (offer : Offer) (item : Item) → item.refusal ≡ refusal → item.must ≡ must → PickedBelow capacity offer item 0 result }
+fn refused(refusal: u64, must: bool) -> Option<Pick>
+    ensures { (capacity : ℕ) (offer : Offer) (item : Item) → item.refusal ≡ refusal → item.must ≡ must →
+        PickedBelow capacity offer item 0 result }
 {
     if must {
-        return Pick {
-            choice: 0,
-            load: capacity + 1,
-            cost: NO_COST,
-        };
+        return None;
     }
-    Pick {
+    Some(Pick {
         choice: 0,
         load: 0,
         cost: refusal,
-    }
+    })
 }
 
 // The level where a core takes its load and it is cheaper, else what was picked before.
-fn cheaper(picked: Pick, level: Pick, capacity: u64) -> Pick
+fn cheaper(picked: Option<Pick>, level: Pick, capacity: u64) -> Option<Pick>
     ensures { Cheaper capacity picked level result }
 {
     if capacity < level.load {
         return picked;
     }
-    if level.cost < picked.cost {
-        return level;
+    match picked {
+        Some(before) if before.cost <= level.cost => picked,
+        _ => Some(level),
     }
-    picked
 }
 
 // The first cheapest choice of item i.
@@ -58,9 +54,8 @@ pub(crate) fn first_cheapest(
     cost: &[u64],
     refusal: &[u64],
     must: &[bool],
-) -> Pick
+) -> Option<Pick>
     requires levels_le_most_levels { levels ≤ most_levels }
-    requires capacity_le_most_capacity { capacity ≤ most_capacity }
     requires most_levels_in_bounds { suc i * most_levels ≤ length load.now }
     requires most_levels_in_bounds_2 { suc i * most_levels ≤ length cost.now }
     requires i_in_bounds { i < length refusal.now }
@@ -68,7 +63,7 @@ pub(crate) fn first_cheapest(
     ensures { PickedBelow capacity (offer_at load.now cost.now i)
         (item_at refusal.now must.now i) levels result }
 {
-    let mut picked = refused(refusal[i], must[i], capacity);
+    let mut picked = refused(refusal[i], must[i]);
     for l in 0..levels {
         let at = i * STRIDE + l;
         let level = Pick {

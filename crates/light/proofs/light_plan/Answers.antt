@@ -6,43 +6,43 @@ use Rattle.assignment.specs.Limits.{most_items}
 use Rattle.light.specs.Light.{LightBelow}
 use Rattle.light.specs.LightLaws.{no_items, key_low, one_more_item, light_is_best}
 use Rattle.light.proofs.light_plan.Goals as goal
-use Rattle.light.proofs.light_plan.Goals.{After-first_cheapest-pick}
+use Rattle.light.proofs.light_plan.Goals.{In-Some}
 
 pub loop-i-init : goal.loop-i-init
 loop-i-init c = no_items _ _ _ _ _ _
 
-pub first_cheapest-pick-requires : goal.first_cheapest-pick-requires
-first_cheapest-pick-requires c =
+pub first_cheapest-requires : goal.first_cheapest-requires
+first_cheapest-requires c =
     let fit = c.requires in
-    let offer = fit.affordable in record { levels_le_most_levels = offer.levels_limited; capacity_le_most_capacity = offer.capacity_limited; most_levels_in_bounds = omega (arith, offer.loads_for_all); most_levels_in_bounds_2 = omega (arith, offer.costs_for_all); i_in_bounds = omega (arith, fit.refusals_for_all); i_in_bounds_2 = omega (arith, fit.musts_for_all) }
+    let offer = fit.affordable in record { levels_le_most_levels = offer.levels_limited; most_levels_in_bounds = omega (arith, offer.loads_for_all); most_levels_in_bounds_2 = omega (arith, offer.costs_for_all); i_in_bounds = omega (arith, fit.refusals_for_all); i_in_bounds_2 = omega (arith, fit.musts_for_all) }
 
 -- past the test, the item's pick is added
-added : (c : goal.After-first_cheapest-pick) → c.loop-i.used + c.first_cheapest-pick.result.load ≤ c.args.capacity →
+added : (c : goal.In-Some) → c.loop-i.used + c.in-Some.pick.load ≤ c.args.capacity →
     let a = c.args in
     let at = c.loop-i in
-    let pick = c.first_cheapest-pick.result in
+    let pick = c.in-Some.pick in
     LightBelow a.levels a.capacity a.load.now a.cost.now a.refusal.now a.must.now (at.i + 1) (at.used + pick.load) (at.total + pick.cost) (at.key * 33 + pick.choice)
 added c fits =
-    one_more_item c.requires c.loop-i.invariant c.loop-i-test.true c.first_cheapest-pick.ensures fits
+    one_more_item c.requires c.loop-i.invariant c.loop-i-test.true (rw c.in-Some.is at c.first_cheapest.ensures) fits
 
 -- so its key is of few enough digits
-key_fits : (c : goal.After-first_cheapest-pick) → c.loop-i.used + c.first_cheapest-pick.result.load ≤ c.args.capacity →
-    c.loop-i.key * 33 + c.first_cheapest-pick.result.choice < 2 ^ 64
+key_fits : (c : goal.In-Some) → c.loop-i.used + c.in-Some.pick.load ≤ c.args.capacity →
+    c.loop-i.key * 33 + c.in-Some.pick.choice < 2 ^ 64
 key_fits c fits =
     let few : c.loop-i.i + 1 ≤ most_items = omega (arith, c.requires.items_limited) in
     omega (arith, key_low c.requires (added c fits), keys_fit few)
 
 pub overflow_add-total : goal.overflow_add-total
-overflow_add-total c = omega (arith, (added (goal.at.overflow_add-total c).After-first_cheapest-pick (omega arith)).total_low, c.requires.items_limited)
+overflow_add-total c = omega (arith, (added (goal.at.overflow_add-total c).In-Some (omega arith)).total_low, c.requires.items_limited)
 
 pub overflow_mul-key : goal.overflow_mul-key
-overflow_mul-key c = omega (arith, key_fits (goal.at.overflow_mul-key c).After-first_cheapest-pick (omega arith))
+overflow_mul-key c = omega (arith, key_fits (goal.at.overflow_mul-key c).In-Some (omega arith))
 
 pub overflow_add-key : goal.overflow_add-key
-overflow_add-key c = omega (arith, key_fits (goal.at.overflow_add-key c).After-first_cheapest-pick (omega arith))
+overflow_add-key c = omega (arith, key_fits (goal.at.overflow_add-key c).In-Some (omega arith))
 
 pub loop-i-preserved : goal.loop-i-preserved
-loop-i-preserved c = added (goal.at.loop-i-preserved c).After-first_cheapest-pick (omega arith)
+loop-i-preserved c = added (goal.at.loop-i-preserved c).In-Some (omega arith)
 
 pub returns : goal.returns
 returns c =

@@ -7,7 +7,7 @@ use Rattle.light.proofs.picks.first_cheapest.Goals as goal
 
 pub loop-l-init : goal.loop-l-init
 unfolding item_at
-loop-l-init c = c.refused-picked.ensures _ _ refl refl
+loop-l-init c = c.refused-picked.ensures _ _ _ refl refl
 
 pub loop-l-preserved : goal.loop-l-preserved
 unfolding offer_at
