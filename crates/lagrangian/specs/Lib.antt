@@ -7,7 +7,6 @@ pub mod TimedItems
 pub mod Lagrangians
 pub mod PriceColumns
 pub mod PricedLevels
-pub mod Multipliers
 pub mod FrontKeyLaws
 pub mod AdmittedLaws
 pub mod LagrangianLaws

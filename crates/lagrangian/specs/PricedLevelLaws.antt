@@ -15,10 +15,10 @@ use Rattle.lagrangian.specs.declared.Timed.{Timed}
 use Rattle.lagrangian.specs.declared.relaxation.PricedLevel.{PricedLevel}
 
 abbrev pub no_level_yet : PricedLevel
-no_level_yet = record { level = 0; ticks = 0; cost = most_priced }
+no_level_yet = record { level = 0; cost = most_priced }
 
-abbrev pub level_at : (level ticks cost : ℕ) → PricedLevel
-level_at level ticks cost = record { level = level; ticks = ticks; cost = cost }
+abbrev pub level_at : (level cost : ℕ) → PricedLevel
+level_at level cost = record { level = level; cost = cost }
 
 -- what the ticks of a job within its window come to, at the cost of a level
 pub priced_fits : {timed : Timed} {timings cost : List ℕ} → TimedReady timed timings cost → (i l price : ℕ) → i < timed.items → l < timed.levels →
@@ -51,9 +51,9 @@ module _ {i price : ℕ} {timings cost : List ℕ} where
     pub still_cheapest : best.cost ≤ priced_at timings cost i price l → Cheapest i price timings cost (l + 1) best
     still_cheapest less = still_at_most (λ within. less)
 
-    pub now_cheapest : (ticks its : ℕ) → l < most_levels → its ≡ priced_at timings cost i price l → its ≤ best.cost →
-        Cheapest i price timings cost (l + 1) (level_at l ticks its)
-    now_cheapest ticks its is_level is less =
+    pub now_cheapest : (its : ℕ) → l < most_levels → its ≡ priced_at timings cost i price l → its ≤ best.cost →
+        Cheapest i price timings cost (l + 1) (level_at l its)
+    now_cheapest its is_level is less =
         record {
           low = le_trans less so_far.low;
           is_level = is_level;

@@ -7,7 +7,7 @@ ghost use Rattle.lagrangian.specs.Lagrangians.{most_price};
 ghost use Rattle.lagrangian.specs.PriceColumns.{LowPrices};
 
 use crate::Timed;
-use crate::relaxation::cheapest_level;
+use crate::cores::TimedCore;
 use values::{KEY_BASE, MOST_ITEMS};
 
 pub fn is_in_set(items: usize, set: usize, item: usize) -> bool
@@ -16,23 +16,18 @@ pub fn is_in_set(items: usize, set: usize, item: usize) -> bool
     (set >> (items - 1 - item)) & 1 == 1
 }
 
-// The choice of an item in a key: its cheapest level, where it is in the set.
-fn choice_in_set(
-    timed: Timed,
-    set: usize,
-    item: usize,
-    price: u64,
-    timings: &[u32],
-    cost: &[u64],
-) -> u64
-    requires timed_ready { TimedReady timed timings.now cost.now }
-    requires item_lt_timed { (item < timed.items) × (price ≤ most_price) }
-    ensures { result ≤ most_levels }
-{
-    if !is_in_set(timed.items, set, item) {
-        return 0;
+impl TimedCore<'_> {
+    // The choice of an item in a key: its cheapest level, where it is in the set.
+    fn choice_in_set(&self, set: usize, item: usize, price: u64) -> u64
+        requires is_item { item < self.now.timed.items }
+        requires low_price { price ≤ most_price }
+        ensures { result ≤ most_levels }
+    {
+        if !is_in_set(self.timed.items, set, item) {
+            return 0;
+        }
+        self.cheapest_level(item, price).level as u64 + 1
     }
-    cheapest_level(timed, item, price, timings, cost).level as u64 + 1
 }
 
 // The key of the levels that are cheapest at these prices.
@@ -47,11 +42,14 @@ pub fn cheapest_key(
     requires low_prices { LowPrices prices }
     ensures { result < key_base ^ timed.items }
 {
+    let core = TimedCore {
+        timed,
+        timings,
+        cost,
+    };
     let mut key = 0;
-    let mut i = 0;
-    while i < timed.items {
-        key = key * KEY_BASE + choice_in_set(timed, set, i, prices[i], timings, cost);
-        i += 1;
+    for i in 0..timed.items {
+        key = key * KEY_BASE + core.choice_in_set(set, i, prices[i]);
     }
     key
 }

@@ -3,6 +3,7 @@
 #![tactic(auto)]
 
 mod choices;
+mod cores;
 mod exceeded;
 mod fitting;
 mod level_mixes;
@@ -17,17 +18,15 @@ mod weights;
 mod windows;
 
 ghost use Rattle.std.specs.Prelude.{◌≡◌};
-ghost use Rattle.lagrangian.specs.Multipliers.{PlacedPart};
 ghost use Rattle.lagrangian.specs.Lagrangians.{Relaxes};
 ghost use Rattle.lagrangian.specs.TimedItems.{TimedReady};
 
 pub use choices::{cheapest_key, is_in_set};
-use fitting::fitted;
+use cores::TimedCore;
 pub use multipliers::MOST_TICKS;
+use multipliers::Multipliers;
 pub use parts::Part;
-use parts::part_of_set;
 pub use prices::jobs_by;
-use relaxation::lagrangian_of;
 pub use set_sizes::{FEW_ITEMS, has_few_items, size_of};
 use values::{MOST_ITEMS, MOST_LEVELS};
 pub use windows::is_within_window;
@@ -66,11 +65,16 @@ pub fn relaxation_at(
     requires { TimedReady timed timings.now cost.now }
     ensures { Relaxes timed timings.now cost.now result }
 {
+    let core = TimedCore {
+        timed,
+        timings,
+        cost,
+    };
     let mut ticks = [0; MOST_TICKS];
     ticks[0] = tick;
     let mut weights = [0; MOST_TICKS];
     weights[0] = weight;
-    lagrangian_of(timed, 0, ticks, weights, timings, cost)
+    core.lagrangian_of(0, &Multipliers { ticks, weights })
 }
 
 // A relaxation whose weighed ticks are chosen for a set.
@@ -78,17 +82,13 @@ pub fn relaxation_of(timed: Timed, set: usize, timings: &[u32], cost: &[u64]) ->
     requires { TimedReady timed timings.now cost.now }
     ensures { Relaxes timed timings.now cost.now result }
 {
-    let weighed = fitted(
+    let core = TimedCore {
         timed,
-        part_of_set(set),
-        [0; MOST_TICKS],
-        true,
         timings,
         cost,
-    );
-    let ticks = weighed.ticks;
-    let weights = weighed.weights;
-    lagrangian_of(timed, 0, ticks, weights, timings, cost)
+    };
+    let weighed = core.fitted(&Part::of_set(set), None);
+    core.lagrangian_of(0, &weighed)
 }
 
 // The relaxation of the same ticks as another's, with the weights that are best for a part.
@@ -99,14 +99,15 @@ pub fn relaxation_from(
     timings: &[u32],
     cost: &[u64],
 ) -> Lagrangian
-    requires timed_ready { TimedReady timed timings.now cost.now }
-    requires placed_part { PlacedPart part }
+    requires { TimedReady timed timings.now cost.now }
     ensures relaxes { Relaxes timed timings.now cost.now result }
     ensures fixed_value { result.fixed ≡ part.fixed }
 {
-    let given = relaxed.ticks;
-    let weighed = fitted(timed, part, given, false, timings, cost);
-    let ticks = weighed.ticks;
-    let weights = weighed.weights;
-    lagrangian_of(timed, part.fixed, ticks, weights, timings, cost)
+    let core = TimedCore {
+        timed,
+        timings,
+        cost,
+    };
+    let weighed = core.fitted(&part, Some(relaxed.ticks));
+    core.lagrangian_of(part.fixed, &weighed)
 }

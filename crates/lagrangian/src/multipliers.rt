@@ -1,9 +1,8 @@
 // Ticks that are weighed, and the prices that follow from their weights.
-ghost use Rattle.lagrangian.specs.TimedItems.{TimedItems};
 ghost use Rattle.lagrangian.specs.Lagrangians.{WithinBudget};
 
-use crate::Timed;
-use crate::prices::{Prices, free, with_tick};
+use crate::cores::TimedCore;
+use crate::prices::Prices;
 
 // How many ticks are weighed at most. Tick 0, by which nothing is due, stands where a place is free.
 pub const MOST_TICKS: usize = 8;
@@ -15,21 +14,15 @@ pub(crate) struct Multipliers {
     pub(crate) weights: [u64; MOST_TICKS],
 }
 
-// The prices of ticks with weights.
-pub(crate) fn prices_of(
-    timed: Timed,
-    ticks: [u32; MOST_TICKS],
-    weights: [u64; MOST_TICKS],
-    timings: &[u32],
-) -> Prices
-    requires { TimedItems timed timings.now }
-    ensures { WithinBudget timed timings.now result.prices result.budget }
-{
-    let mut known = free();
-    let mut n = 0;
-    while n < MOST_TICKS {
-        known = with_tick(timed, known, ticks[n], weights[n], timings);
-        n += 1;
+impl TimedCore<'_> {
+    // The prices of ticks with weights.
+    pub(crate) fn prices_of(&self, weighed: &Multipliers) -> Prices
+        ensures { WithinBudget self.now.timed self.now.timings.now result.prices result.budget }
+    {
+        let mut known = Prices::free();
+        for (tick, weight) in weighed.ticks.iter().zip(&weighed.weights) {
+            known = self.with_tick(known, *tick, *weight);
+        }
+        known
     }
-    known
 }

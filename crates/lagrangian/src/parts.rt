@@ -1,6 +1,4 @@
 // Parts of patterns, for which weights are chosen.
-ghost use Rattle.lagrangian.specs.Multipliers.{PlacedPart};
-
 use values::MOST_ITEMS;
 
 // The first `fixed` items have these ticks to a job; those of the set `open`, which come after them, are still to have a level. A set of which
@@ -12,12 +10,12 @@ pub struct Part {
     pub ticks: [u32; MOST_ITEMS],
 }
 
-pub(crate) fn part_of_set(set: usize) -> Part
-    ensures { PlacedPart result }
-{
-    Part {
-        fixed: 0,
-        open: set,
-        ticks: [0; MOST_ITEMS],
+impl Part {
+    pub(crate) fn of_set(set: usize) -> Part {
+        Part {
+            fixed: 0,
+            open: set,
+            ticks: [0; MOST_ITEMS],
+        }
     }
 }

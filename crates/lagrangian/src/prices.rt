@@ -7,6 +7,7 @@ ghost use Rattle.lagrangian.specs.TimedItems.{TimedItems};
 ghost use Rattle.lagrangian.specs.Lagrangians.{most_price, WithinBudget};
 ghost use Rattle.lagrangian.specs.PriceColumns.{most_weight, FewJobs, JobsBy, Raised, LowPrices};
 
+use crate::cores::TimedCore;
 use crate::{TIMING_WIDTH, Timed};
 use demand::jobs_due;
 use values::MOST_ITEMS;
@@ -25,13 +26,15 @@ pub(crate) struct Prices {
     pub(crate) budget: u64,
 }
 
-// No tick has a price.
-pub(crate) fn free() -> Prices
-    ensures { (timed : Timed) (timings : List ℕ) → WithinBudget timed timings result.prices result.budget }
-{
-    Prices {
-        prices: [0; MOST_ITEMS],
-        budget: 0,
+impl Prices {
+    // No tick has a price.
+    pub(crate) fn free() -> Prices
+        ensures { (timed : Timed) (timings : List ℕ) → WithinBudget timed timings result.prices result.budget }
+    {
+        Prices {
+            prices: [0; MOST_ITEMS],
+            budget: 0,
+        }
     }
 }
 
@@ -42,14 +45,12 @@ pub fn jobs_by(timed: Timed, tick: u32, timings: &[u32]) -> [u32; MOST_ITEMS]
     ensures { JobsBy tick timings.now timed.items result }
 {
     let mut jobs = [0; MOST_ITEMS];
-    let mut i = 0;
-    while i < timed.items {
+    for i in 0..timed.items {
         jobs[i] = jobs_due(
             timings[i * TIMING_WIDTH],
             timings[i * TIMING_WIDTH + 1],
             tick,
         );
-        i += 1;
     }
     jobs
 }
@@ -59,11 +60,7 @@ fn raised_price(price: u64, weight: u64, jobs: u32) -> u64
     requires { (price ≤ most_price) × (weight ≤ most_weight) × (jobs ≤ most_span) }
     ensures { (result ≤ price + weight * jobs) × (result ≤ most_price) }
 {
-    let raised = price + weight * jobs as u64;
-    if MOST_PRICE < raised {
-        return MOST_PRICE;
-    }
-    raised
+    (price + weight * jobs as u64).min(MOST_PRICE)
 }
 
 // The prices of so many items raised by a weight for each of their jobs.
@@ -79,43 +76,30 @@ fn raised_prices(
     ensures { Raised weight jobs prices items result }
 {
     let mut raised = prices;
-    let mut i = 0;
-    while i < items {
+    for i in 0..items {
         raised[i] = raised_price(prices[i], weight, jobs[i]);
-        i += 1;
     }
     raised
 }
 
-// With one tick more, at a weight: each price rises by the weight for each job due by the tick, the budget by the weight for each tick
-// up to it. A tick after the span, and a weight or a budget above its limit, change nothing.
-pub(crate) fn with_tick(
-    timed: Timed,
-    known: Prices,
-    tick: u32,
-    weight: u64,
-    timings: &[u32],
-) -> Prices
-    requires timed_items { TimedItems timed timings.now }
-    requires within_budget { WithinBudget timed timings.now known.prices known.budget }
-    ensures { WithinBudget timed timings.now result.prices result.budget }
-{
-    if weight == 0 {
-        return known;
-    }
-    if timed.span < tick {
-        return known;
-    }
-    if MOST_WEIGHT < weight {
-        return known;
-    }
-    let budget = known.budget + weight * tick as u64;
-    if MOST_BUDGET < budget {
-        return known;
-    }
-    let prices = known.prices;
-    Prices {
-        prices: raised_prices(timed.items, prices, weight, jobs_by(timed, tick, timings)),
-        budget,
+impl TimedCore<'_> {
+    // With one tick more, at a weight: each price rises by the weight for each job due by the tick, the budget by the weight for each tick
+    // up to it. A tick after the span, and a weight or a budget above its limit, change nothing.
+    pub(crate) fn with_tick(&self, known: Prices, tick: u32, weight: u64) -> Prices
+        requires { WithinBudget self.now.timed self.now.timings.now known.prices known.budget }
+        ensures { WithinBudget self.now.timed self.now.timings.now result.prices result.budget }
+    {
+        if weight == 0 || self.timed.span < tick || MOST_WEIGHT < weight {
+            return known;
+        }
+        let budget = known.budget + weight * tick as u64;
+        if MOST_BUDGET < budget {
+            return known;
+        }
+        let jobs = jobs_by(self.timed, tick, self.timings);
+        Prices {
+            prices: raised_prices(self.timed.items, known.prices, weight, jobs),
+            budget,
+        }
     }
 }

@@ -11,15 +11,9 @@ pub fn size_of(items: usize, set: usize) -> usize
     requires { items ≤ most_items }
     ensures { result ≤ items }
 {
-    let mut count = 0;
-    let mut i = 0;
-    while i < items {
-        if is_in_set(items, set, i) {
-            count += 1;
-        }
-        i += 1;
-    }
-    count
+    (0..items)
+        .filter(|item| is_in_set(items, set, *item))
+        .count()
 }
 
 // Whether a set has so few of the items that it is searched in less time than it takes to find good bounds for it.

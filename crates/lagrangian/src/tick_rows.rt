@@ -1,132 +1,79 @@
 // The rows of ticks in the linear relaxation of a part: of the ticks up to one, what is left once all that is due by it has its ticks may not
 // be below 0. Rows are in shares of these ticks, so that all have about the same size.
-ghost use Rattle.std.specs.Prelude.{◌<◌, ◌≤◌};
-ghost use Rattle.simplex.specs.Dictionaries.{most_rows, Sized};
-ghost use Rattle.lagrangian.specs.Multipliers.{PlacedPart};
-ghost use Rattle.lagrangian.specs.PriceColumns.{most_ticks};
-ghost use Rattle.lagrangian.specs.TimedItems.{TimedItems};
+ghost use Rattle.std.specs.Prelude.{◌≤◌};
 
-use crate::Timed;
-use crate::level_mixes::ticks_of_variable;
+use crate::cores::TimedCore;
+use crate::level_mixes::Variable;
 use crate::parts::Part;
 use crate::prices::jobs_by;
-use simplex::{Dictionary, MOST_COLUMNS, MOST_ENTRIES, MOST_ROWS, row_times, take_off, with_row};
-use values::{MOST_ITEMS, STRIDE};
-
-// Variables from here on are what is left of the ticks up to those that are weighed, by their places.
-pub(crate) const FIRST_SLACK: usize = MOST_ITEMS * STRIDE;
+use simplex::{Dictionary, MOST_COLUMNS, MOST_ROWS, take_off};
+use values::MOST_ITEMS;
 
 // So many jobs of so many ticks, as a share of the ticks up to a tick.
-fn share_of(jobs: u32, ticks: f64, tick: u32) -> f64 {
-    jobs as f64 * ticks / tick as f64
+fn share_of(jobs: u32, ticks: u32, tick: u32) -> f64 {
+    jobs as f64 * ticks as f64 / tick as f64
 }
 
-// The share that a variable takes of the ticks up to a tick by which so many jobs of each item are due.
-fn share_of_variable(
-    timed: Timed,
-    variable: usize,
+impl Variable {
+    // The share that it takes of the ticks up to a tick by which so many jobs of each item are due.
+    fn taken(self, tick: u32, jobs: &[u32; MOST_ITEMS]) -> f64 {
+        match self {
+            Variable::Share { item, ticks } if item < MOST_ITEMS => {
+                share_of(jobs[item], ticks, tick)
+            }
+            _ => 0.0,
+        }
+    }
+}
+
+impl Part {
+    // The share that the items with a level leave.
+    fn left(&self, tick: u32, jobs: &[u32; MOST_ITEMS]) -> f64 {
+        let mut left = 1.0;
+        for (jobs, ticks) in jobs.iter().zip(&self.ticks) {
+            left -= share_of(*jobs, *ticks, tick);
+        }
+        left
+    }
+}
+
+// What is left of the ticks up to a tick, by the variables that are not basic: the basic ones are taken off, each by its own row.
+fn row_of_tick(
+    part: &Part,
     tick: u32,
     jobs: &[u32; MOST_ITEMS],
-    timings: &[u32],
-) -> f64
-    requires { TimedItems timed timings.now }
-{
-    let item = variable / STRIDE;
-    if MOST_ITEMS <= item {
-        return 0.0;
+    shares: &Dictionary<Variable>,
+) -> [f64; MOST_COLUMNS] {
+    let mut entries = [0.0; MOST_COLUMNS];
+    entries[0] = part.left(tick, jobs);
+    for column in 1..shares.columns {
+        entries[column] = shares.nonbasic[column].taken(tick, jobs);
     }
-    share_of(
-        jobs[item],
-        ticks_of_variable(timed, variable, timings),
-        tick,
+    for row in 1..shares.rows {
+        let taken = shares.basic[row].taken(tick, jobs);
+        take_off(shares.columns, taken, &shares.entries[row], &mut entries);
+    }
+    entries
+}
+
+impl TimedCore<'_> {
+    // Adds the row of a tick, which is weighed at a place.
+    pub(crate) fn add_row_of_tick(
+        &self,
+        part: &Part,
+        place: usize,
+        tick: u32,
+        shares: &mut Dictionary<Variable>,
     )
-}
-
-// The share that the items with a level leave.
-fn left_by_fixed(part: Part, tick: u32, jobs: &[u32; MOST_ITEMS]) -> f64
-    requires { PlacedPart part }
-{
-    let ticks = part.ticks;
-    let mut left = 1.0;
-    let mut item = 0;
-    while item < MOST_ITEMS {
-        left = left - share_of(jobs[item], ticks[item] as f64, tick);
-        item += 1;
+        requires { tick ≤ self.now.timed.span }
+    {
+        let row = shares.rows;
+        if MOST_ROWS <= row {
+            return;
+        }
+        let jobs = jobs_by(self.timed, tick, self.timings);
+        let entries = row_of_tick(part, tick, &jobs, shares);
+        shares.add_row(Variable::Left { place });
+        shares.entries[row] = entries;
     }
-    left
-}
-
-// Writes the shares of the variables that are not basic.
-fn fill_shares(
-    timed: Timed,
-    dictionary: Dictionary,
-    row: usize,
-    tick: u32,
-    jobs: &[u32; MOST_ITEMS],
-    timings: &[u32],
-    entries: &mut [f64; MOST_ENTRIES],
-)
-    requires timed_items { TimedItems timed timings.now }
-    requires sized { Sized dictionary }
-    requires row_lt_most_rows { row < most_rows }
-{
-    let mut column = 1;
-    while column < dictionary.columns {
-        let variable = dictionary.nonbasic[column];
-        entries[row * MOST_COLUMNS + column] = share_of_variable(
-            timed, variable, tick, jobs, timings,
-        );
-        column += 1;
-    }
-}
-
-// Takes off what the basic variables take, each by its own row.
-fn take_off_basic(
-    timed: Timed,
-    dictionary: Dictionary,
-    row: usize,
-    tick: u32,
-    jobs: &[u32; MOST_ITEMS],
-    timings: &[u32],
-    entries: &mut [f64; MOST_ENTRIES],
-)
-    requires timed_items { TimedItems timed timings.now }
-    requires sized { Sized dictionary }
-    requires row_lt_most_rows { row < most_rows }
-{
-    let columns = dictionary.columns;
-    let mut other = 1;
-    while other < dictionary.rows {
-        let variable = dictionary.basic[other];
-        let share = share_of_variable(timed, variable, tick, jobs, timings);
-        let others = row_times(columns, other, share, entries);
-        take_off(columns, row, 1.0, &others, entries);
-        other += 1;
-    }
-}
-
-// With the row of a tick more, which is weighed at a place.
-pub(crate) fn with_row_of_tick(
-    timed: Timed,
-    part: Part,
-    dictionary: Dictionary,
-    place: usize,
-    tick: u32,
-    timings: &[u32],
-    entries: &mut [f64; MOST_ENTRIES],
-) -> Dictionary
-    requires timed_items { TimedItems timed timings.now }
-    requires placed_part { PlacedPart part × Sized dictionary }
-    requires tick_le_span { (tick ≤ timed.span) × (place < most_ticks) }
-    ensures { Sized result }
-{
-    let row = dictionary.rows;
-    if MOST_ROWS <= row {
-        return dictionary;
-    }
-    let jobs = jobs_by(timed, tick, timings);
-    entries[row * MOST_COLUMNS] = left_by_fixed(part, tick, &jobs);
-    fill_shares(timed, dictionary, row, tick, &jobs, timings, entries);
-    take_off_basic(timed, dictionary, row, tick, &jobs, timings, entries);
-    with_row(dictionary, FIRST_SLACK + place)
 }

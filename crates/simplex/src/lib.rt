@@ -6,78 +6,78 @@
 mod choosing;
 mod pivots;
 
-ghost use Rattle.std.specs.Prelude.{◌<◌};
-ghost use Rattle.simplex.specs.Dictionaries.{most_rows, most_columns, Sized};
+ghost use Rattle.std.specs.Prelude.{◌≡◌, ◌+◌, ◌<◌, ◌≤◌};
+ghost use Rattle.simplex.specs.declared.TheConstants.{MOST_COLUMNS, MOST_ROWS};
 
-use choosing::{entering_column, leaving_row};
-use pivots::pivot;
-pub use pivots::{row_times, take_off};
+pub use pivots::take_off;
 
 pub const MOST_ROWS: usize = 21;
 
 pub const MOST_COLUMNS: usize = 85;
 
-// Row r has its entries from r * MOST_COLUMNS on.
-pub const MOST_ENTRIES: usize = MOST_ROWS * MOST_COLUMNS;
-
 // Which variables are basic, one for each row but the first, and which are not, one for each column but the first. A basic variable is the
 // first entry of its row less the others, each times the variable of its column. The first row has in place of that what the sum of costs
-// rises by with each column's variable; its first entry is the sum's negative where these are all 0.
-#[derive(Clone, Copy)]
-pub struct Dictionary {
+// rises by with each column's variable; its first entry is the sum's negative where these are all 0. What a variable stands for is the
+// caller's.
+#[derive(Drop)]
+pub struct Dictionary<V> {
     pub rows: usize,
     pub columns: usize,
-    pub basic: [usize; MOST_ROWS],
-    pub nonbasic: [usize; MOST_COLUMNS],
-}
-
-// With one row more, whose entries the caller writes, for a basic variable.
-pub fn with_row(dictionary: Dictionary, variable: usize) -> Dictionary
-    requires sized { Sized dictionary }
-    requires rows_lt_most_rows { dictionary.rows < most_rows }
-    ensures { Sized result }
-{
-    let row = dictionary.rows;
-    let mut after = dictionary;
-    after.basic[row] = variable;
-    after.rows = row + 1;
-    after
-}
-
-// With one column more, whose entries the caller writes, for a variable that is not basic.
-pub fn with_column(dictionary: Dictionary, variable: usize) -> Dictionary
-    requires sized { Sized dictionary }
-    requires columns_lt_most_columns { dictionary.columns < most_columns }
-    ensures { Sized result }
-{
-    let column = dictionary.columns;
-    let mut after = dictionary;
-    after.nonbasic[column] = variable;
-    after.columns = column + 1;
-    after
+    pub basic: [V; MOST_ROWS],
+    pub nonbasic: [V; MOST_COLUMNS],
+    pub entries: [[f64; MOST_COLUMNS]; MOST_ROWS],
+    ghost rows_have_room: { rows ≤ MOST_ROWS },
+    ghost columns_have_room: { columns ≤ MOST_COLUMNS },
 }
 
 // Some twenty pivots are enough; more come of rounding, or of variables that take turns.
 const MOST_PIVOTS: usize = 60;
 
-// Pivots until no basic variable is below 0. Where no cost was below 0 before, none is then, and the sum of costs is least.
-pub fn restored(dictionary: Dictionary, entries: &mut [f64; MOST_ENTRIES]) -> Dictionary
-    requires { Sized dictionary }
-    ensures { Sized result }
-{
-    let mut after = dictionary;
-    let mut pivots = 0;
-    while pivots < MOST_PIVOTS {
-        let row = leaving_row(after.rows, entries);
-        if row == 0 {
-            return after;
+impl<V: Copy> Dictionary<V> {
+    // The first row and the first column alone, all 0. The places that have no variable yet hold the one that is given.
+    pub fn new(variable: V) -> Dictionary<V>
+        ensures one_row { result.rows ≡ 1 }
+        ensures one_column { result.columns ≡ 1 }
+    {
+        Dictionary {
+            rows: 1,
+            columns: 1,
+            basic: [variable; MOST_ROWS],
+            nonbasic: [variable; MOST_COLUMNS],
+            entries: [[0.0; MOST_COLUMNS]; MOST_ROWS],
         }
-        let column = entering_column(after.columns, row, entries);
-        if column == 0 {
-            return after;
-        }
-        after = pivot(after, row, column, entries);
-        pivots += 1;
     }
-    after
+
+    // Adds a row for a basic variable. The caller writes its entries.
+    pub fn add_row(&mut self, variable: V)
+        requires { self.old.rows < MOST_ROWS }
+        ensures one_row_more { self.new.rows ≡ self.old.rows + 1 }
+        ensures same_columns { self.new.columns ≡ self.old.columns }
+    {
+        self.basic[self.rows] = variable;
+        self.rows += 1;
+    }
+
+    // Adds a column for a variable that is not basic. The caller writes its entries.
+    pub fn add_column(&mut self, variable: V)
+        requires { self.old.columns < MOST_COLUMNS }
+        ensures one_column_more { self.new.columns ≡ self.old.columns + 1 }
+        ensures same_rows { self.new.rows ≡ self.old.rows }
+    {
+        self.nonbasic[self.columns] = variable;
+        self.columns += 1;
+    }
+
+    // Pivots until no basic variable is below 0. Where no cost was below 0 before, none is then, and the sum of costs is least.
+    pub fn restore(&mut self) {
+        for _ in 0..MOST_PIVOTS {
+            let Some(left) = self.leaving_row() else {
+                return;
+            };
+            let Some(entered) = self.entering_column(left) else {
+                return;
+            };
+            self.pivot(left, entered);
+        }
+    }
 }

@@ -4,7 +4,7 @@ use Rattle.lagrangian.specs.TimedCores.{timing_at}
 use Rattle.lagrangian.proofs.prices.jobs_by.Goals as goal
 
 pub loop-i-init : goal.loop-i-init
-loop-i-init c = (omega arith, no_jobs_yet)
+loop-i-init c = no_jobs_yet
 
 pub jobs_due-requires : goal.jobs_due-requires
 unfolding timing_at
@@ -23,9 +23,9 @@ loop-i-preserved c =
     let ready = c.requires.timed_items in
     let below = c.loop-i-test.true in
     let jobs = c.jobs_due.ensures in
-    (omega (arith, below), jobs_of_one_more _ c.loop-i.invariant.1 (omega (arith, below, ready.few_items)) jobs (omega (arith, jobs, jobs_at_most ready _ c.args.tick below, ready.span_at_most, c.requires.tick_le_span)))
+    jobs_of_one_more _ c.loop-i.invariant (omega (arith, below, ready.few_items)) jobs (omega (arith, jobs, jobs_at_most ready _ c.args.tick below, ready.span_at_most, c.requires.tick_le_span))
 
 pub returns : goal.returns
 returns c =
     let inv = c.loop-i.invariant in
-    record { few = inv.1.few; at = λ j l. inv.1.at j (omega (arith, c.loop-i-test.false)) }
+    record { few = inv.few; at = λ j l. inv.at j (omega (arith, c.loop-i-test.false)) }

@@ -3,7 +3,7 @@ use Rattle.lagrangian.specs.PriceLaws.{none_raised_yet, one_more_raised}
 use Rattle.lagrangian.proofs.prices.raised_prices.Goals as goal
 
 pub loop-i-init : goal.loop-i-init
-loop-i-init c = (omega arith, none_raised_yet c.requires.low_prices)
+loop-i-init c = none_raised_yet c.requires.low_prices
 
 pub raised_price-requires : goal.raised_price-requires
 raised_price-requires c = let pre = c.requires in (pre.low_prices.low _, pre.le_most_items.1, pre.few_jobs.few _)
@@ -11,9 +11,9 @@ raised_price-requires c = let pre = c.requires in (pre.low_prices.low _, pre.le_
 pub loop-i-preserved : goal.loop-i-preserved
 loop-i-preserved c =
     let its = c.raised_price.ensures in
-    (omega (arith, c.loop-i-test.true), one_more_raised _ c.loop-i.invariant.1 (omega (arith, c.loop-i-test.true, c.requires.le_most_items.0)) its.0 its.1)
+    one_more_raised _ c.loop-i.invariant (omega (arith, c.loop-i-test.true, c.requires.le_most_items.0)) its.0 its.1
 
 pub returns : goal.returns
 returns c =
     let inv = c.loop-i.invariant in
-    record { low = inv.1.low; at_most = λ j l. inv.1.at_most j (omega (arith, c.loop-i-test.false)) }
+    record { low = inv.low; at_most = λ j l. inv.at_most j (omega (arith, c.loop-i-test.false)) }

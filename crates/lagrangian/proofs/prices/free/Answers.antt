@@ -1,5 +1,0 @@
-use Rattle.lagrangian.specs.PriceLaws.{nothing_priced}
-use Rattle.lagrangian.proofs.prices.free.Goals as goal
-
-pub returns : goal.returns
-returns c = nothing_priced
