@@ -3,4 +3,4 @@
 
 mod relaxing;
 
-pub use relaxing::{Choice, Core, Front, choice_at, relax};
+pub use relaxing::{Choice, Core, Front};

@@ -101,28 +101,3 @@ impl Front {
         }
     }
 }
-
-pub fn choice_at(load: &[u64], cost: &[u64], front: Front, level: usize) -> Choice
-    requires { ChoiceFits load.now cost.now front level }
-    ensures { result ≡ choice_of load.now cost.now front level }
-{
-    front.choice_at(load, cost, level)
-}
-
-// The knapsack of a set with the item, from a knapsack of none.
-pub fn relax(
-    front: Front,
-    load: &[u64],
-    cost: &[u64],
-    knapsack_costs: &[u64],
-    knapsack_keys: &[u64],
-    costs: &mut [u64],
-    keys: &mut [u64],
-)
-    requires item_before { ItemBefore front load.now cost.now knapsack_costs.now knapsack_keys.now }
-    requires flat_knapsack { FlatKnapsack no_cost 0 front.core.capacity costs.old keys.old }
-    ensures { KnapsackWithItem front load.now cost.now knapsack_costs.now knapsack_keys.now
-        front.core.levels costs.new keys.new }
-{
-    front.relax(load, cost, knapsack_costs, knapsack_keys, costs, keys);
-}

@@ -1,7 +1,7 @@
 // What a part of a plan is worth.
-ghost use Rattle.std.specs.Prelude.{◌≡◌, ◌<◌, length};
+ghost use Rattle.std.specs.Prelude.{◌≡◌, ◌≤◌, ◌<◌, length, MatchOption};
 ghost use Rattle.assignment.specs.Entries.{Lowered};
-ghost use Rattle.assignment.specs.Words.{value_of};
+ghost use Rattle.assignment.specs.Words.{no_cost, value_of};
 ghost use Rattle.values.specs.Worths.{lesser_worth, worth_of};
 
 // 2^62: a cost from here on stands for none.
@@ -20,6 +20,13 @@ impl Worth {
         cost: NO_COST,
         key: 0,
     };
+
+    // This, unless it stands for none.
+    pub fn found(self) -> Option<Worth>
+        ensures { MatchOption result (no_cost ≤ self.cost) (λ w. (w ≡ self) × (self.cost < no_cost)) }
+    {
+        (self.cost < NO_COST).then_some(self)
+    }
 
     // Lowers entry s of a table, a slice of costs and one of keys, to this, where it comes first.
     pub fn lower(self, s: usize, costs: &mut [u64], keys: &mut [u64])
