@@ -15,6 +15,7 @@ use Rattle.assignment.specs.Values.{Value}
 use Rattle.knapsack.specs.declared.relaxing.Choice.{Choice}
 use Rattle.knapsack.specs.declared.relaxing.Core.{Core}
 use Rattle.knapsack.specs.declared.relaxing.Front.{Front}
+use Rattle.values.specs.declared.value.Worth.{Worth}
 
 -- a list fits as a part of its own
 pub part_fits : {front : Front} {from to : ℕ} {load cost : List ℕ} {points : List Choice} → ItemFits front from to load cost points →
@@ -30,23 +31,23 @@ part_fits {from = from} {to} {points = points} fits =
     }
 
 -- what is spread of it and swept is listed
-pub set_added : {front : Front} {from to used end : ℕ} {load cost : List ℕ} {points₀ points : List Choice} {costs keys : List ℕ} →
+pub set_added : {front : Front} {from to used end : ℕ} {load cost : List ℕ} {points₀ points : List Choice} {spread : List Worth} →
     to ≤ length points₀ →
-    ItemSpread front 0 (length (part points₀ from to)) load cost (part points₀ from to) front.core.levels costs keys →
-    Swept front.core.capacity used costs keys points₀ points end →
+    ItemSpread front 0 (length (part points₀ from to)) load cost (part points₀ from to) front.core.levels spread →
+    Swept front.core.capacity used spread points₀ points end →
     SetAdded front from to used load cost points₀ points end
 unfolding with_item
-set_added {front} {from} {to} {load = load} {cost} {points₀} there spread swept =
+set_added {front} {from} {to} {load = load} {cost} {points₀} there item swept =
     record {
       older = swept.older;
       listed = λ n places sum small.
-          let list = swept.listed (suc n) places (spread.sound n places sum (part_small points₀ from to there small)) in
+          let list = swept.listed (suc n) places (item.sound n places sum (part_small points₀ from to there small)) in
           record {
             ordered = list.ordered;
             there = list.there;
             least = λ rest falling w under.
                 list.least rest falling w under
-                ∙ spread.least rest w under
+                ∙ item.least rest w under
                 ∙ with_item-same front.core.levels (offer_at load cost front.item) front.places _ _ w
                 (λ u below. part_listed points₀ from to there rest u);
             small = list.small;

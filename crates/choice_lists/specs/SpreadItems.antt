@@ -6,7 +6,7 @@ use Rattle.std.proofs.Common.{◌∙◌, add-zero, mul-le-mul_right}
 use Rattle.std.proofs.Math.Nat.{pow-suc, pow-zero, one-le-pow}
 use native.Mathlib.Omega.{arith}
 use Rattle.std.proofs.lemmas.Bool.{lt-leb}
-use Rattle.std.proofs.lemmas.List.{length-replicate, get_or-replicate}
+use Rattle.std.proofs.lemmas.List.{get_or-replicate}
 use Rattle.assignment.specs.LeastLaws.{lesser_none, least_below-none}
 use Rattle.choice_lists.specs.Listed.{before, least_listed, PointSmall}
 use Rattle.assignment.specs.Limits.{most_levels, most_capacity, most_cost}
@@ -14,13 +14,13 @@ use Rattle.knapsack.specs.Offered.{entry_of, offer_at}
 use Rattle.knapsack.specs.RelaxedItems.{choice_of, ChoiceFits, digit_fits, level_fits}
 use Rattle.assignment.specs.Keys.{key_base}
 use Rattle.knapsack.specs.Knapsacks.{at_level}
-use Rattle.choice_lists.specs.Spread.{value_before, least_spread, least_sums, Sound, absent, present, Long, SumsSmall, LevelSpread, ItemFits, Cleared, ItemSpread}
+use Rattle.choice_lists.specs.Spread.{value_before, spread_at, least_spread, least_sums, Sound, absent, present, SumsSmall, LevelSpread, ItemFits, Cleared, ItemSpread}
 use Rattle.choice_lists.specs.SpreadLaws.{none_before, least_sums-is}
 use Rattle.assignment.specs.Values.{Value, none, pair, lesser, least_below}
 use Rattle.assignment.specs.Words.{no_cost, words_none}
 use Rattle.knapsack.specs.declared.relaxing.Choice.{Choice}
 use Rattle.knapsack.specs.declared.relaxing.Front.{Front}
-use Rattle.assignment.specs.Entries.{entry_at}
+use Rattle.values.specs.declared.value.Worth.{Worth}
 
 -- n items of which a list is, and `places` others, seen as items in front of none
 pub small_alone : {capacity n places : ℕ} {point : Choice} → PointSmall capacity n places point →
@@ -33,22 +33,17 @@ small_alone {n = n} {places} small =
       digits = rw (pow-zero, add-zero) (omega (arith, small.digits, one-le-pow places key_base (omega arith)));
     }
 
-pub knapsacks_long : (c k : ℕ) {capacity : ℕ} → capacity ≤ most_capacity →
-    Long capacity (replicate (suc most_capacity) c) (replicate (suc most_capacity) k)
-knapsacks_long c k under =
+pub all_cleared : {capacity : ℕ} → capacity ≤ most_capacity → Cleared capacity (replicate (suc most_capacity) record { cost = no_cost; key = 0 })
+all_cleared under =
     record {
-      costs_to_capacity = omega (arith, length-replicate (suc most_capacity) c);
-      keys_to_capacity = omega (arith, length-replicate (suc most_capacity) k);
+      each = λ u below. get_or-replicate (suc most_capacity) u record { cost = no_cost; key = 0 } record { cost = 0; key = 0 } (omega arith);
     }
 
-pub knapsacks_cleared : {capacity : ℕ} → capacity ≤ most_capacity → Cleared capacity (replicate (suc most_capacity) no_cost)
-knapsacks_cleared under = record { each = λ u below. get_or-replicate (suc most_capacity) u no_cost 0 (omega arith) }
-
 module _ {front : Front} {from to : ℕ} {load cost : List ℕ} {points : List Choice} where
-  pub spread_no_level : {costs keys : List ℕ} → Cleared front.core.capacity costs →
-      ItemSpread front from to load cost points 0 costs keys
-  unfolding least_spread least_below entry_at
-  spread_no_level {costs} {keys} cleared =
+  pub spread_no_level : {spread : List Worth} → Cleared front.core.capacity spread →
+      ItemSpread front from to load cost points 0 spread
+  unfolding least_spread least_below
+  spread_no_level {spread} cleared =
       record {
         least = λ rest w under.
             least_below-none (suc front.core.capacity) _
@@ -56,8 +51,8 @@ module _ {front : Front} {from to : ℕ} {load cost : List ℕ} {points : List C
         sound = λ n places sum small u under. rw (empty u under) absent;
       }
     where
-      empty : (u : ℕ) → u ≤ front.core.capacity → entry_at costs keys u ≡ none
-      empty u under = rw (cleared.each u under) (words_none no_cost _ (omega arith))
+      empty : (u : ℕ) → u ≤ front.core.capacity → spread_at spread u ≡ none
+      empty u under = rw (cleared.each u under) (words_none no_cost 0 (omega arith))
 
   module _ (fits : ItemFits front from to load cost points) {l : ℕ} (under : l < front.core.levels) where
     pub item_choice_fits : ChoiceFits load cost front l
@@ -114,8 +109,8 @@ module _ {front : Front} {from to : ℕ} {load cost : List ℕ} {points : List C
           level : (knapsack : ℕ → Value) → before choice knapsack w ≡ at_level (offer_at load cost front.item) front.places knapsack w l
           level knapsack = rw (chosen, fits.digit_is)
 
-      module _ {costs₀ keys₀ : List ℕ} (sofar : ItemSpread front from to load cost points l costs₀ keys₀) where
-        pub spread_no_room : front.core.capacity < choice.load → ItemSpread front from to load cost points (suc l) costs₀ keys₀
+      module _ {spread₀ : List Worth} (sofar : ItemSpread front from to load cost points l spread₀) where
+        pub spread_no_room : front.core.capacity < choice.load → ItemSpread front from to load cost points (suc l) spread₀
         unfolding least_below
         spread_no_room over =
             record {
@@ -125,17 +120,17 @@ module _ {front : Front} {from to : ℕ} {load cost : List ℕ} {points : List C
               sound = sofar.sound;
             }
 
-        pub spread_one_level : {costs keys : List ℕ} → choice.load ≤ front.core.capacity →
-            LevelSpread front.core.capacity choice from to points costs₀ keys₀ costs keys →
-            ItemSpread front from to load cost points (suc l) costs keys
+        pub spread_one_level : {spread : List Worth} → choice.load ≤ front.core.capacity →
+            LevelSpread front.core.capacity choice from to points spread₀ spread →
+            ItemSpread front from to load cost points (suc l) spread
         unfolding least_below
-        spread_one_level room spread =
+        spread_one_level room level =
             record {
               least = λ rest w below.
-                  spread.least rest w below
+                  level.least rest w below
                   ∙ ap (λ (v : Value). lesser v (least_sums choice points from (to - from) rest w)) (sofar.least rest w below)
                   ∙ ap (lesser _) (at_level_sums rest w);
               sound = λ n places sum small.
-                  spread.sound (suc n) places (sofar.sound n places sum small)
+                  level.sound (suc n) places (sofar.sound n places sum small)
                   (λ p after below. sum_sound room sum (small p after below));
             }

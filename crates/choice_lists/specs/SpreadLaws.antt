@@ -1,14 +1,16 @@
 -- How the least spread choice changes where an entry is lowered, and what an item's levels before a list come to.
-use Rattle.std.specs.Prelude.{ℕ, suc, ◌+◌, ◌-◌, ◌≤◌, ◌<◌, ◌≡◌, refl, ◌⊎◌, Bool, true, false, cond, List, leb}
-use Rattle.std.proofs.Common.{sym, ap, ◌∙◌, inl, inr, arith, le-leb}
+use Rattle.std.specs.Prelude.{ℕ, suc, ◌+◌, ◌-◌, ◌≤◌, ◌<◌, ◌≡◌, refl, ◌⊎◌, Bool, true, false, ◌≢◌, cond, List, length, leb, set}
+use Rattle.std.proofs.Common.{sym, ap, ◌∙◌, inl, inr, arith, le-leb, get_or-set_same, get_or-set_other}
 use Rattle.std.proofs.lemmas.Bool.{lt-leb}
 use Rattle.laws.specs.Below.{lt_or_le}
 use Rattle.assignment.specs.LeastLaws.{lesser_none, lesser_add, least_below-none, least_below-alike, least_below-lowered, add_none, add-least_below, add_assoc}
 use Rattle.choice_lists.specs.Listed.{before, point_at, least_listed}
-use Rattle.choice_lists.specs.Spread.{value_before, least_spread, sum_of, least_sums}
+use Rattle.choice_lists.specs.Spread.{value_before, worth_at, spread_at, least_spread, sum_of, least_sums}
 use Rattle.assignment.specs.Values.{Value, none, pair, add, lesser, least_below}
 use Rattle.knapsack.specs.declared.relaxing.Choice.{Choice}
-use Rattle.assignment.specs.Entries.{entry_at, Lowered}
+use Rattle.values.specs.WorthLaws.{lesser_worth-value}
+use Rattle.values.specs.Worths.{lesser_worth, worth_of}
+use Rattle.values.specs.declared.value.Worth.{Worth}
 
 -- where there is room for it or not
 
@@ -40,14 +42,29 @@ value_before-lesser u a b rest w = go (leb u w)
     go false = sym (lesser_none none)
 
 -- one entry is lowered
-pub least_spread-lowered : {capacity s : ℕ} {v : Value} {costs₀ keys₀ costs keys : List ℕ} (rest : ℕ → Value) (w : ℕ) → s ≤ capacity →
-    Lowered s v costs₀ keys₀ costs keys →
-    least_spread capacity costs keys rest w ≡ lesser (least_spread capacity costs₀ keys₀ rest w) (value_before s v rest w)
-unfolding least_spread entry_at
-least_spread-lowered {capacity} {s} {v} {costs₀} {keys₀} {costs} {keys} rest w within lowered =
+
+abbrev pub lowered_at : ℕ → Worth → List Worth → List Worth
+lowered_at s worth spread = set spread s (lesser_worth (worth_at spread s) worth)
+
+pub lowered_there : (s : ℕ) (worth : Worth) (spread : List Worth) → s < length spread →
+    spread_at (lowered_at s worth spread) s ≡ lesser (spread_at spread s) (worth_of worth)
+lowered_there s worth spread there =
+    rw (get_or-set_same spread s (lesser_worth (worth_at spread s) worth) record { cost = 0; key = 0 } there)
+    (lesser_worth-value (worth_at spread s) worth)
+
+pub lowered_elsewhere : (s : ℕ) (worth : Worth) (spread : List Worth) (u : ℕ) → u ≢ s →
+    worth_at (lowered_at s worth spread) u ≡ worth_at spread u
+lowered_elsewhere s worth spread u other =
+    get_or-set_other spread s u (lesser_worth (worth_at spread s) worth) record { cost = 0; key = 0 } other
+
+pub least_spread-lowered : {capacity s : ℕ} (worth : Worth) (spread : List Worth) (rest : ℕ → Value) (w : ℕ) → s ≤ capacity →
+    s < length spread →
+    least_spread capacity (lowered_at s worth spread) rest w ≡ lesser (least_spread capacity spread rest w) (value_before s (worth_of worth) rest w)
+unfolding least_spread
+least_spread-lowered {capacity} {s} worth spread rest w within there =
     least_below-lowered (suc capacity) s _ _ _ (omega arith)
-    (rw lowered.there (value_before-lesser s _ v rest w))
-    (λ i other. let kept = lowered.elsewhere i other in rw (kept.cost, kept.key))
+    (rw (lowered_there s worth spread there) (value_before-lesser s _ (worth_of worth) rest w))
+    (λ i other. rw (lowered_elsewhere s worth spread i other))
 
 -- a choice before another one before a knapsack is their sum before the knapsack
 before_before : (a b : Choice) (rest : ℕ → Value) (w : ℕ) → before a (before b rest) w ≡ before (sum_of a b) rest w

@@ -1,8 +1,8 @@
 -- What each load adds to a list, and what it does not.
 use Prim.Native.Nat.{ℕ, suc, ◌+◌, ◌-◌, ◌≤◌, ◌<◌}
-use Rattle.std.specs.Prelude.{◌≡◌, ◌⊎◌, length, get_or, set}
+use Rattle.std.specs.Prelude.{◌≡◌, ◌⊎◌, length, set, take}
 use Rattle.std.proofs.Math.Path.{refl, sym}
-use Rattle.std.proofs.Common.{ap, ◌∙◌, inl, inr, le-leb}
+use Rattle.std.proofs.Common.{ap, ◌∙◌, inl, inr, le-leb, length-take-le, get_or-take}
 use mathlib.Core.List.{List}
 use Rattle.std.proofs.Math.Nat.{le_refl}
 use native.Mathlib.Omega.{arith}
@@ -10,7 +10,7 @@ use Rattle.std.proofs.lemmas.Bool.{lt-leb}
 use Rattle.laws.specs.Below.{lt_or_le}
 use Rattle.choice_lists.specs.Listed.{before, Falling, point_at, least_listed, PointSmall}
 use Rattle.choice_lists.specs.PointLaws.{least_listed-alike, least_listed-more, point_older, entry_put_older, entry_put}
-use Rattle.choice_lists.specs.Spread.{value_before, least_spread, Sound, present, AllSound}
+use Rattle.choice_lists.specs.Spread.{value_before, worth_at, spread_at, least_spread, Sound, present, AllSound}
 use Rattle.choice_lists.specs.SpreadLaws.{none_before}
 use Rattle.choice_lists.specs.Sweep.{spread_choice, Older, Gathered, Swept}
 use Rattle.assignment.specs.ValueLaws.{at_most-refl, at_most-trans, add_mono, lesser_second, lesser_is_first}
@@ -20,7 +20,14 @@ use Rattle.values.specs.WorthLaws.{not_first}
 use Rattle.values.specs.Worths.{First, worth_of}
 use Rattle.knapsack.specs.declared.relaxing.Choice.{Choice}
 use Rattle.values.specs.declared.value.Worth.{Worth}
-use Rattle.assignment.specs.Entries.{entry_at}
+
+-- the entries up to the capacity, as they are swept
+
+pub loads_swept : {capacity : ℕ} (spread : List Worth) → capacity < length spread → length (take (capacity + 1) spread) ≡ suc capacity
+loads_swept {capacity} spread long = length-take-le (capacity + 1) spread (omega (arith, long)) ∙ omega arith
+
+pub worth_swept : {capacity u : ℕ} (spread : List Worth) → u ≤ capacity → worth_at (take (capacity + 1) spread) u ≡ worth_at spread u
+worth_swept {capacity} {u} spread within = get_or-take (capacity + 1) spread u record { cost = 0; key = 0 } (omega arith)
 
 -- the same before a knapsack in less room is no better
 falls : {capacity : ℕ} {rest : ℕ → Value} (v : Value) (u : ℕ) {w : ℕ} → Falling capacity rest → w ≤ capacity →
@@ -44,9 +51,9 @@ value_before-mono {a} {b} u rest w order = go (lt_or_le w u)
     go (inl over) = rw (lt-leb u w over) to_none
     go (inr room) = rw (le-leb u w room) (add_mono order (at_most-refl _))
 
-module _ {capacity from : ℕ} {costs keys : List ℕ} where
+module _ {capacity from : ℕ} {spread : List Worth} where
   pub gathered_none : (points : List Choice) (best : Worth) → best.cost ≡ no_cost → best.key ≡ 0 →
-      Gathered capacity from 0 costs keys points points best from
+      Gathered capacity from 0 spread points points best from
   unfolding least_listed least_below
   gathered_none points best costs_nothing no_key =
       let empty : from - from ≡ 0 = omega arith in
@@ -62,11 +69,11 @@ module _ {capacity from : ℕ} {costs keys : List ℕ} where
       }
 
   module _ {u to : ℕ} {points₀ points : List Choice} {best : Worth}
-      (sofar : Gathered capacity from u costs keys points₀ points best to) where
-    pub gathered_skip : {worth : Worth} → worth.cost ≡ get_or costs u 0 → worth.key ≡ get_or keys u 0 → ¬ (First worth best) →
-        Gathered capacity from (suc u) costs keys points₀ points best to
-    unfolding least_below entry_at
-    gathered_skip {worth} is_cost is_key later =
+      (sofar : Gathered capacity from u spread points₀ points best to) where
+    pub gathered_skip : ¬ (First (worth_at spread u) best) →
+        Gathered capacity from (suc u) spread points₀ points best to
+    unfolding least_below
+    gathered_skip later =
         record {
           older = sofar.older;
           ordered = sofar.ordered;
@@ -81,14 +88,13 @@ module _ {capacity from : ℕ} {costs keys : List ℕ} where
           small = sofar.small;
         }
       where
-        no_better : AtMost (worth_of best) (entry_at costs keys u)
-        no_better = rw (← is_cost, ← is_key) (words-at_most _ _ _ _ (not_first later))
+        no_better : AtMost (worth_of best) (spread_at spread u)
+        no_better = words-at_most _ _ _ _ (not_first later)
 
-    pub gathered_more : {worth : Worth} → u ≤ capacity → to < length points₀ → worth.cost ≡ get_or costs u 0 →
-        worth.key ≡ get_or keys u 0 → First worth best →
-        Gathered capacity from (suc u) costs keys points₀ (set points to (spread_choice u worth)) worth (suc to)
-    unfolding least_below entry_at before value_before
-    gathered_more {worth} within room is_cost is_key first =
+    pub gathered_more : u ≤ capacity → to < length points₀ → First (worth_at spread u) best →
+        Gathered capacity from (suc u) spread points₀ (set points to (spread_choice u (worth_at spread u))) (worth_at spread u) (suc to)
+    unfolding least_below before value_before
+    gathered_more within room first =
         record {
           older =
               record {
@@ -99,12 +105,15 @@ module _ {capacity from : ℕ} {costs keys : List ℕ} where
           ordered = omega (arith, sofar.ordered);
           few = omega (arith, sofar.few);
           none_yet = λ above. absurd (omega (arith, real));
-          least = λ rest falling w under. rw (one_more rest w, sofar.least rest falling w under, entry_is);
+          least = λ rest falling w under. rw (one_more rest w, sofar.least rest falling w under, worth_is);
           passed = λ rest falling w under.
               rw (one_more rest w) (at_most-trans (lesser_second _ _) (rw worth_is (falls (pair worth.cost worth.key) u falling under)));
           small = λ n places sound p after below. new n places sound p after below (lt_or_le p to);
         }
       where
+        worth : Worth
+        worth = worth_at spread u
+
         points' : List Choice
         points' = set points to (spread_choice u worth)
 
@@ -123,9 +132,6 @@ module _ {capacity from : ℕ} {costs keys : List ℕ} where
         worth_is : worth_of worth ≡ pair worth.cost worth.key
         worth_is = words_pair worth.cost worth.key real
 
-        entry_is : entry_at costs keys u ≡ pair worth.cost worth.key
-        entry_is = rw (← is_cost, ← is_key) worth_is
-
         one_more : (rest : ℕ → Value) (w : ℕ) →
             least_listed points' from (suc to - from) rest w
             ≡ lesser (least_listed points from (to - from) rest w) (value_before u (pair worth.cost worth.key) rest w)
@@ -139,17 +145,17 @@ module _ {capacity from : ℕ} {costs keys : List ℕ} where
         new_small : {n places c k : ℕ} → Sound n places (pair c k) → PointSmall capacity n places record { load = u; cost = c; key = k }
         new_small (present c k cheap digits) = record { fits = within; cheap = cheap; digits = digits }
 
-        new : (n places : ℕ) → AllSound capacity n places costs keys → (p : ℕ) → from ≤ p → p < suc to → (p < to) ⊎ (to ≤ p) →
+        new : (n places : ℕ) → AllSound capacity n places spread → (p : ℕ) → from ≤ p → p < suc to → (p < to) ⊎ (to ≤ p) →
             PointSmall capacity n places (point_at points' p)
         new n places sound p after below (inl less) =
             rw (point_older stored p less) (sofar.small n places sound p after less)
         new n places sound p after below (inr last) =
             let is : p ≡ to = omega arith in
             let there = entry_put points to (spread_choice u worth) (omega (arith, sofar.older.same_length)) in
-            rw (is, there) (new_small (rw entry_is at (sound u within)))
+            rw (is, there) (new_small (rw worth_is at (sound u within)))
 
   pub gathered_all : {points₀ points : List Choice} {best : Worth} {to : ℕ} → from + suc capacity ≤ length points₀ →
-      Gathered capacity from (suc capacity) costs keys points₀ points best to → Swept capacity from costs keys points₀ points to
+      Gathered capacity from (suc capacity) spread points₀ points best to → Swept capacity from spread points₀ points to
   unfolding least_spread
   gathered_all room all =
       record {

@@ -1,24 +1,18 @@
 // Long lists of choices: those of one set more are spread over all loads, and only those are kept that no other beats.
-ghost use Rattle.std.specs.Prelude.{◌≡◌, suc, ◌+◌, ◌≤◌, ◌<◌, length, get_or};
+ghost use Rattle.std.specs.Prelude.{suc, ◌+◌, ◌≤◌, ◌<◌, length};
 ghost use Rattle.choice_lists.specs.ListedSets.{SetAdded};
-ghost use Rattle.choice_lists.specs.Spread.{Cleared, ItemFits, ItemSpread, LevelSpread, Long, SumsSmall};
+ghost use Rattle.choice_lists.specs.Spread.{Cleared, ItemFits, ItemSpread, LevelSpread, SumsSmall};
 ghost use Rattle.choice_lists.specs.Sweep.{Swept};
 
 use crate::points::{Part, sum_of};
 use knapsack::{Choice, Front};
-use values::{ENTRIES, NO_COST, Worth};
+use values::{ENTRIES, Worth};
 
-// The choice with each point of the list, as an entry of its load.
-fn spread_level(
-    capacity: usize,
-    choice: Choice,
-    list: &[Choice],
-    costs: &mut [u64],
-    keys: &mut [u64],
-)
+// The choice with each point of the list, where it is the best so far of its load.
+fn spread_level(capacity: usize, choice: Choice, list: &[Choice], spread: &mut [Worth])
     requires sums_small { SumsSmall capacity choice 0 (length list.now) list.now }
-    requires long { Long capacity costs.old keys.old }
-    ensures { LevelSpread capacity choice 0 (length list.now) list.now costs.old keys.old costs.new keys.new }
+    requires long { capacity < length spread.old }
+    ensures { LevelSpread capacity choice 0 (length list.now) list.now spread.old spread.new }
 {
     for point in list {
         let sum = sum_of(choice, *point);
@@ -27,61 +21,43 @@ fn spread_level(
                 cost: sum.cost,
                 key: sum.key,
             };
-            worth.lower(sum.load, costs, keys);
+            spread[sum.load] = spread[sum.load].min(worth);
         }
     }
 }
 
 // The item at each level.
-fn spread_item(
-    front: Front,
-    list: &[Choice],
-    load: &[u64],
-    cost: &[u64],
-    costs: &mut [u64],
-    keys: &mut [u64],
-)
+fn spread_item(front: Front, list: &[Choice], load: &[u64], cost: &[u64], spread: &mut [Worth])
     requires item_fits { ItemFits front 0 (length list.now) load.now cost.now list.now }
-    requires long { Long front.core.capacity costs.old keys.old }
-    requires cleared { Cleared front.core.capacity costs.old }
+    requires long { front.core.capacity < length spread.old }
+    requires cleared { Cleared front.core.capacity spread.old }
     ensures { ItemSpread front 0 (length list.now) load.now cost.now list.now
-        front.core.levels costs.new keys.new }
+        front.core.levels spread.new }
 {
     for l in 0..front.core.levels {
         let choice = front.choice_at(load, cost, l);
         if choice.load <= front.core.capacity {
-            spread_level(front.core.capacity, choice, list, costs, keys);
+            spread_level(front.core.capacity, choice, list, spread);
         }
     }
 }
 
-fn entry(knapsack_costs: &[u64], knapsack_keys: &[u64], w: usize) -> Worth
-    requires { (w < length knapsack_costs.now) × (w < length knapsack_keys.now) }
-    ensures { (result.cost ≡ get_or knapsack_costs.now w 0) × (result.key ≡ get_or knapsack_keys.now w 0) }
-{
-    Worth {
-        cost: knapsack_costs[w],
-        key: knapsack_keys[w],
-    }
-}
-
-// The entries that come before all of smaller load become points, from the point `from` on. Answers where they end.
-fn sweep(capacity: usize, from: usize, costs: &[u64], keys: &[u64], points: &mut [Choice]) -> usize
-    requires long { Long capacity costs.now keys.now }
+// The choices that come before all of smaller load become points, from the point `from` on. Answers where they end.
+fn sweep(capacity: usize, from: usize, spread: &[Worth], points: &mut [Choice]) -> usize
+    requires long { capacity < length spread.now }
     requires room { from + suc capacity ≤ length points.old }
-    ensures { Swept capacity from costs.now keys.now points.old points.new result }
+    ensures { Swept capacity from spread.now points.old points.new result }
 {
     let mut best = Worth::NONE;
     let mut to = from;
-    for u in 0..capacity + 1 {
-        let worth = entry(costs, keys, u);
-        if worth < best {
+    for (load, worth) in spread[..=capacity].iter().enumerate() {
+        if *worth < best {
             points[to] = Choice {
-                load: u,
+                load,
                 cost: worth.cost,
                 key: worth.key,
             };
-            best = worth;
+            best = *worth;
             to += 1;
         }
     }
@@ -102,9 +78,8 @@ pub(crate) fn list_long(
     requires room { used + suc front.core.capacity ≤ length points.old }
     ensures { SetAdded front part.from part.to used load.now cost.now points.old points.new result }
 {
-    let mut costs = [NO_COST; ENTRIES];
-    let mut keys = [0u64; ENTRIES];
+    let mut spread = [Worth::NONE; ENTRIES];
     let list = &points[part.from..part.to];
-    spread_item(front, list, load, cost, &mut costs, &mut keys);
-    sweep(front.core.capacity, used, &costs, &keys, points)
+    spread_item(front, list, load, cost, &mut spread);
+    sweep(front.core.capacity, used, &spread, points)
 }

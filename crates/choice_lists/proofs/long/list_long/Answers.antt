@@ -1,14 +1,14 @@
 -- `list_long` spreads the item over the list, and sweeps that to another.
+use Rattle.std.proofs.Common.{arith}
 use Rattle.choice_lists.specs.ListedSetLaws.{part_fits, set_added}
-use Rattle.choice_lists.specs.SpreadItems.{knapsacks_cleared, knapsacks_long}
-use Rattle.assignment.specs.Words.{no_cost}
+use Rattle.choice_lists.specs.SpreadItems.{all_cleared}
 use Rattle.choice_lists.proofs.long.list_long.Goals as goal
 
 pub spread_item-requires : goal.spread_item-requires
 spread_item-requires c =
     let fits = c.requires.item_fits in
     let limited = fits.affordable.capacity_limited in
-    record { item_fits = part_fits fits; long = knapsacks_long no_cost 0 limited; cleared = knapsacks_cleared limited }
+    record { item_fits = part_fits fits; long = omega (arith, limited); cleared = all_cleared limited }
 
 pub returns : goal.returns
 returns c =

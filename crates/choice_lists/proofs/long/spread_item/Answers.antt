@@ -13,10 +13,9 @@ choice_at-choice-requires c =
 pub spread_level-requires : goal.spread_level-requires
 spread_level-requires c =
     let pre = c.requires in
-    let long = pre.long in
     record {
       sums_small = sums_small pre.item_fits c.loop-l-test.true c.choice_at-choice.ensures c.if-choice-front.true;
-      long = record { costs_to_capacity = omega (arith, long); keys_to_capacity = omega (arith, long) };
+      long = omega arith;
     }
 
 pub returns : goal.returns
@@ -33,6 +32,6 @@ loop-l-preserved c =
     let chosen = c.choice_at-choice.ensures in
     rw add-one
     (elim c.if-choice-front.branch [
-      | then-choice-front w ↦ rw (w.costs-is, w.keys-is) (spread_one_level fits under chosen sofar w.if-choice-front.true w.spread_level.ensures)
-      | else-choice-front w ↦ rw (w.costs-is, w.keys-is) (spread_no_room fits under chosen sofar (omega (arith, w.if-choice-front.false)))
+      | then-choice-front w ↦ rw w.spread-is (spread_one_level fits under chosen sofar w.if-choice-front.true w.spread_level.ensures)
+      | else-choice-front w ↦ rw w.spread-is (spread_no_room fits under chosen sofar (omega (arith, w.if-choice-front.false)))
     ])

@@ -1,18 +1,14 @@
 use Rattle.std.proofs.Common.{◌≡◌, length, add-one, arith}
+use Rattle.values.specs.WorthLaws.{min_is_lesser}
 use Rattle.choice_lists.specs.SpreadLevels.{sum_fits, spread_nothing, spread_over, spread_lowered}
 use Rattle.choice_lists.proofs.long.spread_level.Goals.{then-sum-capacity, else-sum-capacity}
 use Rattle.choice_lists.proofs.long.spread_level.Goals as goal
 
 pub loop-point-init : goal.loop-point-init
-loop-point-init c = spread_nothing _ _
+loop-point-init c = spread_nothing _
 
 pub sum_of-sum-requires : goal.sum_of-sum-requires
 sum_of-sum-requires c = sum_fits c.requires.sums_small (omega arith) c.loop-point-test.true
-
-pub lower-requires : goal.lower-requires
-lower-requires c =
-    let long = c.requires.long in
-    record { s_in_bounds = omega (arith, long); s_in_bounds_2 = omega (arith, long) }
 
 pub returns : goal.returns
 returns c =
@@ -26,7 +22,7 @@ loop-point-preserved c =
     let sum = c.sum_of-sum.ensures in
     rw add-one
     (elim c.if-sum-capacity.branch [
-      | then-sum-capacity w ↦ rw (w.costs-is, w.keys-is)
-          (spread_lowered (omega arith) sofar (rw sum at w.if-sum-capacity.true) (c.requires.sums_small.real c.loop-point.point-index (omega arith) c.loop-point-test.true) (rw sum at w.lower.ensures))
-      | else-sum-capacity w ↦ rw (w.costs-is, w.keys-is) (spread_over (omega arith) sofar (rw sum at w.if-sum-capacity.false))
+      | then-sum-capacity w ↦ rw (w.spread-is, w.min.ensures, min_is_lesser, sum)
+          (spread_lowered (omega arith) sofar (rw sum at w.if-sum-capacity.true) (c.requires.sums_small.real c.loop-point.point-index (omega arith) c.loop-point-test.true) (omega (arith, c.requires.long)))
+      | else-sum-capacity w ↦ rw w.spread-is (spread_over (omega arith) sofar (rw sum at w.if-sum-capacity.false))
     ])

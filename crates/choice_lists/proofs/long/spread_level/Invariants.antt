@@ -3,4 +3,4 @@ use Rattle.choice_lists.specs.Spread.{LevelSpread}
 use Rattle.choice_lists.proofs.long.spread_level.Given as goal
 
 abbrev pub invariant-loop-point : goal.invariant-loop-point
-invariant-loop-point l = LevelSpread l.capacity l.choice 0 l.point-index l.list l.initial.costs l.initial.keys l.costs l.keys
+invariant-loop-point l = LevelSpread l.capacity l.choice 0 l.point-index l.list l.initial.spread l.spread

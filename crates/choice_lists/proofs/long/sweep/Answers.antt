@@ -1,39 +1,36 @@
-use Rattle.std.proofs.Common.{sym, ◌∙◌, ◌≡◌, refl, suc, add-one, arith}
+use Rattle.std.proofs.Common.{sym, ◌∙◌, ◌≡◌, ◌≤◌, refl, suc, add-one, arith}
 use Rattle.values.specs.WorthLaws.{less_first, less_not_first}
-use Rattle.choice_lists.specs.SweepLaws.{gathered_none, gathered_skip, gathered_more, gathered_all}
+use Rattle.choice_lists.specs.SweepLaws.{loads_swept, worth_swept, gathered_none, gathered_skip, gathered_more, gathered_all}
 use Rattle.choice_lists.proofs.long.sweep.Goals.{then-lt, else-lt}
 use Rattle.choice_lists.proofs.long.sweep.Goals as goal
 
-pub loop-u-init : goal.loop-u-init
-loop-u-init c = gathered_none _ _ refl refl
-
-pub entry-worth-requires : goal.entry-worth-requires
-entry-worth-requires c =
-    let long = c.requires.long in
-    (omega (arith, long), omega (arith, long))
+pub loop-load-init : goal.loop-load-init
+loop-load-init c = gathered_none _ _ refl refl
 
 pub bounds-points-to : goal.bounds-points-to
 bounds-points-to c =
-    let sofar = c.loop-u.invariant in
-    omega (arith, c.requires.room, sofar.few, sofar.older.same_length)
+    let sofar = c.loop-load.invariant in
+    omega (arith, loads_swept c.args.spread.now c.requires.long, c.requires.room, sofar.few, sofar.older.same_length)
 
 pub overflow_add-to : goal.overflow_add-to
-overflow_add-to c = omega (arith, c.requires.room, c.loop-u.invariant.few)
+overflow_add-to c =
+    record { fits = omega (arith, loads_swept c.args.spread.now c.requires.long, c.requires.room, c.loop-load.invariant.few) }
 
 pub returns : goal.returns
 returns c =
-    let at = c.loop-u in
-    let all : at.u ≡ suc c.args.capacity = omega arith in
+    let at = c.loop-load in
+    let all : at.load ≡ suc c.args.capacity = omega (arith, loads_swept c.args.spread.now c.requires.long) in
     gathered_all c.requires.room (rw all at at.invariant)
 
-pub loop-u-preserved : goal.loop-u-preserved
-loop-u-preserved c =
-    let sofar = c.loop-u.invariant in
-    let worth = c.entry-worth.ensures in
-    let tells = c.lt.ensures in
+pub loop-load-preserved : goal.loop-load-preserved
+loop-load-preserved c =
+    let sofar = c.loop-load.invariant in
+    let within : c.loop-load.load ≤ c.args.capacity = omega (arith, loads_swept c.args.spread.now c.requires.long) in
+    let worth = worth_swept c.args.spread.now within in
+    let tells = rw worth at c.lt.ensures in
     rw add-one
     (elim c.if-lt.branch [
-      | then-lt w ↦ rw (w.points-is, w.best-is, w.to-is, add-one)
-          (gathered_more sofar (omega arith) (omega (arith, c.requires.room, sofar.few)) worth.0 worth.1 (less_first (sym tells ∙ w.if-lt.true)))
-      | else-lt w ↦ rw (w.points-is, w.best-is, w.to-is) (gathered_skip sofar worth.0 worth.1 (less_not_first (sym tells ∙ w.if-lt.false)))
+      | then-lt w ↦ rw (w.points-is, w.best-is, w.to-is, worth, add-one)
+          (gathered_more sofar within (omega (arith, c.requires.room, sofar.few)) (less_first (sym tells ∙ w.if-lt.true)))
+      | else-lt w ↦ rw (w.points-is, w.best-is, w.to-is) (gathered_skip sofar (less_not_first (sym tells ∙ w.if-lt.false)))
     ])
