@@ -7,6 +7,7 @@ pub mod AdmittedCosts
 pub mod LeastKeys
 pub mod LowestTables
 pub mod TimedSites
+pub mod Tables
 pub mod SiteLaws
 pub mod OwnSets
 pub mod StartTables

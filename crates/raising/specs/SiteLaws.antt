@@ -21,7 +21,6 @@ use Rattle.set_tables.specs.CoreSets.{core_set_number}
 use Rattle.raising.specs.Rounds.{RefusalsOffered, RoundReady, RoundFound, found_key_below, round_ready, none_found, settled_found}
 use Rattle.raising.specs.TimedSites.{shape_of, timed_of, core_of, site_options, SiteReady, SiteRaised, SetTried, SetsRaised}
 use Rattle.raising.specs.declared.Site.{Site}
-use Rattle.raising.specs.declared.rounds.Candidate.{Candidate}
 
 pub core_set_below : (n levels core key : ℕ) → core_set_number n levels core key < 2 ^ n
 unfolding core_set_number
@@ -38,8 +37,8 @@ module _ {site : Site} {timings cost costs keys left : List ℕ} (ready : SiteRe
         lower = λ S of_items pattern keeps admits. table.lower S of_items pattern record { keeps = keeps; admitted = admits };
       }
 
-pub nothing_raised : {found : Candidate} {timings cost costs keys left : List ℕ} →
-    SiteRaised found.site timings cost costs keys left → SetsRaised found timings cost costs keys left left 0 0
+pub nothing_raised : {site : Site} {key : ℕ} {timings cost costs keys left : List ℕ} →
+    SiteRaised site timings cost costs keys left → SetsRaised site key timings cost costs keys left left 0 0
 nothing_raised table =
     record {
       table = table;
@@ -48,14 +47,14 @@ nothing_raised table =
       settled = λ none j h. absurd (omega arith);
     }
 
-module _ {found : Candidate} {timings cost costs keys left₀ left : List ℕ} {k raised : ℕ}
-    (so_far : SetsRaised found timings cost costs keys left₀ left k raised) {x : ℕ}
-    (is : x ≡ core_set_number found.site.items found.site.levels k found.key) where
-  pub next_set_below : x < 2 ^ found.site.items
-  next_set_below = rw is (core_set_below found.site.items found.site.levels k found.key)
+module _ {site : Site} {key : ℕ} {timings cost costs keys left₀ left : List ℕ} {k raised : ℕ}
+    (so_far : SetsRaised site key timings cost costs keys left₀ left k raised) {x : ℕ}
+    (is : x ≡ core_set_number site.items site.levels k key) where
+  pub next_set_below : x < 2 ^ site.items
+  next_set_below = rw is (core_set_below site.items site.levels k key)
 
   -- the next core's set is exact
-  pub set_was_exact : get_or left x 0 ≡ 0 → SetsRaised found timings cost costs keys left₀ left (k + 1) raised
+  pub set_was_exact : get_or left x 0 ≡ 0 → SetsRaised site key timings cost costs keys left₀ left (k + 1) raised
   set_was_exact exact =
       record {
         table = so_far.table;
@@ -65,8 +64,8 @@ module _ {found : Candidate} {timings cost costs keys left₀ left : List ℕ} {
       }
 
   -- it may be tried, and was
-  pub set_was_tried : {costs' keys' left' : List ℕ} → SetTried found.site timings cost costs' keys' left left' →
-      SetsRaised found timings cost costs' keys' left₀ left' (k + 1) (raised + 1)
+  pub set_was_tried : {costs' keys' left' : List ℕ} → SetTried site timings cost costs' keys' left left' →
+      SetsRaised site key timings cost costs' keys' left₀ left' (k + 1) (raised + 1)
   set_was_tried tried =
       record {
         table = tried.table;
@@ -96,7 +95,7 @@ module _ {site : Site} {timings cost refusal : List ℕ} {must : List Bool} {cos
 
     -- where no set of the found plan was open, nothing was raised
     pub plan_settled : {costs' keys' left' : List ℕ} {raised : ℕ} →
-        SetsRaised record { site = site; key = worth.key } timings cost costs' keys' left left' site.cores raised → raised ≡ 0 →
+        SetsRaised site worth.key timings cost costs' keys' left left' site.cores raised → raised ≡ 0 →
         worth.cost < no_cost → BestAnswers (site_options site timings cost refusal must) (worth_of worth)
     plan_settled sets none real =
         settled_found ready.limits offered same_levels ready.counted table found real

@@ -17,7 +17,6 @@ use Rattle.raising.specs.ChargedOptions.{with_items, charged_once, CostsCounted}
 use Rattle.set_tables.specs.CoreSets.{core_set_number}
 use Rattle.raising.specs.RaisedTables.{most_tries, Raised, tries_left}
 use Rattle.raising.specs.declared.Site.{Site}
-use Rattle.raising.specs.declared.rounds.Candidate.{Candidate}
 
 abbrev pub shape_of : Site → Shape
 shape_of site = record { items = site.items; cores = site.cores; levels = site.levels }
@@ -85,12 +84,12 @@ pub record SetTried (site : Site) (timings cost costs keys left₀ left : List �
   pub table : SiteRaised site timings cost costs keys left
   pub fewer : tries_left site.items left < tries_left site.items left₀
 
--- so many of the sets that the first k cores of a found plan run were tried; with none nothing changed, and all are exact
-pub record SetsRaised (found : Candidate) (timings cost costs keys left₀ left : List ℕ) (k raised : ℕ) : Type 0 where
-  pub table : SiteRaised found.site timings cost costs keys left
-  pub fewer : tries_left found.site.items left + raised ≤ tries_left found.site.items left₀
+-- so many of the sets that the first k cores of the plan with this key run were tried; with none nothing changed, and all are exact
+pub record SetsRaised (site : Site) (key : ℕ) (timings cost costs keys left₀ left : List ℕ) (k raised : ℕ) : Type 0 where
+  pub table : SiteRaised site timings cost costs keys left
+  pub fewer : tries_left site.items left + raised ≤ tries_left site.items left₀
   pub same : raised ≡ 0 → left ≡ left₀
-  pub settled : raised ≡ 0 → (j : ℕ) → j < k → get_or left (core_set_number found.site.items found.site.levels j found.key) 0 ≡ 0
+  pub settled : raised ≡ 0 → (j : ℕ) → j < k → get_or left (core_set_number site.items site.levels j key) 0 ≡ 0
 
 -- sets were tried, or none was
 pub record NearRaised (site : Site) (timings cost costs keys left₀ left : List ℕ) : Type 0 where

@@ -4,25 +4,26 @@
 
 mod limits;
 mod near;
+mod offer;
 mod own;
 mod rounds;
 mod samples;
 mod small_sets;
 mod start;
+mod table;
 mod tries;
 
-ghost use Rattle.std.specs.Prelude.{◌≤◌, length};
+ghost use Rattle.std.specs.Prelude.{◌≡◌, ◌≤◌, length};
 ghost use Rattle.search.specs.Found.{BestFound};
 ghost use Rattle.raising.specs.StartTables.{SiteOffered};
-ghost use Rattle.raising.specs.TimedSites.{site_options};
+ghost use Rattle.raising.specs.TimedSites.{shape_of, timed_of, site_options};
 
+use lagrangian::Timed;
 use limits::TRIES;
-use own::settle_own;
-use rounds::least_in_rounds;
-use samples::lift_by_samples;
-use search::{Found, write_plan};
-use small_sets::search_small;
-use start::fill_start;
+use offer::Offer;
+use partition::fill_weights;
+use search::{Found, Shape, write_plan};
+use table::Table;
 use values::{MOST_SETS, NO_COST};
 
 // How many items there are, and how many cores and levels for each; the span, and what the idle ticks of a whole span cost.
@@ -33,6 +34,28 @@ pub struct Site {
     pub levels: usize,
     pub span: u32,
     pub whole: u64,
+}
+
+impl Site {
+    pub(crate) fn shape(self) -> Shape
+        ensures { result ≡ shape_of self }
+    {
+        Shape {
+            items: self.items,
+            cores: self.cores,
+            levels: self.levels,
+        }
+    }
+
+    pub(crate) fn timed(self) -> Timed
+        ensures { result ≡ timed_of self }
+    {
+        Timed {
+            items: self.items,
+            levels: self.levels,
+            span: self.span,
+        }
+    }
 }
 
 // Finds the cheapest plan with every job done in time, of equally cheap ones the first, and writes its choices. Costs are those of
@@ -50,16 +73,26 @@ pub fn cheapest_in_time(
     ensures { BestFound (site_options site timings.now cost.now refusal.now must.now)
         plan.old plan.new result }
 {
-    let mut costs = [0u64; MOST_SETS];
-    let mut keys = [0u64; MOST_SETS];
-    fill_start(site, timings, cost, &mut costs, &mut keys);
-    lift_by_samples(site, timings, cost, &mut costs, &mut keys);
-    let mut left = [TRIES; MOST_SETS];
-    settle_own(site, timings, cost, &mut costs, &mut keys, &mut left);
-    search_small(site, timings, cost, &mut costs, &mut keys, &mut left);
-    let best = least_in_rounds(
-        site, timings, cost, refusal, must, &mut costs, &mut keys, &mut left,
-    );
+    let mut weights = [0u64; MOST_SETS];
+    fill_weights(site.items, &mut weights);
+    let offer = Offer {
+        site,
+        timings,
+        cost,
+        refusal,
+        must,
+        weights: &weights,
+    };
+    let mut table = Table {
+        costs: [0; MOST_SETS],
+        keys: [0; MOST_SETS],
+        left: [TRIES; MOST_SETS],
+    };
+    table.fill_start(&offer);
+    table.lift_by_samples(&offer);
+    table.settle_own(&offer);
+    table.search_small(&offer);
+    let best = table.least_in_rounds(&offer);
     if NO_COST <= best.cost {
         return Found::NoPlan;
     }

@@ -27,10 +27,7 @@ fn limit_at(cost: u64, key: u64) -> Worth
     if MOST_CORE_COST < cost {
         return NO_LIMIT;
     }
-    Worth {
-        cost: cost,
-        key: key,
-    }
+    Worth { cost, key }
 }
 
 // Where the tries left and the items of a set come to so many, a try would go as far above the entry as the entry is net of idle energy: it goes as
@@ -45,14 +42,7 @@ fn net_of_idle(size: usize, whole: u64, low: u64) -> u64
     requires { (size ≤ most_items) × (whole ≤ most_cost) }
     ensures { result ≤ low }
 {
-    if size == 0 {
-        return low;
-    }
-    let off = (size as u64 - 1) * whole;
-    if low < off {
-        return 0;
-    }
-    low - off
+    low.saturating_sub(size.saturating_sub(1) as u64 * whole)
 }
 
 // How far above its entry a set with many items is searched: with every second try twice as far, in between half as far again.

@@ -2,28 +2,20 @@
 ghost use Rattle.std.specs.Prelude.{true, false, ◌≡◌, ◌^◌, ◌<◌, get_or};
 ghost use Rattle.assignment.specs.Words.{no_cost};
 ghost use Rattle.lagrangian.specs.Lagrangians.{Relaxes};
-ghost use Rattle.lagrangian.specs.TimedItems.{TimedReady};
-ghost use Rattle.raising.specs.TimedSites.{timed_of, SiteReady, SiteRaised, SetsWeighed, LimitOf, TriesAfter, SetTried};
+ghost use Rattle.raising.specs.TimedSites.{timed_of, LimitOf, TriesAfter};
+ghost use Rattle.raising.specs.Tables.{TableRaised, TableTried};
 
-use crate::Site;
 use crate::limits::{KEY_TRY, limit_of};
-use lagrangian::{Lagrangian, Timed, relaxation_of};
-use set_tables::lift_all;
+use crate::offer::Offer;
+use crate::table::Table;
+use lagrangian::Lagrangian;
 use timed_parts::Bounded;
 use timed_sets::{has_sooner_partner, least_up_to};
 use values::{NO_COST, Worth};
 
 // Whether a search is to find keys too: where there is no limit, where only a key is looked for, and where a search for costs alone would try
 // no fewer levels.
-fn wants_key(
-    timed: Timed,
-    set: usize,
-    left: u32,
-    most: Worth,
-    timings: &[u32],
-    cost: &[u64],
-) -> bool
-    requires { TimedReady timed timings.now cost.now }
+fn wants_key(offer: &Offer, set: usize, left: u32, most: Worth) -> bool
     ensures { result ≡ false → (2 < left) × (most.cost < no_cost) }
 {
     if left <= KEY_TRY {
@@ -32,7 +24,7 @@ fn wants_key(
     if NO_COST <= most.cost {
         return true;
     }
-    !has_sooner_partner(timed, set, timings, cost)
+    !has_sooner_partner(offer.site.timed(), set, offer.timings, offer.cost)
 }
 
 // The key of an entry: what was found, or where only the cost was looked for the least of the set.
@@ -75,103 +67,71 @@ fn left_after(keyed: bool, left: u32, most: Worth, found: Worth) -> u32
     left - 1
 }
 
-// Searches a set up to a limit, for its least value or a higher entry.
-pub(crate) fn search_up_to(
-    site: Site,
-    set: usize,
-    most: Worth,
-    relaxed: Lagrangian,
-    timings: &[u32],
-    cost: &[u64],
-    weights: &[u64],
-    costs: &mut [u64],
-    keys: &mut [u64],
-    left: &mut [u32],
-)
-    requires site_ready { SiteReady site timings.now cost.now }
-    requires sets_weighed { SetsWeighed site.items weights.now }
-    requires site_raised { SiteRaised site timings.now cost.now costs.old keys.old left.old }
-    requires set_bound { set < 2 ^ site.items }
-    requires nonzero { 0 < get_or left.old set 0 }
-    requires relaxes { Relaxes (timed_of site) timings.now cost.now relaxed }
-    requires limit_of { LimitOf site.items (get_or left.old set 0) (get_or costs.old set 0) (get_or weights.now set 0) most }
-    ensures { SetTried site timings.now cost.now costs.new keys.new
-        left.old left.new }
-{
-    let timed = Timed {
-        items: site.items,
-        levels: site.levels,
-        span: site.span,
-    };
-    let keyed = wants_key(timed, set, left[set], most, timings, cost);
-    let bounded = Bounded { timed, relaxed };
-    let found = least_up_to(bounded, set, keyed, most, timings, cost, costs, keys);
-    costs[set] = found.cost;
-    keys[set] = key_after(keyed, found.key, weights[set]);
-    left[set] = left_after(keyed, left[set], most, found);
-}
+impl Table {
+    // Searches a set up to a limit, for its least value or a higher entry.
+    pub(crate) fn search_up_to(
+        &mut self,
+        offer: &Offer,
+        set: usize,
+        most: Worth,
+        relaxed: Lagrangian,
+    )
+        requires set_bound { set < 2 ^ offer.now.site.items }
+        requires nonzero { 0 < get_or self.old.left set 0 }
+        requires relaxes { Relaxes (timed_of offer.now.site) offer.now.timings.now offer.now.cost.now relaxed }
+        requires limit_of { LimitOf offer.now.site.items (get_or self.old.left set 0) (get_or self.old.costs set 0)
+            (get_or offer.now.weights.now set 0) most }
+        requires raised { TableRaised offer.now self.old }
+        ensures { TableTried offer.now self.old self.new }
+    {
+        let keyed = wants_key(offer, set, self.left[set], most);
+        let bounded = Bounded {
+            timed: offer.site.timed(),
+            relaxed,
+        };
+        let found = least_up_to(
+            bounded,
+            set,
+            keyed,
+            most,
+            offer.timings,
+            offer.cost,
+            &self.costs,
+            &self.keys,
+        );
+        self.costs[set] = found.cost;
+        self.keys[set] = key_after(keyed, found.key, offer.weights[set]);
+        self.left[set] = left_after(keyed, self.left[set], most, found);
+    }
 
-// Searches a set up to the limit of its next try.
-fn search_set(
-    site: Site,
-    set: usize,
-    relaxed: Lagrangian,
-    timings: &[u32],
-    cost: &[u64],
-    weights: &[u64],
-    costs: &mut [u64],
-    keys: &mut [u64],
-    left: &mut [u32],
-)
-    requires site_ready { SiteReady site timings.now cost.now }
-    requires sets_weighed { SetsWeighed site.items weights.now }
-    requires site_raised { SiteRaised site timings.now cost.now costs.old keys.old left.old }
-    requires set_bound { set < 2 ^ site.items }
-    requires nonzero { 0 < get_or left.old set 0 }
-    requires relaxes { Relaxes (timed_of site) timings.now cost.now relaxed }
-    ensures { SetTried site timings.now cost.now costs.new keys.new
-        left.old left.new }
-{
-    let most = limit_of(
-        site.items,
-        site.whole,
-        set,
-        left[set],
-        costs[set],
-        weights[set],
-    );
-    search_up_to(
-        site, set, most, relaxed, timings, cost, weights, costs, keys, left,
-    );
-}
+    // Searches a set up to the limit of its next try.
+    fn search_set(&mut self, offer: &Offer, set: usize, relaxed: Lagrangian)
+        requires set_bound { set < 2 ^ offer.now.site.items }
+        requires nonzero { 0 < get_or self.old.left set 0 }
+        requires relaxes { Relaxes (timed_of offer.now.site) offer.now.timings.now offer.now.cost.now relaxed }
+        requires raised { TableRaised offer.now self.old }
+        ensures { TableTried offer.now self.old self.new }
+    {
+        let most = limit_of(
+            offer.site.items,
+            offer.site.whole,
+            set,
+            self.left[set],
+            self.costs[set],
+            offer.weights[set],
+        );
+        self.search_up_to(offer, set, most, relaxed);
+    }
 
-// Tries a set; its relaxation raises the others' entries.
-pub(crate) fn try_set(
-    site: Site,
-    set: usize,
-    timings: &[u32],
-    cost: &[u64],
-    weights: &[u64],
-    costs: &mut [u64],
-    keys: &mut [u64],
-    left: &mut [u32],
-)
-    requires site_ready { SiteReady site timings.now cost.now }
-    requires sets_weighed { SetsWeighed site.items weights.now }
-    requires site_raised { SiteRaised site timings.now cost.now costs.old keys.old left.old }
-    requires set_bound { set < 2 ^ site.items }
-    requires nonzero { 0 < get_or left.old set 0 }
-    ensures { SetTried site timings.now cost.now costs.new keys.new
-        left.old left.new }
-{
-    let timed = Timed {
-        items: site.items,
-        levels: site.levels,
-        span: site.span,
-    };
-    let relaxed = relaxation_of(timed, set, timings, cost);
-    lift_all(site.items, relaxed, weights, costs, keys);
-    search_set(
-        site, set, relaxed, timings, cost, weights, costs, keys, left,
-    );
+    // Tries a set; its relaxation raises the others' entries.
+    pub(crate) fn try_set(&mut self, offer: &Offer, set: usize)
+        requires set_bound { set < 2 ^ offer.now.site.items }
+        requires nonzero { 0 < get_or self.old.left set 0 }
+        requires raised { TableRaised offer.now self.old }
+        ensures { TableTried offer.now self.old self.new }
+    {
+        let relaxed = offer.relaxation_of(set);
+        self.lift(offer, relaxed);
+        self.search_set(offer, set, relaxed);
+    }
 }

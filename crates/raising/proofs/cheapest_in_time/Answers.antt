@@ -1,25 +1,25 @@
 -- `cheapest_in_time` writes the plan that the rounds find.
 use mathlib.Core.Path.{refl}
+use Rattle.partition.specs.Tables.{room_for_sets}
 use Rattle.raising.specs.SiteLaws.{no_plan_told, plan_told}
 use Rattle.raising.specs.StartTables.{site_ready}
 use Rattle.raising.proofs.cheapest_in_time.Goals as goal
 
-pub fill_start-requires : goal.fill_start-requires
-fill_start-requires c = let offered = c.requires.site_offered in record { site_ready = site_ready offered; costs_value = refl }
+pub fill_weights-requires : goal.fill_weights-requires
+fill_weights-requires c = let few = c.requires.site_offered.limits.items in record { le_most_items = few; in_bounds = room_for_sets few }
 
-pub lift_by_samples-requires : goal.lift_by_samples-requires
-lift_by_samples-requires c = record { site_ready = site_ready c.requires.site_offered; site_raised = c.fill_start.ensures }
-
-pub settle_own-requires : goal.settle_own-requires
-settle_own-requires c = record { site_ready = site_ready c.requires.site_offered; site_raised = c.lift_by_samples.ensures }
-
-pub search_small-requires : goal.search_small-requires
-search_small-requires c = record { site_ready = site_ready c.requires.site_offered; site_raised = c.settle_own.ensures.site_raised_2 }
-
-pub least_in_rounds-best-requires : goal.least_in_rounds-best-requires
-least_in_rounds-best-requires c =
+pub invariant_of-offer : goal.invariant_of-offer
+invariant_of-offer c =
     let offered = c.requires.site_offered in
-    record { site_ready = site_ready offered; refusals_offered = offered.refusals; site_raised = c.search_small.ensures }
+    let filled = c.fill_weights in
+    record {
+      ready = site_ready offered;
+      refusals = offered.refusals;
+      weighed = record { for_all = rw filled.auto.weights (room_for_sets offered.limits.items); each = filled.ensures };
+    }
+
+pub fill_start-requires : goal.fill_start-requires
+fill_start-requires c = record { costs_value = refl; untried = refl }
 
 pub returns-then-best-ge-NO_COST : goal.returns-then-best-ge-NO_COST
 returns-then-best-ge-NO_COST c =

@@ -7,3 +7,6 @@ returns-then-left-le-KEY_TRY c = λ is. absurd (false_not_true is refl)
 
 pub returns-then-most-ge-NO_COST : goal.returns-then-most-ge-NO_COST
 returns-then-most-ge-NO_COST c = λ is. absurd (false_not_true is refl)
+
+pub has_sooner_partner-requires : goal.has_sooner_partner-requires
+has_sooner_partner-requires c = rw c.timed.ensures c.args.offer.now.ready.timed
