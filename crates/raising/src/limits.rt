@@ -7,7 +7,7 @@ ghost use Rattle.raising.specs.TimedSites.{LimitReady, LimitAt, LimitOf};
 
 use lagrangian::{has_few_items, size_of};
 use set_tables::MOST_CORE_COST;
-use values::{NO_COST, Worth};
+use values::Worth;
 
 // How often a set is tried at most.
 pub(crate) const TRIES: u32 = 20;
@@ -15,17 +15,12 @@ pub(crate) const TRIES: u32 = 20;
 // With so many tries left the cost of a set's entry is most often its least: a pattern of that cost is looked for, with the least key.
 pub(crate) const KEY_TRY: u32 = 2;
 
-const NO_LIMIT: Worth = Worth {
-    cost: NO_COST,
-    key: 0,
-};
-
 // The limit of this cost and key; none where no core may cost so much.
 fn limit_at(cost: u64, key: u64) -> Worth
     ensures { LimitAt cost key result }
 {
     if MOST_CORE_COST < cost {
-        return NO_LIMIT;
+        return Worth::NONE;
     }
     Worth { cost, key }
 }
@@ -67,10 +62,10 @@ pub(crate) fn limit_of(items: usize, whole: u64, set: usize, left: u32, low: u64
     ensures { LimitOf items left low key result }
 {
     if has_few_items(items, set) {
-        return NO_LIMIT;
+        return Worth::NONE;
     }
     if left < KEY_TRY {
-        return NO_LIMIT;
+        return Worth::NONE;
     }
     if left == KEY_TRY {
         return limit_at(low + 1, key);
@@ -82,7 +77,7 @@ pub(crate) fn limit_of(items: usize, whole: u64, set: usize, left: u32, low: u64
     }
     let halvings = left as usize + size;
     if halvings <= FEWEST_HALVINGS {
-        return NO_LIMIT;
+        return Worth::NONE;
     }
     limit_at(low + (net >> (halvings - FEWEST_HALVINGS)) + 1, key)
 }

@@ -46,6 +46,7 @@ fn left_after_cost(left: u32, most: Worth, found: Worth) -> u32
 }
 
 // How often a set may still be tried, once it was searched up to a limit: not at all where its least value was found.
+#[tactic(auto, using(values::specs::WorthLaws::less_first))]
 fn left_after(keyed: bool, left: u32, most: Worth, found: Worth) -> u32
     requires left_nonzero { 0 < left }
     requires lt_left { most.cost < no_cost → 1 < left }
@@ -58,10 +59,7 @@ fn left_after(keyed: bool, left: u32, most: Worth, found: Worth) -> u32
     if NO_COST <= most.cost {
         return 0;
     }
-    if found.cost < most.cost {
-        return 0;
-    }
-    if found.key < most.key {
+    if found < most {
         return 0;
     }
     left - 1
