@@ -10,7 +10,7 @@ use Rattle.assignment.specs.ValueLaws.{lesser_assoc}
 use Rattle.assignment.specs.Sets.{set_number}
 use Rattle.assignment.specs.SetLaws.{set_number-below}
 use Rattle.assignment.specs.Partition.{least_split}
-use Rattle.partition.specs.Splits.{in_neither, in_top, in_rest, least_from, LoweredFrom, PowerOfTwo, SumsFit, SplitsReady}
+use Rattle.partition.specs.Splits.{in_neither, in_top, in_rest, least_from, LoweredFrom, PowerOfTwo, SumFits, SumsFit, SplitsReady}
 use Rattle.assignment.specs.Entries.{entry_at, NoDearer, Kept, Lowered}
 use Rattle.partition.specs.declared.splits.Split.{Split}
 
@@ -134,6 +134,18 @@ first_sums_fit {t = t} {r} sets fit =
     let some : 0 < 2 ^ sets.exponent = pow_pos sets.exponent in
     let all = sets.is_power in
     rw (add-zero t, add-zero r) at (fit.sums_fit 0 0 (omega arith) (omega arith))
+
+-- of the entries that add up, two
+pub one_sum_fits : {size t r : ℕ} {tops rests : List ℕ} → SumsFit size t r tops rests → {x y : ℕ} → x < size → y < size →
+    SumFits (t + x) (r + y) tops rests
+one_sum_fits fit {x} {y} h j =
+    record { top_there = omega (arith, fit.tops_long); rest_there = omega (arith, fit.rests_long); sum_fits = fit.sums_fit x y h j }
+
+pub first_sum_fits : {size t r : ℕ} {tops rests : List ℕ} → PowerOfTwo size → SumsFit size t r tops rests → SumFits t r tops rests
+first_sum_fits {t = t} {r} sets fit =
+    let some : 0 < 2 ^ sets.exponent = pow_pos sets.exponent in
+    let all = sets.is_power in
+    rw (add-zero t, add-zero r) at (one_sum_fits fit {x = 0} {y = 0} (omega arith) (omega arith))
 
 pub half_fits : {size t r t' r' : ℕ} {tops rests : List ℕ} → SumsFit size t r tops rests → t ≤ t' → t' + size / 2 ≤ t + size →
     r ≤ r' → r' + size / 2 ≤ r + size → SumsFit (size / 2) t' r' tops rests

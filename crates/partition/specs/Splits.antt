@@ -50,6 +50,12 @@ pub record PowerOfTwo (size : ℕ) : Type 0 where
   pub exponent : ℕ
   pub is_power : size ≡ 2 ^ exponent
 
+-- entry t of the one slice and entry r of the other are there, and add up within 64 bits
+pub record SumFits (t r : ℕ) (tops rests : List ℕ) : Type 0 where
+  pub top_there : t < length tops
+  pub rest_there : r < length rests
+  pub sum_fits : get_or tops t 0 + get_or rests r 0 < 2 ^ 64
+
 -- `size` entries from t on of the one slice and from r on of the other are there, and add up within 64 bits
 pub record SumsFit (size t r : ℕ) (tops rests : List ℕ) : Type 0 where
   pub tops_long : t + size ≤ length tops

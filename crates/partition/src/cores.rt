@@ -6,7 +6,7 @@ ghost use Rattle.partition.specs.BestFilled.{BestReady, BestFilled};
 ghost use Rattle.partition.specs.Cores.{CoreReady, CoreAdded};
 ghost use Rattle.partition.specs.Moves.{WeightsBelow, MovesReady, MovedBelow};
 
-use crate::splits::{Split, lower_splits};
+use crate::splits::{Parts, Split};
 use values::{KEY_BASE, MOST_SETS, NO_COST, sets_of};
 
 // The weight of each set: the key with a digit 1 for each of its items.
@@ -69,15 +69,13 @@ fn add_core(
         t: 0,
         r: 0,
     };
-    lower_splits(
-        all,
-        corecosts,
-        &moved,
-        costs,
-        keys,
-        &mut next,
-        &mut nextkeys,
-    );
+    let parts = Parts {
+        tops: corecosts,
+        topkeys: &moved,
+        rests: costs,
+        restkeys: keys,
+    };
+    all.lower_all(&parts, &mut next, &mut nextkeys);
     copy_entries(items, &next, costs);
     copy_entries(items, &nextkeys, keys);
 }

@@ -7,6 +7,7 @@ ghost use Rattle.values.specs.Worths.{worth_of};
 use crate::cores::move_keys;
 use crate::keeping::{least_parted, refuse};
 use crate::near::note_plans;
+use crate::splits::Parts;
 use values::{MOST_SETS, Worth, sets_of};
 
 // The items, and by how much choices on the upper cores are larger.
@@ -36,8 +37,14 @@ pub fn least_over_halves(
     move_keys(halves.items, halves.shift, topkeys, &mut moved);
     let all = sets_of(halves.items);
     refuse(all, 0, 0, refusal, must, costs, keys);
-    let least = least_parted(all, 0, 0, tops, &moved, costs, keys);
-    note_plans(all, least.cost, tops, &moved, costs, keys, near);
+    let parts = Parts {
+        tops,
+        topkeys: &moved,
+        rests: costs,
+        restkeys: keys,
+    };
+    let least = least_parted(all, 0, 0, &parts);
+    note_plans(all, least.cost, &parts, near);
     least
 }
 

@@ -5,7 +5,8 @@ ghost use Rattle.assignment.specs.Refusing.{every};
 ghost use Rattle.partition.specs.Splits.{SumsReady, sum_at, least_from};
 ghost use Rattle.values.specs.Worths.{worth_of};
 
-use values::{Worth, lesser, lower};
+use crate::splits::Parts;
+use values::{Worth, lower};
 
 // Lowers the value of every set with an item to that of the same set without it, where refusing the item comes first. From s
 // on stand `half` sets without the item, and after them those with it.
@@ -53,27 +54,19 @@ pub(crate) fn refuse(
 
 // The least sum over the ways to part the last items in two, which are added to the sets t, of the one table, and r, of the
 // other. `size` is the number of these ways.
-pub(crate) fn least_parted(
-    size: usize,
-    t: usize,
-    r: usize,
-    tops: &[u64],
-    topkeys: &[u64],
-    costs: &[u64],
-    keys: &[u64],
-) -> Worth
-    requires { SumsReady size t r tops.now topkeys.now costs.now keys.now }
+pub(crate) fn least_parted(size: usize, t: usize, r: usize, parts: &Parts) -> Worth
+    requires { SumsReady size t r parts.now.tops.now parts.now.topkeys.now parts.now.rests.now
+        parts.now.restkeys.now }
     ensures { (k : ℕ) → size ≡ 2 ^ k →
-        worth_of result ≡ least_from k (sum_at tops.now topkeys.now costs.now keys.now) t r (every k) }
+        worth_of result ≡ least_from k
+        (sum_at parts.now.tops.now parts.now.topkeys.now parts.now.rests.now parts.now.restkeys.now)
+        t r (every k) }
 {
     if size == 1 {
-        return Worth {
-            cost: tops[t] + costs[r],
-            key: topkeys[t] + keys[r],
-        };
+        return parts.sum(t, r);
     }
     let half = size / 2;
-    let in_top = least_parted(half, t + half, r, tops, topkeys, costs, keys);
-    let in_rest = least_parted(half, t, r + half, tops, topkeys, costs, keys);
-    lesser(in_top, in_rest)
+    let in_top = least_parted(half, t + half, r, parts);
+    let in_rest = least_parted(half, t, r + half, parts);
+    in_top.min(in_rest)
 }

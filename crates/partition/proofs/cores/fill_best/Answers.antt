@@ -20,10 +20,6 @@ loop-c-init c =
     let ready = start.requires in
     let first = c.copy_entries in
     let second = c.copy_entries-2 in (
-      refl,
-      refl,
-      omega arith,
-      ready.some_core,
       copied (first_core ready.core_table) start.args.costs.now start.args.keys.now first.ensures second.ensures
           (omega (arith, ready.costs_for_all, first.auto.to)) (omega (arith, ready.keys_for_all, second.auto.to)),
       refl,
@@ -36,7 +32,7 @@ overflow_mul-shift c = omega (arith, next_choices c.requires c.loop-c-test.true)
 
 pub add_core-requires : goal.add_core-requires
 add_core-requires c =
-    let inv = c.loop-c.invariant in core_ready c.requires (omega arith) inv.2 inv.4
+    core_ready c.requires (omega arith) c.loop-c.auto.c c.loop-c.invariant.0
 
 pub loop-c-preserved : goal.loop-c-preserved
 loop-c-preserved c =
@@ -44,13 +40,9 @@ loop-c-preserved c =
     let added = c.add_core in
     let same-costs = added.auto.costs in
     let same_keys = added.auto.keys in (
-      same-costs ∙ at.invariant.0,
-      same_keys ∙ at.invariant.1,
-      omega arith,
-      omega arith,
-      next_core c.requires (omega arith) at.invariant.2 at.invariant.4 added.ensures same-costs same_keys,
-      added.ensures.other_costs ∙ at.invariant.5,
-      added.ensures.other_keys ∙ at.invariant.6,
+      next_core c.requires (omega arith) at.auto.c at.invariant.0 added.ensures same-costs same_keys,
+      added.ensures.other_costs ∙ at.invariant.1,
+      added.ensures.other_keys ∙ at.invariant.2,
     )
 
 pub returns : goal.returns
@@ -58,4 +50,4 @@ returns c =
     let at = c.loop-c in
     let a = c.args in
     let sets = 2 ^ a.items in
-    let all : at.c ≡ a.cores = omega arith in record { best_filled = rw all at at.invariant.4; costs_unchanged = at.invariant.5 ∙ others_kept a.corecosts.now sets a.costs.now c.copy_entries.ensures; keys_unchanged = at.invariant.6 ∙ others_kept a.corekeys.now sets a.keys.now c.copy_entries-2.ensures }
+    let all : at.c ≡ a.cores = omega arith in record { best_filled = rw all at at.invariant.0; costs_unchanged = at.invariant.1 ∙ others_kept a.corecosts.now sets a.costs.now c.copy_entries.ensures; keys_unchanged = at.invariant.2 ∙ others_kept a.corekeys.now sets a.keys.now c.copy_entries-2.ensures }

@@ -1,9 +1,9 @@
 -- `fill_best` copies the table of one core, and fills the values on one core more in each turn.
-use Prim.Native.Nat.{◌^◌, ◌≤◌}
+use Prim.Native.Nat.{◌^◌}
 use mathlib.Core.Path.{◌≡◌}
-use lib.ListN.{length, drop}
+use lib.ListN.{drop}
 use Rattle.partition.specs.BestFilled.{BestFilled}
 use Rattle.partition.proofs.cores.fill_best.Given as goal
 
 abbrev pub invariant-loop-c : goal.invariant-loop-c
-invariant-loop-c l = (length l.costs ≡ length l.initial.costs) × (length l.keys ≡ length l.initial.keys) × (1 ≤ l.c) × (l.c ≤ l.cores) × BestFilled l.items l.levels l.c l.corecosts l.corekeys l.costs l.keys × (drop (2 ^ l.items) l.costs ≡ drop (2 ^ l.items) l.initial.costs) × (drop (2 ^ l.items) l.keys ≡ drop (2 ^ l.items) l.initial.keys)
+invariant-loop-c l = BestFilled l.items l.levels l.c l.corecosts l.corekeys l.costs l.keys × (drop (2 ^ l.items) l.costs ≡ drop (2 ^ l.items) l.initial.costs) × (drop (2 ^ l.items) l.keys ≡ drop (2 ^ l.items) l.initial.keys)

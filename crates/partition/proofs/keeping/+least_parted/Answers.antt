@@ -1,20 +1,23 @@
 use Rattle.std.proofs.Common.{◌/◌, ap, ap₂, sym, ◌∙◌, arith}
 use Rattle.assignment.specs.Values.{lesser}
-use Rattle.assignment.specs.Words.{value_of}
 use Rattle.values.specs.Worths.{worth_of}
-use Rattle.values.specs.WorthLaws.{lesser_worth-value}
+use Rattle.values.specs.WorthLaws.{lesser_worth-value, min_is_lesser}
 use Rattle.partition.specs.Splits.{sum_at}
-use Rattle.partition.specs.SplitLaws.{half_is_power}
+use Rattle.partition.specs.SplitLaws.{first_sum_fits, half_is_power}
 use Rattle.partition.specs.PartedLaws.{parted_nothing, parted_either, half_of_parts, in_top_ready, in_rest_ready}
 use Rattle.partition.proofs.keeping.+least_parted.Goals as goal
 
+pub sum-requires : goal.sum-requires
+sum-requires t c =
+    let ready = c.requires in
+    record { costs_fit = first_sum_fits ready.sets ready.costs_fit; keys_fit = first_sum_fits ready.sets ready.keys_fit }
+
 pub returns-then-size-eq1 : goal.returns-then-size-eq1
-unfolding value_of sum_at
 returns-then-size-eq1 t c =
-    let a = c.args in
+    let p = c.args.parts.now in
     λ k is_power.
-    parted_nothing (sum_at a.tops.now a.topkeys.now a.costs.now a.keys.now) a.t a.r k
-    (sym c.if-size-eq1.true ∙ is_power)
+    c.sum.ensures
+    ∙ parted_nothing (sum_at p.tops.now p.topkeys.now p.rests.now p.restkeys.now) c.args.t c.args.r k (sym c.if-size-eq1.true ∙ is_power)
 
 pub least_parted-in_top-requires : goal.least_parted-in_top-requires
 least_parted-in_top-requires t c =
@@ -29,8 +32,10 @@ least_parted-in_rest-requires t c =
 pub returns : goal.returns
 returns t c =
     let a = c.args in
+    let p = a.parts.now in
     λ k is_power.
     let (j, e, half) = half_is_power k is_power c.if-size-eq1.false in
     rw e
-    (ap worth_of c.lesser.ensures ∙ lesser_worth-value _ _ ∙ ap₂ lesser (c.least_parted-in_top.ensures j half) (c.least_parted-in_rest.ensures j half)
-    ∙ parted_either (sum_at a.tops.now a.topkeys.now a.costs.now a.keys.now) a.t a.r j (a.size / 2) half)
+    (ap worth_of (c.min.ensures ∙ min_is_lesser _ _) ∙ lesser_worth-value _ _
+    ∙ ap₂ lesser (c.least_parted-in_top.ensures j half) (c.least_parted-in_rest.ensures j half)
+    ∙ parted_either (sum_at p.tops.now p.topkeys.now p.rests.now p.restkeys.now) a.t a.r j (a.size / 2) half)

@@ -4,7 +4,7 @@ use mathlib.Core.Path.{◌≡◌, ◌∙◌}
 use native.Mathlib.Omega.{arith}
 use Rattle.partition.specs.Splits.{sum_at}
 use Rattle.partition.specs.SplitLaws.{top_ready, rest_ready, lowered_one_more}
-use Rattle.partition.proofs.splits.lower_four.Goals as goal
+use Rattle.partition.proofs.splits.Split.lower_four.Goals as goal
 
 pub in_top-requires : goal.in_top-requires
 in_top-requires c = let start = c in omega (arith, start.requires.splits_ready, start.well_formed)
@@ -28,9 +28,10 @@ pub returns : goal.returns
 returns c =
     let start = c in
     let a = start.args in
-    let sum = sum_at a.tops.now a.topkeys.now a.rests.now a.restkeys.now in
-    let half : a.split.size / 2 ≡ 2 = omega (arith, start.requires.size_value) in
-    lowered_one_more a.split {sum = sum} half
+    let p = a.parts.now in
+    let sum = sum_at p.tops.now p.topkeys.now p.rests.now p.restkeys.now in
+    let half : a.self.size / 2 ≡ 2 = omega (arith, start.requires.size_value) in
+    lowered_one_more a.self {sum = sum} half
     (rw c.in_neither.ensures at c.lower_pair.ensures)
     (rw c.in_top.ensures at c.lower_pair-2.ensures)
     (rw c.in_rest.ensures at c.lower_pair-3.ensures)
