@@ -1,27 +1,26 @@
 // The test of a whole pattern.
-ghost use Rattle.std.specs.Prelude.{◌≡◌, ◌*◌, ◌≤◌, ◌<◌, length, List, Bool, ℕ};
+ghost use Rattle.std.specs.Prelude.{◌≡◌, ◌≤◌, ◌<◌, get_or, length, List, Bool, ℕ};
 ghost use Rattle.assignment.specs.Limits.{most_items};
 ghost use Rattle.demand.specs.UnmetTicks.{UnmetTick};
-ghost use Rattle.lagrangian.specs.TimedCores.{timing_width};
 ghost use Rattle.lagrangian.specs.TimedItems.{TimedItems, timed_core};
 ghost use Rattle.timed_parts.specs.TickColumns.{column_jobs};
-ghost use Rattle.timed_parts.specs.Nodes.{Stands, WordColumn};
+ghost use Rattle.timed_parts.specs.Nodes.{Stands};
 
 use crate::Node;
 use demand::unmet_tick;
 use lagrangian::{TIMING_WIDTH, Timed};
 use values::MOST_ITEMS;
 
-// One word of each item's timing: its period for 0, its window for 1.
-fn word_column(items: usize, word: usize, timings: &[u32]) -> [u32; MOST_ITEMS]
-    requires { (items ≤ most_items) × (items * timing_width ≤ length timings.now) × (word < timing_width) }
-    ensures { WordColumn items word timings.now items result }
+// An entry for each of the first items, and the same other one at each place that is left.
+pub fn column_of<T: Copy, F: Fn(usize) -> T>(items: usize, other: T, entry: F) -> [T; MOST_ITEMS]
+    requires few_items { items ≤ most_items }
+    requires callable { (i : ℕ) → i < items → F.pre entry i }
+    ensures places { length result ≡ most_items }
+    ensures entries { (i : ℕ) → i < items → F.post entry i (get_or result i other) }
 {
-    let mut column = [0; MOST_ITEMS];
-    let mut i = 0;
-    while i < items {
-        column[i] = timings[i * TIMING_WIDTH + word];
-        i += 1;
+    let mut column = [other; MOST_ITEMS];
+    for i in 0..items {
+        column[i] = entry(i);
     }
     column
 }
@@ -33,8 +32,8 @@ pub(crate) fn unmet_of(timed: Timed, column: [u32; MOST_ITEMS], timings: &[u32])
     ensures { UnmetTick (column_jobs timed timings.now column) timed.span result }
 {
     let n = timed.items;
-    let periods = word_column(n, 0, timings);
-    let windows = word_column(n, 1, timings);
+    let periods = column_of(n, 0, |item| timings[item * TIMING_WIDTH]);
+    let windows = column_of(n, 0, |item| timings[item * TIMING_WIDTH + 1]);
     unmet_tick(timed.span, &periods[..n], &windows[..n], &column[..n])
 }
 
@@ -45,6 +44,5 @@ pub fn is_admitted(timed: Timed, node: Node, timings: &[u32]) -> bool
     ensures { (cost q : List ℕ) (T : List Bool) → Stands timed timings.now cost node q T →
         result ≡ (timed_core timed timings.now cost).admits q }
 {
-    let column = node.ticks;
-    unmet_of(timed, column, timings) == 0
+    unmet_of(timed, node.ticks, timings) == 0
 }

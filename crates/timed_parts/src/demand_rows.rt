@@ -12,7 +12,7 @@ ghost use Rattle.timed_parts.specs.Nodes.{NothingBefore, Stands};
 ghost use Rattle.timed_parts.specs.TickColumns.{in_set};
 
 use crate::Node;
-use crate::servable::fewest_column;
+use crate::servable::{fewest_column, ticks_in_set};
 use lagrangian::{MOST_TICKS, Timed, jobs_by};
 use values::MOST_ITEMS;
 
@@ -27,12 +27,9 @@ fn fill_row(row: usize, tick: u32, entries: [u32; MOST_ITEMS], rows: &mut [u32])
     requires { (row ≤ most_ticks) × (length entries ≡ most_items) × (length rows.old ≡ row_words) }
     ensures { RowSet row tick entries rows.old rows.new }
 {
-    rows[row * ROW_WIDTH] = tick;
-    let mut i = 0;
-    while i < MOST_ITEMS {
-        rows[row * ROW_WIDTH + 1 + i] = entries[i];
-        i += 1;
-    }
+    let start = row * ROW_WIDTH;
+    rows[start] = tick;
+    rows[start + 1..start + ROW_WIDTH].copy_from_slice(&entries);
 }
 
 // A tick after the span counts as tick 0, by which nothing is due.
@@ -49,23 +46,10 @@ pub fn fill_rows(timed: Timed, ticks: [u32; MOST_TICKS], timings: &[u32], rows: 
     ensures { DemandRows timed timings.now most_ticks rows.new }
 {
     fill_row(MOST_TICKS, 0, fewest_column(timed, timings), rows);
-    let mut n = 0;
-    while n < MOST_TICKS {
+    for n in 0..MOST_TICKS {
         let tick = tick_of_span(timed.span, ticks[n]);
         fill_row(n, tick, jobs_by(timed, tick, timings), rows);
-        n += 1;
     }
-}
-
-// The fewest ticks of a job of an item that is in a set, else none.
-fn fewest_of_open(items: usize, rest: usize, item: usize, rows: &[u32]) -> u32
-    requires { (item < items) × (items ≤ most_items) × (length rows.now ≡ row_words) }
-    ensures { (result ≤ row_entry rows.now most_ticks item) × (in_set items rest item ≡ 0 → result ≡ 0) }
-{
-    if (rest >> (items - 1 - item)) % 2 == 0 {
-        return 0;
-    }
-    rows[MOST_TICKS * ROW_WIDTH + 1 + item]
 }
 
 // The ticks of a job of each item at least: the node's where the item has its level, the fewest where it is still to have one.
@@ -74,10 +58,9 @@ fn lowest_column(timed: Timed, node: Node, rows: &[u32]) -> [u32; MOST_ITEMS]
     ensures { LowestColumn timed node rows.now timed.items result }
 {
     let mut column = node.ticks;
-    let mut i = node.item;
-    while i < timed.items {
-        column[i] = fewest_of_open(timed.items, node.rest, i, rows);
-        i += 1;
+    for item in node.item..timed.items {
+        let fewest = rows[MOST_TICKS * ROW_WIDTH + 1 + item];
+        column[item] = ticks_in_set(timed.items, node.rest, item, fewest);
     }
     column
 }
@@ -89,10 +72,8 @@ fn due_by(items: usize, row: usize, column: &[u32], rows: &[u32]) -> u64
     ensures { result ≡ sum (λ (i : ℕ). get_or column.now i 0 * row_entry rows.now row i) items }
 {
     let mut due = 0;
-    let mut i = 0;
-    while i < items {
+    for i in 0..items {
         due += column[i] as u64 * rows[row * ROW_WIDTH + 1 + i] as u64;
-        i += 1;
     }
     due
 }
@@ -120,12 +101,5 @@ pub fn is_overdue(timed: Timed, node: Node, rows: &[u32]) -> bool
         NothingBefore timed timings cost node q T best }
 {
     let column = lowest_column(timed, node, rows);
-    let mut n = 0;
-    while n < MOST_TICKS {
-        if is_exceeded(timed.items, n, &column, rows) {
-            return true;
-        }
-        n += 1;
-    }
-    false
+    (0..MOST_TICKS).any(|row| is_exceeded(timed.items, row, &column, rows))
 }

@@ -21,10 +21,8 @@ fn priced_front(items: usize, prices: &[u64], ticks: &[u32]) -> u64
     ensures upper_bound { result ≤ items * (most_price * most_period) }
 {
     let mut sum = 0;
-    let mut i = 0;
-    while i < items {
+    for i in 0..items {
         sum += prices[i] * ticks[i] as u64;
-        i += 1;
     }
     sum
 }
@@ -57,10 +55,8 @@ pub fn relaxed_is_cheaper(bounded: Bounded, node: Node, best: Worth) -> bool
         Relaxes bounded.timed timings cost bounded.relaxed → Stands bounded.timed timings cost node q T → result ≡ false →
         NothingBefore bounded.timed timings cost node q T best }
 {
-    let prices = bounded.relaxed.prices;
-    let ticks = node.ticks;
-    let least = bounded.relaxed.least;
-    let front = priced_front(node.item, &prices, &ticks);
-    let later = priced_rest(bounded.timed.items, node.item, node.rest, &least);
-    node.cost + front + later <= best.cost + bounded.relaxed.budget
+    let relaxed = bounded.relaxed;
+    let front = priced_front(node.item, &relaxed.prices, &node.ticks);
+    let later = priced_rest(bounded.timed.items, node.item, node.rest, &relaxed.least);
+    node.cost + front + later <= best.cost + relaxed.budget
 }

@@ -8,11 +8,10 @@ mod dual_bound;
 mod nodes;
 mod servable;
 
-pub use columns::is_admitted;
+pub use columns::{column_of, is_admitted};
 pub use demand_rows::{ROW_WORDS, fill_rows, is_overdue};
 pub use dual_bound::relaxed_is_cheaper;
 use lagrangian::{Lagrangian, Timed};
-pub use nodes::{at_level, next_level, passed_over, run_at};
 pub use servable::{fewest_column, is_served};
 use values::MOST_ITEMS;
 

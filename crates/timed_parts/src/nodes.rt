@@ -6,66 +6,51 @@ ghost use Rattle.timed_parts.specs.Nodes.{passed_over, run_at, next_level, at_le
 use crate::Node;
 use values::KEY_BASE;
 
-// The core does not run the item.
-pub fn passed_over(node: Node) -> Node
-    requires { SmallNode node }
-    ensures { result ≡ passed_over node }
-{
-    let ticks = node.ticks;
-    Node {
-        item: node.item + 1,
-        level: 0,
-        rest: node.rest,
-        cost: node.cost,
-        key: node.key * KEY_BASE,
-        ticks,
+impl Node {
+    // The core does not run the item.
+    pub fn passed_over(self) -> Node
+        requires { SmallNode self }
+        ensures { result ≡ passed_over self }
+    {
+        Node {
+            item: self.item + 1,
+            level: 0,
+            key: self.key * KEY_BASE,
+            ..self
+        }
     }
-}
 
-// The core runs the item, number `half` of the sets, at the level, with so many ticks a job, at this cost.
-pub fn run_at(node: Node, half: usize, ticks: u32, cost: u64) -> Node
-    requires small_node { SmallNode node }
-    requires half_le_rest { (half ≤ node.rest) × (cost ≤ most_cost) }
-    ensures { result ≡ run_at node half ticks cost }
-{
-    let mut column = node.ticks;
-    let at = node.item;
-    column[at] = ticks;
-    Node {
-        item: node.item + 1,
-        level: 0,
-        rest: node.rest - half,
-        cost: node.cost + cost,
-        key: node.key * KEY_BASE + (node.level as u64 + 1),
-        ticks: column,
+    // The core runs the item, number `half` of the sets, at the level, with so many ticks a job, at this cost.
+    pub fn run_at(self, half: usize, ticks: u32, cost: u64) -> Node
+        requires small_node { SmallNode self }
+        requires half_le_rest { (half ≤ self.rest) × (cost ≤ most_cost) }
+        ensures { result ≡ run_at self half ticks cost }
+    {
+        let mut column = self.ticks;
+        column[self.item] = ticks;
+        Node {
+            item: self.item + 1,
+            level: 0,
+            rest: self.rest - half,
+            cost: self.cost + cost,
+            key: self.key * KEY_BASE + (self.level as u64 + 1),
+            ticks: column,
+        }
     }
-}
 
-pub fn next_level(node: Node) -> Node
-    requires { SmallNode node }
-    ensures { result ≡ next_level node }
-{
-    let ticks = node.ticks;
-    Node {
-        item: node.item,
-        level: node.level + 1,
-        rest: node.rest,
-        cost: node.cost,
-        key: node.key,
-        ticks,
+    pub fn next_level(self) -> Node
+        requires { SmallNode self }
+        ensures { result ≡ next_level self }
+    {
+        Node {
+            level: self.level + 1,
+            ..self
+        }
     }
-}
 
-pub fn at_level(node: Node, level: usize) -> Node
-    ensures { result ≡ at_level node level }
-{
-    let ticks = node.ticks;
-    Node {
-        item: node.item,
-        level,
-        rest: node.rest,
-        cost: node.cost,
-        key: node.key,
-        ticks,
+    pub fn at_level(self, level: usize) -> Node
+        ensures { result ≡ at_level self level }
+    {
+        Node { level, ..self }
     }
 }

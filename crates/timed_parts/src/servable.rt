@@ -5,15 +5,9 @@ ghost use Rattle.lagrangian.specs.TimedItems.{TimedItems};
 ghost use Rattle.lagrangian.specs.TimedCores.{timing_width};
 ghost use Rattle.timed_parts.specs.TickColumns.{in_set, SetColumn, served_at, FewestTicks, FewestColumn};
 
-use crate::columns::unmet_of;
+use crate::columns::{column_of, unmet_of};
 use lagrangian::{TIMING_WIDTH, Timed};
 use values::MOST_ITEMS;
-
-fn fewer(a: u32, b: u32) -> u32
-    ensures { (result ≤ a) × (result ≤ b) }
-{
-    if a < b { a } else { b }
-}
 
 // The fewest ticks of a job of an item over all levels.
 fn fewest_ticks(item: usize, levels: usize, timings: &[u32]) -> u32
@@ -21,10 +15,8 @@ fn fewest_ticks(item: usize, levels: usize, timings: &[u32]) -> u32
     ensures { FewestTicks timings.now item levels result }
 {
     let mut fewest = timings[item * TIMING_WIDTH + 2];
-    let mut level = 1;
-    while level < levels {
-        fewest = fewer(fewest, timings[item * TIMING_WIDTH + 2 + level]);
-        level += 1;
+    for level in 1..levels {
+        fewest = fewest.min(timings[item * TIMING_WIDTH + 2 + level]);
     }
     fewest
 }
@@ -34,18 +26,16 @@ pub fn fewest_column(timed: Timed, timings: &[u32]) -> [u32; MOST_ITEMS]
     requires { TimedItems timed timings.now }
     ensures { FewestColumn timed timings.now timed.items result }
 {
-    let mut column = [0; MOST_ITEMS];
-    let mut i = 0;
-    while i < timed.items {
-        column[i] = fewest_ticks(i, timed.levels, timings);
-        i += 1;
-    }
-    column
+    column_of(
+        timed.items,
+        0,
+        |item| fewest_ticks(item, timed.levels, timings),
+    )
 }
 
 // These ticks where the item is in a set, else none.
 #[tactic(auto, using(crate::proofs::Bits::times_no_bit, crate::proofs::Bits::times_bit))]
-fn ticks_in_set(items: usize, set: usize, item: usize, ticks: u32) -> u32
+pub(crate) fn ticks_in_set(items: usize, set: usize, item: usize, ticks: u32) -> u32
     requires { (item < items) × (items ≤ most_items) }
     ensures { result ≡ in_set items set item * ticks }
 {
@@ -60,13 +50,11 @@ fn column_of_set(items: usize, set: usize, column: [u32; MOST_ITEMS]) -> [u32; M
     requires { (items ≤ most_items) × (length column ≡ most_items) }
     ensures { SetColumn items set column items result }
 {
-    let mut of_set = [0; MOST_ITEMS];
-    let mut i = 0;
-    while i < items {
-        of_set[i] = ticks_in_set(items, set, i, column[i]);
-        i += 1;
-    }
-    of_set
+    column_of(
+        items,
+        0,
+        |item| ticks_in_set(items, set, item, column[item]),
+    )
 }
 
 // Whether the items of a set are all served at the ticks of a job of each that stand in the column.

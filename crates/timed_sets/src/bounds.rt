@@ -1,5 +1,5 @@
 // What leaves a part of a pattern out of the search.
-ghost use Rattle.std.specs.Prelude.{Bool, false, List, ◌≡◌, ℕ, ◌<◌, ◌≤◌, ◌⊎◌};
+ghost use Rattle.std.specs.Prelude.{Bool, false, List, ◌≡◌, ℕ, ◌≤◌};
 ghost use Rattle.assignment.specs.Words.{no_cost};
 ghost use Rattle.lagrangian.specs.TimedItems.{TimedReady};
 ghost use Rattle.lagrangian.specs.PriceColumns.{most_ticks};
@@ -11,19 +11,6 @@ ghost use Rattle.timed_sets.specs.Found.{LowerTimed};
 use lagrangian::Timed;
 use timed_parts::{Bounded, Node, is_overdue, relaxed_is_cheaper};
 use values::{NO_COST, Worth, keys_of};
-
-// Whether a comes before b.
-fn comes_first(a: Worth, b: Worth) -> bool
-    ensures { result ≡ false → (b.cost < a.cost) ⊎ ((b.cost ≡ a.cost) × (b.key ≤ a.key)) }
-{
-    if a.cost < b.cost {
-        return true;
-    }
-    if b.cost < a.cost {
-        return false;
-    }
-    a.key < b.key
-}
 
 // Whether what the node is worth and the table's value of the items still to come come before the best so far.
 fn bound_comes_first(
@@ -38,16 +25,15 @@ fn bound_comes_first(
     ensures { (timings cost q : List ℕ) (T : List Bool) → LowerTimed timed timings cost lowcosts.now lowkeys.now →
         Stands timed timings cost node q T → result ≡ false → NothingBefore timed timings cost node q T best }
 {
-    let rest = node.rest;
-    let low = lowcosts[rest];
+    let low = lowcosts[node.rest];
     if NO_COST <= low {
         return false;
     }
     let bound = Worth {
         cost: node.cost + low,
-        key: node.key * keys_of(timed.items - node.item) + lowkeys[rest],
+        key: node.key * keys_of(timed.items - node.item) + lowkeys[node.rest],
     };
-    comes_first(bound, best)
+    bound < best
 }
 
 // Whether something that goes on from the node can come before the best so far: not where a bound of it does not, and not where the

@@ -8,13 +8,8 @@ ghost use Rattle.timed_sets.specs.Found.{OneFrom, SmallWorth};
 
 use crate::search::with_whole;
 use lagrangian::{TIMING_WIDTH, Timed, is_within_window};
-use timed_parts::{Node, at_level, passed_over, run_at};
-use values::{KEY_BASE, NO_COST, STRIDE, Worth, keys_of, sets_of};
-
-const NONE: Worth = Worth {
-    cost: NO_COST,
-    key: 0,
-};
+use timed_parts::Node;
+use values::{KEY_BASE, STRIDE, Worth, keys_of, sets_of};
 
 // The choice at a place of a key, counted from the last.
 pub(crate) fn choice_at(key: u64, place: usize) -> usize
@@ -40,26 +35,25 @@ pub(crate) fn worth_along(
 {
     let i = node.item;
     if i == timed.items {
-        return with_whole(timed, node, NONE, timings);
+        return with_whole(timed, node, Worth::NONE, timings);
     }
     let place = timed.items - i - 1;
     let half = sets_of(place);
     if node.rest < half {
-        return worth_along(timed, passed_over(node), key, timings, cost);
+        return worth_along(timed, node.passed_over(), key, timings, cost);
     }
     let choice = choice_at(key, place);
     if choice == 0 {
-        return NONE;
+        return Worth::NONE;
     }
     let l = choice - 1;
     if timed.levels <= l {
-        return NONE;
+        return Worth::NONE;
     }
     if !is_within_window(i, l, timings) {
-        return NONE;
+        return Worth::NONE;
     }
-    let child = run_at(
-        at_level(node, l),
+    let child = node.at_level(l).run_at(
         half,
         timings[i * TIMING_WIDTH + 2 + l],
         cost[i * STRIDE + l],

@@ -20,7 +20,7 @@ pub use partners::has_sooner_partner;
 use partners::partners_in;
 use search::least_from;
 use timed_parts::{Bounded, Node, ROW_WORDS, fill_rows};
-use values::{MOST_ITEMS, Worth, lesser};
+use values::{MOST_ITEMS, Worth};
 
 // The least value of running exactly the items of a set, by its number, with every job done in time; or the limit `most`, where nothing
 // comes before it. Where not `keyed`, that is said of costs alone: the key is any pattern's, and fewer levels are tried. The search begins
@@ -54,7 +54,7 @@ pub fn least_up_to(
     let prices = bounded.relaxed.prices;
     let key = cheapest_key(bounded.timed, set, prices, timings, cost);
     let one = worth_along(bounded.timed, start, key, timings, cost);
-    let best = lesser(most, one);
+    let best = most.min(one);
     let ticks = bounded.relaxed.ticks;
     let mut rows = [0; ROW_WORDS];
     fill_rows(bounded.timed, ticks, timings, &mut rows);

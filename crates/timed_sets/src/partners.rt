@@ -28,14 +28,7 @@ fn has_same_levels(timed: Timed, j: usize, i: usize, timings: &[u32], cost: &[u6
     requires j_lt_timed { (j < timed.items) × (i < timed.items) }
     ensures { result ≡ true → SameLevels timings.now cost.now timed.levels j i }
 {
-    let mut level = 0;
-    while level < timed.levels {
-        if !is_same_at(timed, j, i, level, timings, cost) {
-            return false;
-        }
-        level += 1;
-    }
-    true
+    (0..timed.levels).all(|level| is_same_at(timed, j, i, level, timings, cost))
 }
 
 // Whether item j is due sooner than item i.
@@ -127,10 +120,8 @@ pub(crate) fn partners_in(
     ensures due_no_sooner { keyed ≡ true → DueNoSooner timings.now timed.items result }
 {
     let mut partners = [0; MOST_ITEMS];
-    let mut i = 0;
-    while i < timed.items {
+    for i in 0..timed.items {
         partners[i] = partner_of(timed, set, keyed, i, timings, cost);
-        i += 1;
     }
     partners
 }
@@ -154,12 +145,5 @@ fn has_sooner_at(timed: Timed, set: usize, i: usize, timings: &[u32], cost: &[u6
 pub fn has_sooner_partner(timed: Timed, set: usize, timings: &[u32], cost: &[u64]) -> bool
     requires { TimedReady timed timings.now cost.now }
 {
-    let mut i = 0;
-    while i < timed.items {
-        if has_sooner_at(timed, set, i, timings, cost) {
-            return true;
-        }
-        i += 1;
-    }
-    false
+    (0..timed.items).any(|item| has_sooner_at(timed, set, item, timings, cost))
 }

@@ -13,8 +13,8 @@ use crate::bounds::is_promising;
 use crate::order::may_run;
 use crate::refits::{is_refit_due, refitted};
 use lagrangian::{TIMING_WIDTH, Timed};
-use timed_parts::{Bounded, Node, is_admitted, next_level, passed_over, run_at};
-use values::{STRIDE, Worth, lesser, sets_of};
+use timed_parts::{Bounded, Node, is_admitted};
+use values::{STRIDE, Worth, sets_of};
 
 // A whole pattern, where it comes before the best so far and the core admits it.
 pub(crate) fn with_whole(timed: Timed, node: Node, best: Worth, timings: &[u32]) -> Worth
@@ -25,13 +25,10 @@ pub(crate) fn with_whole(timed: Timed, node: Node, best: Worth, timings: &[u32])
     ensures small_worth { SmallWorth timed (worth_at node) → SmallWorth timed best → SmallWorth timed result }
 {
     if is_admitted(timed, node, timings) {
-        return lesser(
-            best,
-            Worth {
-                cost: node.cost,
-                key: node.key,
-            },
-        );
+        return best.min(Worth {
+            cost: node.cost,
+            key: node.key,
+        });
     }
     best
 }
@@ -78,7 +75,7 @@ pub(crate) fn least_from(
     if node.rest < half {
         return least_from(
             bounded,
-            passed_over(node),
+            node.passed_over(),
             best,
             timings,
             cost,
@@ -95,7 +92,7 @@ pub(crate) fn least_from(
     if !may_run(node, timings, partners) {
         return least_from(
             bounded,
-            next_level(node),
+            node.next_level(),
             best,
             timings,
             cost,
@@ -105,8 +102,7 @@ pub(crate) fn least_from(
             partners,
         );
     }
-    let child = run_at(
-        node,
+    let child = node.run_at(
         half,
         timings[i * TIMING_WIDTH + 2 + l],
         cost[i * STRIDE + l],
@@ -116,7 +112,7 @@ pub(crate) fn least_from(
     );
     least_from(
         bounded,
-        next_level(node),
+        node.next_level(),
         here,
         timings,
         cost,

@@ -1,4 +1,5 @@
-use mathlib.Core.Path.{refl}
+use mathlib.Core.Path.{refl, ◌∙◌}
+use Rattle.values.specs.WorthLaws.{min_is_lesser}
 use Rattle.timed_sets.specs.FoundLaws.{found_from_one}
 use Rattle.timed_sets.specs.SetTheorem.{start_stands, cost_up_to, found_up_to}
 use Rattle.timed_sets.specs.WholeLaws.{lesser_small}
@@ -18,7 +19,7 @@ pub least_from-requires : goal.least_from-requires
 least_from-requires c =
     let pre = c.requires in
     let timed = c.args.bounded.timed in
-    let small = lesser_small timed _ _ _ c.lesser-best.ensures c.worth_along-one.ensures.small_worth pre.small_worth in
+    let small = lesser_small timed _ _ _ (c.min-best.ensures ∙ min_is_lesser _ _) c.worth_along-one.ensures.small_worth pre.small_worth in
     record { timed_ready = pre.timed_ready; bounds_hold = pre.bounds_hold; by_index = start_stands _ _ _ _ pre.set_bound; small_worth = small; demand_rows = c.fill_rows.ensures; partners = c.partners_in-partners.ensures.partners }
 
 pub returns : goal.returns
@@ -26,7 +27,7 @@ returns c =
     let pre = c.requires in
     let partners = c.partners_in-partners.ensures in
     let found = c.least_from.ensures in
-    let one = c.lesser-best.ensures in
+    let one = (c.min-best.ensures ∙ min_is_lesser _ _) in
     let along = c.worth_along-one.ensures in record {
       found_up_to = λ keyed.
           found_up_to pre.timed_ready.timed_items partners.partners pre.set_bound found.small_worth_2

@@ -6,18 +6,17 @@ use Rattle.timed_parts.proofs.demand_rows.fill_rows.Goals as goal
 
 pub loop-n-init : goal.loop-n-init
 loop-n-init c =
-    let start = c in
-    (omega arith, no_ticks_yet start.requires.timed_items.few_items c.fill_row.ensures start.requires.rows_len c.fewest_column.ensures.fewest)
+    no_ticks_yet c.requires.timed_items.few_items c.fill_row.ensures c.requires.rows_len c.fewest_column.ensures.fewest
 
 pub loop-n-preserved : goal.loop-n-preserved
 loop-n-preserved c =
-    (omega arith, one_tick_more c.requires.timed_items.few_items c.loop-n.invariant.1 (omega arith) c.tick_of_span-tick.ensures c.jobs_by.ensures c.fill_row-in-loop-n.ensures)
+    one_tick_more c.requires.timed_items.few_items c.loop-n.invariant (omega arith) c.tick_of_span-tick.ensures c.jobs_by.ensures c.fill_row-in-loop-n.ensures
 
 pub shape_of-rows : goal.shape_of-rows
-shape_of-rows c = c.loop-n.invariant.1.places ∙ sym c.requires.rows_len
+shape_of-rows c = c.loop-n.invariant.places ∙ sym c.requires.rows_len
 
 pub returns : goal.returns
 returns c =
     let at = c.loop-n in
     let all : at.n ≡ most_ticks = omega arith in
-    rw all at at.invariant.1
+    rw all at at.invariant

@@ -1,14 +1,16 @@
 use native.Mathlib.Omega.{arith}
+use mathlib.Core.Path.{sym, ◌∙◌}
+use Rattle.timed_sets.proofs.Worths.{no_sooner}
 use Rattle.lagrangian.specs.FrontKeyLaws.{power_above_0}
 use Rattle.timed_sets.specs.PromisingLaws.{rest_below, bound_cost_fits, bound_key_fits, none_to_come, bound_not_first}
 use Rattle.timed_sets.proofs.bounds.bound_comes_first.Goals as goal
 
-pub offset_bounds-lowcosts-rest : goal.offset_bounds-lowcosts-rest
-offset_bounds-lowcosts-rest c =
+pub offset_bounds-lowcosts-node : goal.offset_bounds-lowcosts-node
+offset_bounds-lowcosts-node c =
     let pre = c.requires in omega (arith, rest_below pre.4 pre.5, pre.4.small.costs_for_all)
 
-pub bounds-lowcosts-rest : goal.bounds-lowcosts-rest
-bounds-lowcosts-rest c =
+pub bounds-lowcosts-node : goal.bounds-lowcosts-node
+bounds-lowcosts-node c =
     let pre = c.requires in omega (arith, rest_below pre.4 pre.5, pre.4.small.costs_for_all)
 
 pub returns-then-low-ge-NO_COST : goal.returns-then-low-ge-NO_COST
@@ -32,12 +34,12 @@ overflow_mul-bound c =
     let pre = c.requires in
     record { fits = (bound_key_fits pre.4 pre.5 _ 0 c.keys_of.ensures (power_above_0 _)).0 }
 
-pub offset_bounds-lowkeys-rest : goal.offset_bounds-lowkeys-rest
-offset_bounds-lowkeys-rest c =
+pub offset_bounds-lowkeys-node : goal.offset_bounds-lowkeys-node
+offset_bounds-lowkeys-node c =
     let pre = c.requires in omega (arith, rest_below pre.4 pre.5, pre.4.small.keys_for_all)
 
-pub bounds-lowkeys-rest : goal.bounds-lowkeys-rest
-bounds-lowkeys-rest c =
+pub bounds-lowkeys-node : goal.bounds-lowkeys-node
+bounds-lowkeys-node c =
     let pre = c.requires in omega (arith, rest_below pre.4 pre.5, pre.4.small.keys_for_all)
 
 pub overflow_add-bound-2 : goal.overflow_add-bound-2
@@ -48,4 +50,4 @@ overflow_add-bound-2 c =
 pub returns : goal.returns
 returns c =
     λ timings cost q T table stands no.
-    bound_not_first table stands (omega (arith, c.if-low-ge-NO_COST.false)) (rw c.keys_of.ensures at (c.comes_first.ensures no))
+    bound_not_first table stands (omega (arith, c.if-low-ge-NO_COST.false)) (rw (← c.keys_of.ensures) (no_sooner _ _ (sym c.lt.ensures ∙ no)))

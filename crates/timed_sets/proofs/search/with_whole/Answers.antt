@@ -1,4 +1,5 @@
 use mathlib.Core.Path.{sym, ◌∙◌}
+use Rattle.values.specs.WorthLaws.{min_is_lesser}
 use Rattle.timed_sets.specs.WholeLaws.{found_met, found_unmet, lesser_small}
 use Rattle.timed_sets.proofs.search.with_whole.Goals as goal
 
@@ -8,7 +9,7 @@ is_admitted-requires c =
 
 pub returns-then-is_admitted : goal.returns-then-is_admitted
 returns-then-is_admitted c =
-    let few = c.requires.timed_items.few_items in record { by_index = λ cost partners q T whole stands. found_met few whole c.lesser.ensures q T stands (sym c.if-is_admitted.true ∙ c.is_admitted.ensures cost q T stands); small_worth = λ small best. lesser_small c.args.timed _ _ _ c.lesser.ensures small best }
+    let few = c.requires.timed_items.few_items in record { by_index = λ cost partners q T whole stands. found_met few whole (c.min.ensures ∙ min_is_lesser _ _) q T stands (sym c.if-is_admitted.true ∙ c.is_admitted.ensures cost q T stands); small_worth = λ small best. lesser_small c.args.timed _ _ _ (c.min.ensures ∙ min_is_lesser _ _) small best }
 
 pub returns : goal.returns
 returns c =

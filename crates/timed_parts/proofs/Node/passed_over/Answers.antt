@@ -2,7 +2,7 @@ use native.Mathlib.Omega.{arith}
 use Rattle.std.proofs.Common.{refl}
 use Rattle.assignment.specs.Keys.{key_base}
 use Rattle.timed_parts.specs.NodeLaws.{next_key_fits}
-use Rattle.timed_parts.proofs.nodes.passed_over.Goals as goal
+use Rattle.timed_parts.proofs.Node.passed_over.Goals as goal
 
 pub overflow_mul-result : goal.overflow_mul-result
 unfolding key_base
