@@ -28,9 +28,20 @@ impl TimedCore<'_> {
         }
         self.cheapest_level(item, price).level as u64 + 1
     }
+    // The key of the levels that are cheapest at these prices, for the items of a set.
+    pub fn cheapest_key(&self, set: usize, prices: &[u64; MOST_ITEMS]) -> u64
+        requires { LowPrices prices.now }
+        ensures { result < key_base ^ self.now.timed.items }
+    {
+        let mut key = 0;
+        for item in 0..self.timed.items {
+            key = key * KEY_BASE + self.choice_in_set(set, item, prices[item]);
+        }
+        key
+    }
 }
 
-// The key of the levels that are cheapest at these prices.
+// The same for a caller that holds the parts of a core.
 pub fn cheapest_key(
     timed: Timed,
     set: usize,
@@ -47,9 +58,5 @@ pub fn cheapest_key(
         timings,
         cost,
     };
-    let mut key = 0;
-    for i in 0..timed.items {
-        key = key * KEY_BASE + core.choice_in_set(set, i, prices[i]);
-    }
-    key
+    core.cheapest_key(set, &prices)
 }

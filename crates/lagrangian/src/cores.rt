@@ -7,11 +7,11 @@ use crate::{TIMING_WIDTH, Timed};
 
 // The timings and the costs are those of the items, a row for each.
 #[derive(Drop)]
-pub(crate) struct TimedCore<'a> {
-    pub(crate) timed: Timed,
-    pub(crate) timings: &'a [u32],
-    pub(crate) cost: &'a [u64],
-    ghost ready: { TimedReady timed timings.now cost.now },
+pub struct TimedCore<'a> {
+    pub timed: Timed,
+    pub timings: &'a [u32],
+    pub cost: &'a [u64],
+    pub ghost ready: { TimedReady timed timings.now cost.now },
 }
 
 impl TimedCore<'_> {

@@ -22,7 +22,7 @@ ghost use Rattle.lagrangian.specs.Lagrangians.{Relaxes};
 ghost use Rattle.lagrangian.specs.TimedItems.{TimedReady};
 
 pub use choices::{cheapest_key, is_in_set};
-use cores::TimedCore;
+pub use cores::TimedCore;
 pub use multipliers::MOST_TICKS;
 use multipliers::Multipliers;
 pub use parts::Part;
@@ -54,7 +54,38 @@ pub struct Lagrangian {
     pub fixed: usize,
 }
 
-// The relaxation with one tick weighed.
+impl TimedCore<'_> {
+    // The relaxation with one tick weighed.
+    pub fn relaxation_at(&self, tick: u32, weight: u64) -> Lagrangian
+        ensures { Relaxes self.now.timed self.now.timings.now self.now.cost.now result }
+    {
+        let mut ticks = [0; MOST_TICKS];
+        ticks[0] = tick;
+        let mut weights = [0; MOST_TICKS];
+        weights[0] = weight;
+        self.lagrangian_of(0, &Multipliers { ticks, weights })
+    }
+
+    // A relaxation whose weighed ticks are chosen for a set.
+    pub fn relaxation_of(&self, set: usize) -> Lagrangian
+        ensures { Relaxes self.now.timed self.now.timings.now self.now.cost.now result }
+    {
+        let weighed = self.fitted(&Part::of_set(set), None);
+        self.lagrangian_of(0, &weighed)
+    }
+
+    // The relaxation of the same ticks as another's, with the weights that are best for a part.
+    pub fn relaxation_from(&self, relaxed: &Lagrangian, part: &Part) -> Lagrangian
+        ensures relaxes { Relaxes self.now.timed self.now.timings.now self.now.cost.now result }
+        ensures fixed_value { result.fixed ≡ part.now.fixed }
+    {
+        let weighed = self.fitted(part, Some(relaxed.ticks));
+        self.lagrangian_of(part.fixed, &weighed)
+    }
+}
+
+// The same three for callers that hold the parts of a core.
+
 pub fn relaxation_at(
     timed: Timed,
     tick: u32,
@@ -70,14 +101,9 @@ pub fn relaxation_at(
         timings,
         cost,
     };
-    let mut ticks = [0; MOST_TICKS];
-    ticks[0] = tick;
-    let mut weights = [0; MOST_TICKS];
-    weights[0] = weight;
-    core.lagrangian_of(0, &Multipliers { ticks, weights })
+    core.relaxation_at(tick, weight)
 }
 
-// A relaxation whose weighed ticks are chosen for a set.
 pub fn relaxation_of(timed: Timed, set: usize, timings: &[u32], cost: &[u64]) -> Lagrangian
     requires { TimedReady timed timings.now cost.now }
     ensures { Relaxes timed timings.now cost.now result }
@@ -87,11 +113,9 @@ pub fn relaxation_of(timed: Timed, set: usize, timings: &[u32], cost: &[u64]) ->
         timings,
         cost,
     };
-    let weighed = core.fitted(&Part::of_set(set), None);
-    core.lagrangian_of(0, &weighed)
+    core.relaxation_of(set)
 }
 
-// The relaxation of the same ticks as another's, with the weights that are best for a part.
 pub fn relaxation_from(
     timed: Timed,
     relaxed: Lagrangian,
@@ -108,6 +132,5 @@ pub fn relaxation_from(
         timings,
         cost,
     };
-    let weighed = core.fitted(&part, Some(relaxed.ticks));
-    core.lagrangian_of(part.fixed, &weighed)
+    core.relaxation_from(&relaxed, &part)
 }

@@ -5,9 +5,6 @@ use Rattle.lagrangian.proofs.prices.raised_prices.Goals as goal
 pub loop-i-init : goal.loop-i-init
 loop-i-init c = none_raised_yet c.requires.low_prices
 
-pub raised_price-requires : goal.raised_price-requires
-raised_price-requires c = let pre = c.requires in (pre.low_prices.low _, pre.le_most_items.1, pre.few_jobs.few _)
-
 pub loop-i-preserved : goal.loop-i-preserved
 loop-i-preserved c =
     let its = c.raised_price.ensures in

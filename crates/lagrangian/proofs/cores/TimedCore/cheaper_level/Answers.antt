@@ -1,4 +1,4 @@
-use Rattle.std.proofs.Common.{◌+◌, ◌*◌, ◌≤◌, refl, arith, leb-false, leb-true}
+use Rattle.std.proofs.Common.{◌≤◌, refl, arith, leb-false, leb-true}
 use Rattle.lagrangian.specs.PricedLevelLaws.{priced_fits, skipped, still_cheapest, now_cheapest}
 use Rattle.lagrangian.specs.TimedCores.{timing_at}
 use Rattle.lagrangian.proofs.cores.TimedCore.cheaper_level.Goals as goal

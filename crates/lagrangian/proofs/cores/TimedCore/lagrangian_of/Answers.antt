@@ -5,13 +5,6 @@ use Rattle.lagrangian.proofs.cores.TimedCore.lagrangian_of.Goals as goal
 pub loop-i-init : goal.loop-i-init
 loop-i-init c = no_item_yet
 
-pub bounds-prices-i : goal.bounds-prices-i
-bounds-prices-i c =
-    omega (arith, c.loop-i-test.true, c.args.self.now.ready.timed_items.few_items, c.prices_of-known.ensures.places)
-
-pub cheapest_level-requires : goal.cheapest_level-requires
-cheapest_level-requires c = record { is_item = c.loop-i-test.true; low_price = c.prices_of-known.ensures.low_prices _ }
-
 pub loop-i-preserved : goal.loop-i-preserved
 loop-i-preserved c =
     let few = c.args.self.now.ready.timed_items.few_items in
