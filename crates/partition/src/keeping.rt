@@ -6,7 +6,7 @@ ghost use Rattle.partition.specs.Splits.{SumsReady, sum_at, least_from};
 ghost use Rattle.values.specs.Worths.{worth_of};
 
 use crate::splits::Parts;
-use values::{Worth, lower};
+use values::Worth;
 
 // Lowers the value of every set with an item to that of the same set without it, where refusing the item comes first. From s
 // on stand `half` sets without the item, and after them those with it.
@@ -15,13 +15,11 @@ fn refuse_item(half: usize, s: usize, refusal: u64, costs: &mut [u64], keys: &mu
     ensures { ItemRefused half s refusal half costs.old keys.old costs.new keys.new }
 {
     for x in 0..half {
-        lower(
-            s + half + x,
-            costs[s + x] + refusal,
-            keys[s + x],
-            costs,
-            keys,
-        );
+        let refused = Worth {
+            cost: costs[s + x] + refusal,
+            key: keys[s + x],
+        };
+        refused.lower(s + half + x, costs, keys);
     }
 }
 

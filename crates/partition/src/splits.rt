@@ -5,7 +5,7 @@ ghost use Rattle.assignment.specs.Words.{no_cost};
 ghost use Rattle.partition.specs.Splits.{in_neither, in_top, in_rest, sum_at, LoweredFrom, NoSplit, PlacesFit, SplitsReady, SumFits, SumsFit};
 ghost use Rattle.values.specs.Worths.{worth_of};
 
-use values::{NO_COST, Worth, lower};
+use values::{NO_COST, Worth};
 
 // The tables of the two parts: an entry of the one and an entry of the other add up to what a split is worth.
 #[derive(Clone, Copy)]
@@ -90,8 +90,7 @@ impl Split {
             (sum_at parts.now.tops.now parts.now.topkeys.now parts.now.rests.now parts.now.restkeys.now)
             costs.old keys.old costs.new keys.new }
     {
-        let sum = parts.sum(self.t, self.r);
-        lower(self.s, sum.cost, sum.key, costs, keys);
+        parts.sum(self.t, self.r).lower(self.s, costs, keys);
     }
 
     // The same for one item more: a set is without it, or has it in one of its parts. It stands beside `lower_four`, since no const

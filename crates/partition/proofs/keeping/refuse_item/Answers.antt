@@ -6,8 +6,8 @@ use Rattle.partition.proofs.keeping.refuse_item.Goals as goal
 pub loop-x-init : goal.loop-x-init
 loop-x-init c = no_set_yet
 
-pub overflow_add-costs : goal.overflow_add-costs
-overflow_add-costs c =
+pub overflow_add-refused-in-loop-x : goal.overflow_add-refused-in-loop-x
+overflow_add-refused-in-loop-x c =
     record { fits = one_refusal_fits c.requires c.loop-x.invariant (omega arith) }
 
 pub returns : goal.returns
