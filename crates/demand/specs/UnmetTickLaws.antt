@@ -1,6 +1,7 @@
 -- Why the test of a core's demand may pass over ticks: what is due by tick b is met by each tick from that number of ticks on.
-use Rattle.std.specs.Prelude.{ℕ, suc, ◌≤◌, ◌<◌, List, ◌≡◌, eqb, length, get_or}
-use Rattle.std.proofs.Common.{⊎_elim, sym, ◌∙◌, eq-zero-or-pos, le_refl, le_trans, arith, eq-eqb, ne_eqb}
+use Rattle.std.specs.Prelude.{ℕ, suc, ◌≤◌, ◌<◌, List, Option, Some, None, is_none, ◌≡◌, refl, length, get_or}
+use Rattle.std.proofs.Common.{⊎_elim, sym, eq-zero-or-pos, le_refl, le_trans, arith}
+use Rattle.std.proofs.lemmas.Option.{none-some, IfSome_then}
 use Rattle.laws.specs.Below.{lt_or_le}
 use Rattle.laws.specs.Truth.{not_true_is_false}
 use Rattle.dispatch.specs.Columns.{column_tasks}
@@ -14,8 +15,8 @@ module _ (core : CoreTasks) (end : ℕ) where
   pub none_above_end : MetAbove core end end
   none_above_end = record { met_by = λ x above within. absurd (omega arith) }
 
-  pub found_unmet : (b : ℕ) → 0 < b → b ≤ end → b < demand_at core b → UnmetTick core end b
-  found_unmet b above within over = record { met = λ none. absurd (omega arith); within = within; unmet = λ some. over }
+  pub found_unmet : (b : ℕ) → b ≤ end → b < demand_at core b → UnmetTick core end (Some b)
+  found_unmet b within over = record { met = λ none. absurd (none-some b (sym none)); unmet = (within, over) }
 
   module _ (wf : WellFormed core) where
     -- by b no more is due than there are ticks up to the tick after c: it goes on at c
@@ -29,13 +30,8 @@ module _ (core : CoreTasks) (end : ℕ) where
               (lt_or_le b x);
         }
 
-    pub none_unmet : MetAbove core 0 end → UnmetTick core end 0
-    none_unmet met =
-        record {
-          met = λ zero. (meets_demand_within core end).1 by;
-          within = omega arith;
-          unmet = λ some. absurd (omega arith);
-        }
+    pub none_unmet : MetAbove core 0 end → UnmetTick core end None
+    none_unmet met = record { met = λ none. (meets_demand_within core end).1 by; unmet = tt }
       where
         by : (x : ℕ) → x ≤ end → demand_at core x ≤ x
         by x within =
@@ -44,27 +40,20 @@ module _ (core : CoreTasks) (end : ℕ) where
             (λ (above : 0 < x). met.met_by x above within)
             (eq-zero-or-pos x)
 
--- the answer is 0 exactly where the demand is met
-pub unmet_tick_decides : (core : CoreTasks) (end r : ℕ) → UnmetTick core end r → eqb r 0 ≡ meets_demand core end
-unmet_tick_decides core end r answer = ⊎_elim none some (eq-zero-or-pos r)
-  where
-    none : r ≡ 0 → eqb r 0 ≡ meets_demand core end
-    none zero = eq-eqb r 0 zero ∙ sym (answer.met zero)
-
-    some : 0 < r → eqb r 0 ≡ meets_demand core end
-    some above =
-        ne_eqb r 0 (λ zero. omega arith)
-        ∙ sym (not_true_is_false _ (λ met. omega (arith, (meets_demand_within core end).0 met r answer.within, answer.unmet above)))
+-- there is none exactly where the demand is met
+pub unmet_tick_decides : (core : CoreTasks) (end : ℕ) (r : Option ℕ) → UnmetTick core end r → is_none r ≡ meets_demand core end
+unmet_tick_decides core end None answer = sym (answer.met refl)
+unmet_tick_decides core end (Some t) answer =
+    sym (not_true_is_false _ (λ met. omega (arith, (meets_demand_within core end).0 met t answer.unmet.0, answer.unmet.1)))
 
 -- it depends on the demand alone
-pub unmet_tick_of_same_demand : (core core₂ : CoreTasks) → ((x : ℕ) → demand_at core x ≡ demand_at core₂ x) → (end r : ℕ) →
+pub unmet_tick_of_same_demand : (core core₂ : CoreTasks) → ((x : ℕ) → demand_at core x ≡ demand_at core₂ x) → (end : ℕ) (r : Option ℕ) →
     UnmetTick core end r → UnmetTick core₂ end r
 unmet_tick_of_same_demand core core₂ same end r answer =
     record {
-      met = λ zero.
-          (meets_demand_within core₂ end).1 (λ x within. rw (← same x) ((meets_demand_within core end).0 (answer.met zero) x within));
-      within = answer.within;
-      unmet = λ some. rw (← same r) (answer.unmet some);
+      met = λ none.
+          (meets_demand_within core₂ end).1 (λ x within. rw (← same x) ((meets_demand_within core end).0 (answer.met none) x within));
+      unmet = IfSome_then r answer.unmet (λ t over. (over.0, rw (← same t) over.1));
     }
 
 -- where no task is due before its next release, the end of the span decides
@@ -81,12 +70,11 @@ module _ (span : ℕ) (periods windows ticks : List ℕ) (ok : SpanColumns span 
         ok.columns.well_formed.window_within_period i l,
       )
 
-  pub end_of_span_decides : demand_at core span ≤ span → UnmetTick core span 0
+  pub end_of_span_decides : demand_at core span ≤ span → UnmetTick core span None
   end_of_span_decides met =
       record {
-        met = λ zero.
+        met = λ none.
             (load_decides_demand core span ok.whole_periods at_period_end).1
             (rw (demand_at_span core ok.columns.well_formed span ok.whole_periods) at met);
-        within = omega arith;
-        unmet = λ some. absurd (omega arith);
+        unmet = tt;
       }

@@ -1,5 +1,5 @@
 -- The test of a core's demand: what its columns must be, and what it answers.
-use Rattle.std.specs.Prelude.{ℕ, ◌≤◌, ◌<◌, true, List, ◌≡◌, length, get_or}
+use Rattle.std.specs.Prelude.{ℕ, ◌≤◌, ◌<◌, true, List, Option, None, IfSome, ◌≡◌, length, get_or}
 use Rattle.ranges.specs.Limits.{most_period, most_span, most_tasks}
 use Rattle.dispatch.specs.Columns.{column_tasks}
 use Rattle.dispatch.specs.Rows.{CoreTasks}
@@ -19,11 +19,10 @@ pub record SpanColumns (span : ℕ) (periods windows ticks : List ℕ) : Type 0 
   pub whole_periods : WholePeriods (column_tasks periods windows ticks) span
   pub span_at_most : span ≤ most_span
 
--- 0 where by no tick up to `end` is more due than there are ticks; else a tick by which more is due
-pub record UnmetTick (core : CoreTasks) (end r : ℕ) : Type 0 where
-  pub met : r ≡ 0 → meets_demand core end ≡ true
-  pub within : r ≤ end
-  pub unmet : 0 < r → r < demand_at core r
+-- none where by no tick up to `end` is more due than there are ticks; else a tick by which more is due
+pub record UnmetTick (core : CoreTasks) (end : ℕ) (r : Option ℕ) : Type 0 where
+  pub met : r ≡ None → meets_demand core end ≡ true
+  pub unmet : IfSome r (λ t. (t ≤ end) × (t < demand_at core t))
 
 -- the demand is met by each tick above b, up to `end`
 pub record MetAbove (core : CoreTasks) (b end : ℕ) : Type 0 where

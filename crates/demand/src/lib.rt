@@ -24,10 +24,8 @@ fn demand_at(tick: u32, periods: &[u32], windows: &[u32], ticks: &[u32]) -> u64
     ensures { result ≡ demand_at (column_tasks periods.now windows.now ticks.now) tick }
 {
     let mut due = 0;
-    let mut i = 0;
-    while i < ticks.len() {
+    for i in 0..ticks.len() {
         due += ticks[i] as u64 * jobs_due(periods[i], windows[i], tick) as u64;
-        i += 1;
     }
     due
 }
@@ -37,19 +35,15 @@ fn some_due_early(periods: &[u32], windows: &[u32]) -> bool
     requires { length windows.now ≡ length periods.now }
     ensures { result ≡ false → DueAtRelease periods.now windows.now (length periods.now) }
 {
-    let mut i = 0;
-    while i < periods.len() {
-        if windows[i] < periods[i] {
-            return true;
-        }
-        i += 1;
-    }
-    false
+    windows
+        .iter()
+        .zip(periods)
+        .any(|(window, period)| window < period)
 }
 
 // The test from the last tick down. What is due by a tick, where it is met, is met by each tick from that number of ticks on: these
 // need no test.
-fn unmet_up_to(end: u32, periods: &[u32], windows: &[u32], ticks: &[u32]) -> u32
+fn unmet_up_to(end: u32, periods: &[u32], windows: &[u32], ticks: &[u32]) -> Option<u32>
     requires job_columns { JobColumns periods.now windows.now ticks.now }
     requires end_le_most_span { end ≤ most_span }
     ensures { UnmetTick (column_tasks periods.now windows.now ticks.now) end result }
@@ -58,19 +52,16 @@ fn unmet_up_to(end: u32, periods: &[u32], windows: &[u32], ticks: &[u32]) -> u32
     while 0 < tick {
         let due = demand_at(tick, periods, windows, ticks);
         if (tick as u64) < due {
-            return tick;
+            return Some(tick);
         }
-        if due <= 1 {
-            return 0;
-        }
-        tick = due as u32 - 1;
+        tick = (due as u32).saturating_sub(1);
     }
-    0
+    None
 }
 
-// A tick of the span by which more is due than there are ticks up to it; 0 where there is none. Where no task is due before its next
+// A tick of the span by which more is due than there are ticks up to it, if there is one. Where no task is due before its next
 // release, the last tick decides.
-pub fn unmet_tick(span: u32, periods: &[u32], windows: &[u32], ticks: &[u32]) -> u32
+pub fn unmet_tick(span: u32, periods: &[u32], windows: &[u32], ticks: &[u32]) -> Option<u32>
     requires { SpanColumns span periods.now windows.now ticks.now }
     ensures { UnmetTick (column_tasks periods.now windows.now ticks.now) span result }
 {
@@ -78,7 +69,7 @@ pub fn unmet_tick(span: u32, periods: &[u32], windows: &[u32], ticks: &[u32]) ->
         return unmet_up_to(span, periods, windows, ticks);
     }
     if (span as u64) < demand_at(span, periods, windows, ticks) {
-        return span;
+        return Some(span);
     }
-    0
+    None
 }

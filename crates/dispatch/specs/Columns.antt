@@ -1,7 +1,8 @@
 -- A core's tasks in columns, as the code holds them, and what each function makes of the ticks left and of the slots.
-use Rattle.std.specs.Prelude.{ℕ, suc, ◌+◌, ◌-◌, ◌%◌, ◌≤◌, ◌<◌, List, [], ◌≡◌, length, get_or}
+use Rattle.std.specs.Prelude.{ℕ, suc, ◌+◌, ◌-◌, ◌%◌, ◌≤◌, ◌<◌, List, [], ◌≡◌, Option, IfSome, length, get_or}
 use Rattle.ranges.specs.Limits.{most_period, most_tasks}
 use Rattle.laws.specs.Lists.{list_of}
+use Rattle.dispatch.specs.Chosen.{number_of}
 use Rattle.dispatch.specs.Rows.{CoreTasks, after_release, due_at, earliest, slot_of}
 use Rattle.dispatch.specs.Runs.{after_ticks}
 use Rattle.dispatch.specs.SelectedTasks.{numbered}
@@ -56,19 +57,19 @@ pub record Released (periods ticks : List ℕ) (tick : ℕ) (before after : List
   pub same_length : length after ≡ length before
   pub ready : (i : ℕ) → i < length periods → get_or after i 0 ≡ ready_in periods ticks tick before i
 
--- task `task`, counted from 1, or none, can run from a tick up to, but without, tick `end`
-pub record RunsUntil (left : List ℕ) (task tick soonest end : ℕ) : Type 0 where
+-- a task, or none, can run from a tick up to, but without, tick `end`
+pub record RunsUntil (left : List ℕ) (task : Option ℕ) (tick soonest end : ℕ) : Type 0 where
   pub later : tick < end
   pub within : end ≤ soonest
-  pub enough_left : 0 < task → end ≤ tick + get_or left (task - 1) 0
+  pub enough_left : IfSome task (λ i. end ≤ tick + get_or left i 0)
 
 -- it ran for so many ticks
-pub record RanFor (task ticks : ℕ) (before after : List ℕ) : Type 0 where
+pub record RanFor (task : Option ℕ) (ticks : ℕ) (before after : List ℕ) : Type 0 where
   pub same_length : length after ≡ length before
-  pub left : (i : ℕ) → get_or after i 0 ≡ after_ticks task ticks i (get_or before i 0)
+  pub left : (i : ℕ) → get_or after i 0 ≡ after_ticks (number_of task) ticks i (get_or before i 0)
 
 pub record RanEarliest (periods windows : List ℕ) (tick soonest : ℕ) (before after : List ℕ) (run : Run) : Type 0 where
-  pub is_earliest : run.task ≡ earliest (due_in periods windows tick) (λ i. get_or before i 0) (length periods)
+  pub is_earliest : number_of run.task ≡ earliest (due_in periods windows tick) (λ i. get_or before i 0) (length periods)
   pub until : RunsUntil before run.task tick soonest run.end
   pub ran : RanFor run.task (run.end - tick) before after
 

@@ -1,6 +1,6 @@
 -- What `earliest` chooses, as a relation: the earliest due of the tasks that have ticks left, of equal ones the lowest.
 use Prim.Native.Nat.{ℕ, zero, suc, pred, ◌+◌, ◌≤◌, ◌<◌, zero-le}
-use Rattle.std.specs.Prelude.{Bool, cond, ◌≡◌, ltb}
+use Rattle.std.specs.Prelude.{Bool, cond, List, ◌≡◌, Option, Some, None, IfSome, ltb, length, get_or}
 use Rattle.std.proofs.Math.Bool.{true, false}
 use Rattle.std.proofs.Common.{⊎_elim, sym, ◌∙◌, le_refl, le_of_lt, pos_of_ne-zero, eq-zero-or-pos, arith, eqb-true, ltb-true, ltb-false, ne_eqb}
 use Rattle.std.proofs.Math.Path.{refl}
@@ -8,6 +8,7 @@ use Rattle.std.proofs.Math.Nat.{le_step}
 use Rattle.std.proofs.Math.Dec.{eqb}
 use Rattle.std.proofs.lemmas.Bool.{eqb-false}
 use Rattle.laws.specs.Below.{lt_or_le, below_suc}
+use Rattle.dispatch.specs.Chosen.{HasTicks, number_of}
 use Rattle.dispatch.specs.Rows.{earliest}
 
 -- the number chosen among the tasks below n: 0 where none has ticks left; else that of one with ticks left, such that
@@ -115,6 +116,14 @@ chosen_le_size (Choice.runs k l has first lower) = l
 pub chosen_has_left : {due left : ℕ → ℕ} {n number : ℕ} (k : ℕ) → Choice due left n number → number ≡ suc k → 0 < left k
 chosen_has_left k (Choice.idle all) e = absurd (omega arith)
 chosen_has_left k (Choice.runs m l has first lower) e = let same : m ≡ k = omega arith in rw same at has
+
+-- a task that is chosen has ticks left
+pub earliest_has_ticks : (due : ℕ → ℕ) (left : List ℕ) (n : ℕ) (task : Option ℕ) → n ≤ length left →
+    number_of task ≡ earliest due (λ i. get_or left i 0) n → IfSome task (HasTicks left)
+earliest_has_ticks due left n None within e = tt
+earliest_has_ticks due left n (Some i) within e =
+    let chosen : Choice due (λ i. get_or left i 0) n (suc i) = rw e (earliest_is_choice due (λ i. get_or left i 0) n) in
+    (omega (arith, chosen_le_size chosen), chosen_has_left i chosen refl)
 
 -- the choice depends on what is left, and on the due ticks of the tasks that have ticks left
 pub earliest_cong : (due left due₂ left₂ : ℕ → ℕ) (n : ℕ) → ((i : ℕ) → i < n → left i ≡ left₂ i) →

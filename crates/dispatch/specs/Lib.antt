@@ -1,4 +1,5 @@
 pub mod Rows
+pub mod Chosen
 pub mod Earliest
 pub mod DispatchLaws
 pub mod Calls

@@ -1,11 +1,12 @@
 -- A row is written run by run: what has run, which slots are filled, and how far the row has come.
-use Rattle.std.specs.Prelude.{ℕ, suc, ◌+◌, ◌-◌, ◌≤◌, ◌<◌, Bool, true, false, cond, List, ◌≡◌, refl, eqb, length, get_or, set}
+use Rattle.std.specs.Prelude.{ℕ, suc, ◌+◌, ◌-◌, ◌≤◌, ◌<◌, Bool, true, false, cond, List, Some, None, ◌≡◌, refl, eqb, length, get_or, set}
 use Rattle.std.proofs.Common.{⊎_elim, ap₂, ◌∙◌, le_refl, arith, length-set, get_or-set_same, get_or-set_other, eqb-true}
 use Rattle.std.proofs.Math.Path.{sym, ap}
 use Rattle.std.proofs.Math.Seq.{take-length}
 use Rattle.std.proofs.lemmas.Bool.{eqb-false}
 use Rattle.laws.specs.Below.{below_suc, lt_or_le}
 use Rattle.laws.specs.JoinedLaws.{list_of-same, take_is-list_of}
+use Rattle.dispatch.specs.Chosen.{number_of, of_number}
 use Rattle.dispatch.specs.Columns.{ColumnsOk, Filled, NextRelease, NoRelease, RanEarliest, RanFor, Released, column_row, column_tasks}
 use Rattle.dispatch.specs.DispatchLaws.{left_at, ready_at, left_at_start, slot_is_choice, slot_is_earliest}
 use Rattle.dispatch.specs.Earliest.{chosen_le_size, earliest_cong, earliest_is_choice}
@@ -15,23 +16,23 @@ use Rattle.dispatch.specs.Runs.{Uninterrupted, after_ticks, after_ticks-other, l
 use Rattle.dispatch.specs.SelectedTasks.{numbered}
 use Rattle.dispatch.specs.declared.Run.{Run}
 
-pub none_ran : (ticks : ℕ) (left : List ℕ) → RanFor 0 ticks left left
+pub none_ran : (ticks : ℕ) (left : List ℕ) → RanFor None ticks left left
 none_ran ticks left = record { same_length = refl; left = λ i. sym (after_ticks-other 0 ticks i (get_or left i 0) (λ e. omega arith)) }
 
-pub one_ran : (task ticks : ℕ) (left : List ℕ) → 0 < task → task ≤ length left →
-    RanFor task ticks left (set left (task - 1) (get_or left (task - 1) 0 - ticks))
+pub one_ran : (task ticks : ℕ) (left : List ℕ) → task < length left →
+    RanFor (Some task) ticks left (set left task (get_or left task 0 - ticks))
 unfolding after_ticks
-one_ran task ticks left some within = record { same_length = length-set left (task - 1) _; left = λ i. go i (eqb (suc i) task) refl }
+one_ran task ticks left within = record { same_length = length-set left task _; left = λ i. go i (eqb (suc i) (suc task)) refl }
   where
-    go : (i : ℕ) (b : Bool) → eqb (suc i) task ≡ b →
-        get_or (set left (task - 1) (get_or left (task - 1) 0 - ticks)) i 0 ≡ cond (eqb (suc i) task) (get_or left i 0 - ticks) (get_or left i 0)
+    go : (i : ℕ) (b : Bool) → eqb (suc i) (suc task) ≡ b →
+        get_or (set left task (get_or left task 0 - ticks)) i 0 ≡ cond (eqb (suc i) (suc task)) (get_or left i 0 - ticks) (get_or left i 0)
     go i true e =
-        let here : task - 1 ≡ i = omega (arith, eqb-true (suc i) task e) in
+        let here : task ≡ i = omega (arith, eqb-true (suc i) (suc task) e) in
         rw (e, here, get_or-set_same left i _ 0 (omega arith))
-    go i false e = rw e (get_or-set_other left (task - 1) i _ 0 (λ here. eqb-false (suc i) task e (omega arith)))
+    go i false e = rw e (get_or-set_other left task i _ 0 (λ here. eqb-false (suc i) (suc task) e (omega arith)))
 
 pub ran_is_task : {periods windows before after : List ℕ} {tick soonest : ℕ} {run : Run} →
-    RanEarliest periods windows tick soonest before after run → run.task ≤ length periods
+    RanEarliest periods windows tick soonest before after run → number_of run.task ≤ length periods
 ran_is_task ran = rw ran.is_earliest (chosen_le_size (earliest_is_choice _ _ _))
 
 pub fill_starts : (slots : List ℕ) (from slot : ℕ) → Filled slots slots from from slot
@@ -76,12 +77,12 @@ module _ (numbers periods windows ticks : List ℕ) where
     module _ (tick end soonest next : ℕ) (left ready after slots filled : List ℕ) (run : Run) (so_far : RowSoFar tick soonest left slots)
         (released : Released periods ticks tick left ready) (next_is : NextRelease periods (length periods) tick end next)
         (ran : RanEarliest periods windows tick next ready after run)
-        (fills : Filled slots filled tick run.end (numbered (λ j. get_or numbers j 0) run.task)) where
+        (fills : Filled slots filled tick run.end (numbered (λ j. get_or numbers j 0) (number_of run.task))) where
       is_ready : (i : ℕ) → i < length periods → get_or ready i 0 ≡ ready_at core tick i
       unfolding ready_at after_release
       is_ready i l = released.ready i l ∙ ap (after_release core tick i) (so_far.are_left i l)
 
-      is_slot : run.task ≡ slot_of core tick
+      is_slot : number_of run.task ≡ slot_of core tick
       unfolding due_at
       is_slot =
           ran.is_earliest
@@ -95,9 +96,7 @@ module _ (numbers periods windows ticks : List ℕ) where
         no_release = λ i u l later before.
             next_is.no_release.none i u (omega (arith, ok.one_job_each)) later (omega (arith, ran.until.later, ran.until.within));
         enough_left = λ k e.
-            let task : run.task ≡ suc k = is_slot ∙ e in
-            let place : run.task - 1 ≡ k = omega arith in
-            let enough = rw place at (ran.until.enough_left (omega arith)) in
+            let enough = of_number (λ i. run.end ≤ tick + get_or ready i 0) run.task k (is_slot ∙ e) ran.until.enough_left in
             omega (arith, enough, is_ready k (omega (arith, chosen_le_size (slot_is_choice core tick), ok.one_job_each)));
       }
 

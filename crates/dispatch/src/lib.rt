@@ -2,14 +2,16 @@
 // its tasks a number, a period, a window and the ticks of a job; and what each still has to run.
 #![tactic(auto)]
 
-ghost use Rattle.std.specs.Prelude.{cond, ◌≡◌, ℕ, ◌+◌, ◌-◌, ◌*◌, ◌/◌, ◌%◌, ◌≤◌, ◌<◌, eqb, length, get_or};
-ghost use Rattle.ranges.specs.Limits.{most_period, most_span, most_word};
+ghost use Rattle.std.specs.Prelude.{cond, ◌≡◌, ℕ, ◌-◌, ◌%◌, ◌≤◌, ◌<◌, IfSome, eqb, length, get_or};
+ghost use Rattle.ranges.specs.Limits.{most_span};
+ghost use Rattle.dispatch.specs.Chosen.{HasTicks, number_of};
 ghost use Rattle.dispatch.specs.Columns.{ColumnsOk, DuesOk, PeriodsOk, column_row, due_in};
 ghost use Rattle.dispatch.specs.Columns.{Filled, NextRelease, NoRelease, RanEarliest, RanFor, Released, RunsUntil};
 ghost use Rattle.dispatch.specs.Rows as rows;
 ghost use Rattle.dispatch.specs.SelectedTasks.{numbered};
 
 pub use ranges::Slot;
+use tick_steps::{Best, due_at};
 
 // The ticks left of a task once the jobs of this tick are released, from those left before: all of its ticks at a release.
 fn after_release(period: u32, ticks: u32, tick: u32, left: u32) -> u32
@@ -29,10 +31,8 @@ fn release(periods: &[u32], ticks: &[u32], tick: u32, left: &mut [u32])
     requires periods_in_bounds { length periods.now ≤ length left.old }
     ensures { Released periods.now ticks.now tick left.old left.new }
 {
-    let mut i = 0;
-    while i < periods.len() {
+    for i in 0..periods.len() {
         left[i] = after_release(periods[i], ticks[i], tick, left[i]);
-        i += 1;
     }
 }
 
@@ -57,10 +57,8 @@ fn soonest_release(periods: &[u32], tick: u32, end: u32) -> u32
     ensures { NextRelease periods.now (length periods.now) tick end result }
 {
     let mut soonest = end;
-    let mut i = 0;
-    while i < periods.len() {
-        soonest = next_release(periods[i], tick, soonest);
-        i += 1;
+    for period in periods {
+        soonest = next_release(*period, tick, soonest);
     }
     soonest
 }
@@ -89,81 +87,58 @@ fn release_due(
     soonest_release(periods, tick, end)
 }
 
-// The due tick of a task's job that was released last by this tick.
-fn due_at(period: u32, window: u32, tick: u32) -> u32
-    requires period_nonzero { 0 < period }
-    requires window_bound { tick + window ≤ most_word }
-    ensures { result ≡ tick / period * period + window }
-{
-    tick / period * period + window
-}
-
-// Of the tasks with ticks left the one that is due first, of equal ones the lowest, counted from 1; 0 where none has.
-fn earliest(periods: &[u32], windows: &[u32], tick: u32, left: &[u32]) -> usize
+// Of the tasks with ticks left the one that is due first, of equal ones the lowest.
+fn earliest(periods: &[u32], windows: &[u32], tick: u32, left: &[u32]) -> Option<usize>
     requires dues_ok { DuesOk periods.now windows.now }
-    requires most_period_bound { tick + most_period ≤ most_word }
     requires periods_in_bounds { length periods.now ≤ length left.now }
-    ensures { result ≡ rows.earliest (due_in periods.now windows.now tick) (λ i. get_or left.now i 0)
-        (length periods.now) }
+    ensures { number_of result ≡ rows.earliest (due_in periods.now windows.now tick)
+        (λ i. get_or left.now i 0) (length periods.now) }
 {
-    let mut best = 0;
-    let mut best_due = 0;
-    let mut i = 0;
-    while i < periods.len() {
+    let mut best: Option<Best> = None;
+    for i in 0..periods.len() {
         if left[i] != 0 {
             let due = due_at(periods[i], windows[i], tick);
-            if best == 0 || due < best_due {
-                best = i + 1;
-                best_due = due;
+            if best.is_none_or(|before| due < before.due) {
+                best = Some(Best { column: i, due });
             }
         }
-        i += 1;
     }
-    best
+    best.map(|best| best.column)
 }
 
 // The tick up to which a task runs from this one: to the end of its job, or to the soonest release where that comes sooner. With
-// no task, 0, the latter.
-fn run_end(task: usize, tick: u32, soonest: u32, left: &[u32]) -> u32
+// no task the latter.
+fn run_end(task: Option<usize>, tick: u32, soonest: u32, left: &[u32]) -> u32
     requires tick_lt_soonest { tick < soonest }
-    requires task_in_bounds { task ≤ length left.now }
-    requires nonzero { 0 < task → 0 < get_or left.now (task - 1) 0 }
+    requires has_ticks { IfSome task (HasTicks left.now) }
     ensures { RunsUntil left.now task tick soonest result }
 {
-    if task == 0 {
-        return soonest;
+    match task {
+        Some(i) => tick + left[i].min(soonest - tick),
+        None => soonest,
     }
-    let ticks = left[task - 1];
-    if ticks < soonest - tick {
-        return tick + ticks;
-    }
-    soonest
 }
 
 // A task runs for so many ticks.
-fn run_for(task: usize, ticks: u32, left: &mut [u32])
-    requires task_in_bounds { task ≤ length left.old }
-    requires ticks_bound { 0 < task → ticks ≤ get_or left.old (task - 1) 0 }
+fn run_for(task: Option<usize>, ticks: u32, left: &mut [u32])
+    requires { IfSome task (λ i. (i < length left.old) × (ticks ≤ get_or left.old i 0)) }
     ensures { RanFor task ticks left.old left.new }
 {
-    if task == 0 {
-        return;
+    if let Some(i) = task {
+        left[i] -= ticks;
     }
-    let i = task - 1;
-    left[i] = left[i] - ticks;
 }
 
-// The task that runs, counted from 1, or 0 for none; and the tick up to which it runs.
+// The task that runs, or none, and the tick up to which it runs.
 #[derive(Clone, Copy)]
 struct Run {
-    task: usize,
+    task: Option<usize>,
     end: u32,
 }
 
 // From this tick, whose jobs are released, the earliest due task runs as long as nothing can change the choice.
 fn run_earliest(periods: &[u32], windows: &[u32], tick: u32, soonest: u32, left: &mut [u32]) -> Run
     requires dues_ok { DuesOk periods.now windows.now }
-    requires most_period_bound { tick + most_period ≤ most_word }
     requires periods_in_bounds { length periods.now ≤ length left.old }
     requires tick_lt_soonest { tick < soonest }
     ensures { RanEarliest periods.now windows.now tick soonest left.old left.new result }
@@ -174,14 +149,15 @@ fn run_earliest(periods: &[u32], windows: &[u32], tick: u32, soonest: u32, left:
     Run { task, end }
 }
 
-pub fn slot_of(numbers: &[Slot], task: usize) -> Slot
-    requires { task ≤ length numbers.now }
-    ensures { result ≡ numbered (λ j. get_or numbers.now j 0) task }
+// What a slot shows: the number of the task that runs, or 0 for none.
+pub fn slot_of(numbers: &[Slot], task: Option<usize>) -> Slot
+    requires { IfSome task (λ j. j < length numbers.now) }
+    ensures { result ≡ numbered (λ j. get_or numbers.now j 0) (number_of task) }
 {
-    if task == 0 {
-        return 0;
+    match task {
+        Some(j) => numbers[j],
+        None => 0,
     }
-    numbers[task - 1]
 }
 
 // The slots from one tick up to, but without, another.
@@ -189,12 +165,7 @@ fn fill(slots: &mut [Slot], from: u32, to: u32, slot: Slot)
     requires { (from ≤ to) × (to ≤ length slots.old) }
     ensures { Filled slots.old slots.new from to slot }
 {
-    let end = to as usize;
-    let mut i = from as usize;
-    while i < end {
-        slots[i] = slot;
-        i += 1;
-    }
+    slots[from as usize..to as usize].fill(slot);
 }
 
 // The row, run by run, from tasks that have nothing left.

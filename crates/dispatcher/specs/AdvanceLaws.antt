@@ -1,6 +1,6 @@
 -- What one tick over columns comes to is a call for the core whose tasks they are.
 use Prim.Native.Nat.{ℕ, suc, ◌-◌, ◌≤◌, ◌<◌}
-use Rattle.std.specs.Prelude.{Bool, cond, List, ◌⊎◌, ◌≡◌, eqb}
+use Rattle.std.specs.Prelude.{Bool, cond, List, IfSome, ◌⊎◌, ◌≡◌, eqb}
 use Rattle.std.proofs.Common.{inl, inr, ◌∙◌}
 use Rattle.std.proofs.Math.Path.{refl, sym, ap, ap₂}
 use Rattle.std.proofs.Math.Nat.{lt_of_lt_of_le}
@@ -12,6 +12,7 @@ use Rattle.laws.specs.Lists.{list_of}
 use Rattle.ranges.specs.Limits.{most_tasks}
 use Rattle.dispatch.specs.CallLaws.{ready_for, ready_for_at_most, call_answers_choice, call_leaves}
 use Rattle.dispatch.specs.Calls.{ended_early, wrapped, call}
+use Rattle.dispatch.specs.Chosen.{chosen_below, number_of}
 use Rattle.dispatch.specs.Columns.{column_tasks, due_in}
 use Rattle.dispatch.specs.Earliest.{Choice, choice_unique, chosen_has_left, chosen_le_size, earliest_is_choice}
 use Rattle.dispatch.specs.Rows.{CoreTasks, due_at, after_release, after_run, earliest, step}
@@ -97,19 +98,22 @@ module _ (numbers periods windows ticks : List ℕ) (columns : CoreColumns numbe
               ∙ ap (ready_for core ended (as_dispatch s)) here
           go (inr beyond) = nothing_elsewhere i l beyond
 
-      chosen_column : Choice (due_at in_columns s.tick) (ready_in numbers periods ticks s ended) in_columns.size chosen.column
+      chosen_column : Choice (due_at in_columns s.tick) (ready_in numbers periods ticks s ended) in_columns.size (number_of chosen.column)
       unfolding due_at
       chosen_column =
           rw (chooses.is_earliest ∙ ap (earliest (due_in periods windows s.tick) (ready_in numbers periods ticks s ended)) (sym columns.one_job_each))
           (earliest_is_choice _ _ (length ticks))
 
-      pub column_is_one : chosen.column ≤ length numbers
-      column_is_one = omega (arith, chosen_le_size chosen_column, columns.one_job_each)
+      column_within : number_of chosen.column ≤ length numbers
+      column_within = omega (arith, chosen_le_size chosen_column, columns.one_job_each)
 
-      pub column_is_answer : numbered (λ j. get_or numbers j 0) chosen.column ≡ (call core span ended (as_dispatch s)).last
+      pub column_is_one : IfSome chosen.column (λ j. j < length numbers)
+      column_is_one = chosen_below chosen.column (length numbers) column_within
+
+      pub column_is_answer : numbered (λ j. get_or numbers j 0) (number_of chosen.column) ≡ (call core span ended (as_dispatch s)).last
       unfolding numbered_tasks
       column_is_answer =
-          sym (numbered_same (λ j. suc (place_of numbers j)) (λ j. get_or numbers j 0) (length numbers) number_at chosen.column column_is_one)
+          sym (numbered_same (λ j. suc (place_of numbers j)) (λ j. get_or numbers j 0) (length numbers) number_at (number_of chosen.column) column_within)
           ∙ choice_unique
           (choice_of_all core in_columns (place_of numbers) columns_are_selected s.tick (ready_for core ended (as_dispatch s)) _
           (λ j l. ready_in_column j (is_column j l))
@@ -117,7 +121,7 @@ module _ (numbers periods windows ticks : List ℕ) (columns : CoreColumns numbe
           chosen_column)
           (call_answers_choice core span ended (as_dispatch s))
 
-      module _ (task : ℕ) (is_number : task ≡ numbered (λ j. get_or numbers j 0) chosen.column) where
+      module _ (task : ℕ) (is_number : task ≡ numbered (λ j. get_or numbers j 0) (number_of chosen.column)) where
         is_answer : task ≡ (call core span ended (as_dispatch s)).last
         is_answer = is_number ∙ column_is_answer
 

@@ -7,7 +7,6 @@ pub mod StateLaws
 pub mod PlacedTicks
 pub mod Ticks
 pub mod PlaceUpdates
-pub mod PickLaws
 pub mod AdvanceLaws
 pub mod TickOutcomeLaws
 pub mod NextStateLaws

@@ -16,11 +16,11 @@ use ranges::{MOST_TASKS, Slot};
 use refusals::{Refusal, Verdict};
 use tick_steps::{Best, due_at, earlier, is_over, is_released, next_tick, ready_ticks};
 
-// The ticks left once an early end is applied and the jobs of a tick are released, and the column of the task that then runs, counted from 1, or 0 for none.
+// The ticks left once an early end is applied and the jobs of a tick are released, and the column of the task that then runs, or none.
 #[derive(Clone, Copy)]
 struct Chosen {
     left: [u32; MOST_TASKS as usize],
-    column: usize,
+    column: Option<usize>,
 }
 
 // Applies an early end, releases the jobs of this tick and chooses.
@@ -36,9 +36,8 @@ fn release_and_choose(
     ensures { ChosenColumn numbers.now periods.now windows.now ticks.now state ended result }
 {
     let mut after = state.left;
-    let mut best = Best { column: 0, due: 0 };
-    let mut j = 0;
-    while j < numbers.len() {
+    let mut best: Option<Best> = None;
+    for j in 0..numbers.len() {
         let number = numbers[j] as u32;
         let place = number as usize - 1;
         let released = is_released(periods[j], state.tick);
@@ -46,11 +45,10 @@ fn release_and_choose(
         let ready = ready_ticks(released, over, ticks[j], after[place]);
         after[place] = ready;
         best = earlier(best, j, ready, due_at(periods[j], windows[j], state.tick));
-        j += 1;
     }
     Chosen {
         left: after,
-        column: best.column,
+        column: best.map(|best| best.column),
     }
 }
 

@@ -1,5 +1,5 @@
 -- The demand of a core's kept tasks, in columns, is the core's.
-use Rattle.std.specs.Prelude.{ℕ, ◌≤◌, ◌<◌, false, List, ◌≡◌, refl, eqb, length, get_or, take}
+use Rattle.std.specs.Prelude.{ℕ, ◌≤◌, ◌<◌, false, List, Option, is_none, ◌≡◌, refl, length, get_or, take}
 use Rattle.std.proofs.Math.Path.{ap}
 use Rattle.std.proofs.Common.{sym, ◌∙◌, zero-mul, arith, get_or-take, length-take-le}
 use Rattle.ranges.specs.Limits.{most_tasks}
@@ -81,7 +81,7 @@ module _ (p : Problem) (v : Valid p) (plan : List ℕ) (k : ℕ) (kept : KeptTas
       (λ j l. rw (period_in_front j l, window_in_front j l, ticks_in_front j l) refl)
       ∙ sum_over_kept p plan k kept columns (ticks_due core x) (λ i (e : keeps p plan k i ≡ false). rw e (zero-mul _))
 
-  pub unmet_tick_decides_fit : (w r : ℕ) → w ≡ span p → UnmetTick (kept_core kept) w r → eqb r 0 ≡ fits p plan k
+  pub unmet_tick_decides_fit : (w : ℕ) (r : Option ℕ) → w ≡ span p → UnmetTick (kept_core kept) w r → is_none r ≡ fits p plan k
   unfolding fits
   unmet_tick_decides_fit w r wide answer =
       let core = core_tasks p plan k in

@@ -61,7 +61,7 @@ fn core_fits(inst: Instance, plan: &[u32], k: usize) -> bool
     let periods = kept.periods;
     let windows = kept.windows;
     let ticks = kept.ticks;
-    unmet_tick(inst.span, &periods[..n], &windows[..n], &ticks[..n]) == 0
+    unmet_tick(inst.span, &periods[..n], &windows[..n], &ticks[..n]).is_none()
 }
 
 fn cores_fit(inst: Instance, plan: &[u32]) -> Verdict

@@ -3,35 +3,26 @@
 #![tactic(auto)]
 
 ghost use Rattle.std.specs.Prelude.{cond, ◌&&◌, ◌≡◌, suc, ◌+◌, ◌*◌, ◌/◌, ◌%◌, ◌<◌, eqb};
-ghost use Rattle.ranges.specs.Limits.{most_tasks};
 ghost use Rattle.tick_steps.specs.Choosing.{Earlier};
 
-// The column of a task, counted from 1, or 0 for none, and the tick at which it is due.
+// The column of a task that is chosen, and the tick at which it is due.
 #[derive(Clone, Copy)]
 pub struct Best {
     pub column: usize,
     pub due: u64,
 }
 
-// The better of a choice and one more task.
-pub fn earlier(best: Best, column: usize, left: u32, due: u64) -> Best
-    requires { column < most_tasks }
+// The better of a choice, where there is one yet, and one more task.
+pub fn earlier(best: Option<Best>, column: usize, left: u32, due: u64) -> Option<Best>
     ensures { Earlier best column left due result }
 {
     if left == 0 {
         return best;
     }
-    let next = Best {
-        column: column + 1,
-        due,
-    };
-    if best.column == 0 {
-        return next;
+    match best {
+        Some(before) if before.due <= due => best,
+        _ => Some(Best { column, due }),
     }
-    if due < best.due {
-        return next;
-    }
-    best
 }
 
 // The due tick of a task's job that was released last by this tick.
@@ -53,10 +44,7 @@ pub fn is_released(period: u32, tick: u32) -> bool
 pub fn is_over(number: u32, last: u32, ended: bool) -> bool
     ensures { result ≡ (ended && eqb number last) }
 {
-    if ended {
-        return number == last;
-    }
-    false
+    ended && number == last
 }
 
 // The ticks left of a task: an early end leaves none, and then a job that is released has all of its own.

@@ -1,5 +1,5 @@
 -- Columns of the words of timings, and the test of a whole pattern by them.
-use Rattle.std.specs.Prelude.{ℕ, ◌+◌, ◌*◌, ◌≤◌, ◌<◌, Bool, List, ◌≡◌, refl, eqb, length, set, take, replicate}
+use Rattle.std.specs.Prelude.{ℕ, ◌+◌, ◌*◌, ◌≤◌, ◌<◌, Bool, List, Option, is_none, ◌≡◌, refl, length, set, take, replicate}
 use Rattle.std.proofs.Math.Path.{sym, ap}
 use Rattle.std.proofs.Common.{◌∙◌, arith, length-set, get_or-set_same, get_or-set_other, length-take-le}
 use Rattle.std.proofs.Math.ListN.{get_or}
@@ -89,7 +89,7 @@ module _ {timed : Timed} {timings : List ℕ} (periods windows ticks : List ℕ)
         ticks = λ i l. get_or-take timed.items ticks i 0 (is_item i l);
       }
 
-  pub unmet_of_columns : {r : ℕ} → UnmetTick columns timed.span r → UnmetTick (column_jobs timed timings ticks) timed.span r
+  pub unmet_of_columns : {r : Option ℕ} → UnmetTick columns timed.span r → UnmetTick (column_jobs timed timings ticks) timed.span r
   unmet_of_columns {r} answer =
       unmet_tick_of_same_demand columns (column_jobs timed timings ticks) (same_demand _ _ same_jobs) timed.span r answer
 
@@ -105,8 +105,8 @@ module _ {timed : Timed} {timings cost : List ℕ} {node : Node} {q : List ℕ} 
         ticks = λ i l. stands.ticks i;
       }
 
-  pub unmet_tick_admits : {r : ℕ} → UnmetTick (column_jobs timed timings node.ticks) timed.span r →
-      eqb r 0 ≡ (timed_core timed timings cost).admits q
+  pub unmet_tick_admits : {r : Option ℕ} → UnmetTick (column_jobs timed timings node.ticks) timed.span r →
+      is_none r ≡ (timed_core timed timings cost).admits q
   unmet_tick_admits {r} answer =
       unmet_tick_decides _ timed.span r
       (unmet_tick_of_same_demand (column_jobs timed timings node.ticks) (pattern_tasks (timings_of timings timed.items) q)

@@ -1,7 +1,7 @@
 -- Sets with fewer items are served where those with more are. Where the items of a set are not served at their fewest ticks, no pattern of a
 -- set that has them is admitted.
 use Prim.Native.Nat.{ℕ, zero, suc, ◌+◌, ◌-◌, ◌*◌, ◌/◌, ◌%◌, ◌^◌, ◌≤◌, ◌<◌}
-use Rattle.std.specs.Prelude.{Bool, true, false, cond, List, [], ◌∷◌, ◌≡◌, eqb, length, set, replicate}
+use Rattle.std.specs.Prelude.{Option, is_none, Bool, true, false, cond, List, [], ◌∷◌, ◌≡◌, length, set, replicate}
 use Rattle.std.proofs.Math.Path.{refl, ap}
 use Rattle.std.proofs.Common.{sym, ◌∙◌, le_refl, zero-add, pow-suc, length-set, pow-add, pow_pos, get_or-set_same, get_or-set_other}
 use Rattle.std.proofs.Math.Nat.{div-eq_of_lt, le_trans, mul-add-div_right, mul-le-mul_right, zero-div}
@@ -148,7 +148,7 @@ module _ (timed : Timed) (timings column : List ℕ) where
   set_tasks made = record { size = refl; period = λ i l. refl; window = λ i l. refl; ticks = made.at }
 
   pub unmet_tick_serves : {x : ℕ} {of_set : List ℕ} → SetColumn timed.items x column timed.items of_set →
-      {r : ℕ} → UnmetTick (column_jobs timed timings of_set) timed.span r → eqb r 0 ≡ served_at timed timings column x
+      {r : Option ℕ} → UnmetTick (column_jobs timed timings of_set) timed.span r → is_none r ≡ served_at timed timings column x
   unfolding served_at
   unmet_tick_serves made {r} answer = unmet_tick_decides _ timed.span r answer ∙ same_tasks_meet _ _ (set_tasks made) timed.span
 

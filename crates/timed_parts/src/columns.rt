@@ -25,8 +25,8 @@ pub fn column_of<T: Copy, F: Fn(usize) -> T>(items: usize, other: T, entry: F) -
     column
 }
 
-// A tick of the span by which more is due than there are ticks up to it, with these ticks of a job of each item; 0 where there is none.
-pub(crate) fn unmet_of(timed: Timed, column: [u32; MOST_ITEMS], timings: &[u32]) -> u32
+// A tick of the span by which more is due than there are ticks up to it, with these ticks of a job of each item, if there is one.
+pub(crate) fn unmet_of(timed: Timed, column: [u32; MOST_ITEMS], timings: &[u32]) -> Option<u32>
     requires timed_items { TimedItems timed timings.now }
     requires column_len { length column ≡ most_items }
     ensures { UnmetTick (column_jobs timed timings.now column) timed.span result }
@@ -44,5 +44,5 @@ pub fn is_admitted(timed: Timed, node: Node, timings: &[u32]) -> bool
     ensures { (cost q : List ℕ) (T : List Bool) → Stands timed timings.now cost node q T →
         result ≡ (timed_core timed timings.now cost).admits q }
 {
-    unmet_of(timed, node.ticks, timings) == 0
+    unmet_of(timed, node.ticks, timings).is_none()
 }

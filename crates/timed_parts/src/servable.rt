@@ -64,5 +64,5 @@ pub fn is_served(timed: Timed, set: usize, column: [u32; MOST_ITEMS], timings: &
     ensures { result ≡ served_at timed timings.now column set }
 {
     let of_set = column_of_set(timed.items, set, column);
-    unmet_of(timed, of_set, timings) == 0
+    unmet_of(timed, of_set, timings).is_none()
 }

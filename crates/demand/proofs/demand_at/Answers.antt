@@ -2,7 +2,6 @@ use Prim.Native.Nat.{ℕ, ◌+◌, ◌*◌, ◌≤◌}
 use mathlib.Core.Path.{◌≡◌, refl, ap, ap₂, ◌∙◌}
 use native.Mathlib.Numerals.{add-one}
 use native.Mathlib.Omega.{arith}
-use borrow.Author.Rules.{rules}
 use lib.ListN.{length, get_or}
 use Rattle.laws.specs.Sums.{sum}
 use Rattle.ranges.specs.Limits.{most_span, most_tasks, most_word}
@@ -38,7 +37,7 @@ so_far c =
 
 pub loop-i-init : goal.loop-i-init
 unfolding sum
-loop-i-init c = (search rules, refl)
+loop-i-init c = refl
 
 pub jobs_due-requires : goal.jobs_due-requires
 jobs_due-requires c =
@@ -49,12 +48,12 @@ pub overflow_mul-due : goal.overflow_mul-due
 overflow_mul-due c = omega (arith, its_ticks (goal.at.overflow_mul-due c).After-jobs_due, so_far (goal.at.overflow_mul-due c).After-jobs_due)
 
 pub overflow_add-due : goal.overflow_add-due
-overflow_add-due c = omega (arith, its_ticks (goal.at.overflow_add-due c).After-jobs_due, so_far (goal.at.overflow_add-due c).After-jobs_due, c.loop-i.invariant.1)
+overflow_add-due c = omega (arith, its_ticks (goal.at.overflow_add-due c).After-jobs_due, so_far (goal.at.overflow_add-due c).After-jobs_due, c.loop-i.invariant)
 
 pub loop-i-preserved : goal.loop-i-preserved
 unfolding sum
 loop-i-preserved c =
-    (search rules, rw add-one (ap₂ ◌+◌ c.loop-i.invariant.1 (its_ticks (goal.at.loop-i-preserved c).After-jobs_due)))
+    rw add-one (ap₂ ◌+◌ c.loop-i.invariant (its_ticks (goal.at.loop-i-preserved c).After-jobs_due))
 
 pub returns : goal.returns
 unfolding demand_at
@@ -62,4 +61,4 @@ returns c =
     let args = c.args in
     let its = ticks_due (column_tasks args.periods.now args.windows.now args.ticks.now) args.tick in
     let all : c.loop-i.i ≡ length args.ticks.now = omega arith in
-    c.loop-i.invariant.1 ∙ ap (sum its) all
+    c.loop-i.invariant ∙ ap (sum its) all

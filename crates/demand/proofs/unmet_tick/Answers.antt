@@ -5,7 +5,7 @@ use Rattle.demand.proofs.unmet_tick.Goals as goal
 pub returns-then-span-demand_at : goal.returns-then-span-demand_at
 returns-then-span-demand_at c =
     let ok = c.requires in
-    found_unmet _ _ _ ok.whole_periods.span_above_0 (search rules) (rw c.demand_at.ensures at c.if-span-demand_at.true)
+    found_unmet _ _ _ (search rules) (rw c.demand_at.ensures at c.if-span-demand_at.true)
 
 pub returns : goal.returns
 returns c =

@@ -13,22 +13,12 @@ demand_at-due-requires c =
 
 pub returns-then-tick-due : goal.returns-then-tick-due
 returns-then-tick-due c =
-    let inv = c.loop-tick.invariant in
-    found_unmet _ _ _ c.loop-tick-test.true inv.0 (rw c.demand_at-due.ensures at c.if-tick-due.true)
-
-pub returns-then-due-le1 : goal.returns-then-due-le1
-returns-then-due-le1 c =
-    let wf = c.requires.job_columns.well_formed in
-    let due = c.demand_at-due.ensures in
-    let few = c.if-due-le1.true in
-    none_unmet _ _ wf (goes_on_at _ _ wf _ 0 (omega arith) c.loop-tick.invariant.1)
+    found_unmet _ _ _ c.loop-tick.invariant.0 (rw c.demand_at-due.ensures at c.if-tick-due.true)
 
 pub loop-tick-preserved : goal.loop-tick-preserved
 loop-tick-preserved c =
     let wf = c.requires.job_columns.well_formed in
     let due = c.demand_at-due.ensures in
-    let above = c.if-due-le1.false in
-    let met = c.if-tick-due.false in
     let inv = c.loop-tick.invariant in
     (omega (arith, inv.0), goes_on_at _ _ wf _ _ (omega arith) inv.1)
 

@@ -1,49 +1,35 @@
-use mathlib.Core.Path.{◌≡◌, refl, ◌∙◌}
+use mathlib.Core.Path.{◌≡◌}
 use native.Mathlib.Omega.{arith}
-use borrow.Author.Rules.{rules}
 use lib.ListN.{length}
-use mathlib.Core.Logic.{inl, inr}
-use Rattle.dispatch.specs.EarliestSoFar.{pick_passes_idle, pick_keeps, pick_takes}
-use Rattle.dispatch.specs.Rows.{due_at, earliest}
+use Rattle.std.proofs.Common.{rules}
+use borrow.Author.Tests.{tests}
+use Rattle.dispatch.specs.EarliestSoFar.{column_of, is_better, is_no_better, none_picked, pick_passes_idle, pick_keeps, pick_takes}
+use Rattle.dispatch.specs.Rows.{due_at}
 use Rattle.dispatch.proofs.earliest.Goals as goal
-use Rattle.dispatch.proofs.earliest.Goals.{then-left-i-ne0+then-best-eq0, then-best-eq0-via-then-best-eq0, then-best-eq0-via-else-best-eq0+then-due-best_due, then-left-i-ne0+else-best-eq0+else-due-best_due, else-left-i-ne0}
+use Rattle.dispatch.proofs.earliest.Goals.{then-left-i-ne0+then-is_none_or, then-left-i-ne0+else-is_none_or, else-left-i-ne0}
 
 pub loop-i-init : goal.loop-i-init
-unfolding earliest
-loop-i-init c = (search rules, record { number = refl; is_due = λ some. absurd (some refl) })
-
-pub due_at-due-requires : goal.due_at-due-requires
-due_at-due-requires c =
-    let start = c in
-    let below = c.loop-i-test.true in
-    record { period_nonzero = start.requires.dues_ok.periods_ok.above_0 _ below; window_bound = omega (arith, start.requires.dues_ok.window_bounded _ below, start.requires.most_period_bound) }
+loop-i-init c = none_picked _ _
 
 pub returns : goal.returns
 returns c =
     let at = c.loop-i in
     let all : at.i ≡ length c.args.periods.now = omega arith in
-    rw all at at.invariant.1.number
+    let mapped : c.map.result ≡ column_of at.best = search rules in
+    rw (mapped, ← all) at.invariant.number
 
 pub loop-i-preserved : goal.loop-i-preserved
 unfolding due_at
 loop-i-preserved c =
     let at = c.loop-i in
-    let picked = at.invariant.1 in (
-      search rules,
-      elim c.if-left-i-ne0.branch [
-        | then-left-i-ne0+then-best-eq0 w ↦
-            let due = w.due_at-due.ensures in
-            rw (w.best-is, w.best_due-is ∙ due)
-            (pick_takes _ _ at.i at.best at.best_due picked w.if-left-i-ne0.true
-            (elim w.then-best-eq0.branch [
-              | then-best-eq0-via-then-best-eq0 first ↦ inl first.if-best-eq0.true
-              | then-best-eq0-via-else-best-eq0+then-due-best_due earlier ↦ inr (omega (arith, due, earlier.if-due-best_due.true))
-            ]))
-        | then-left-i-ne0+else-best-eq0+else-due-best_due w ↦
-            let due = w.due_at-due.ensures in
-            rw (w.best-is, w.best_due-is)
-            (pick_keeps _ _ at.i at.best at.best_due picked w.if-left-i-ne0.true w.if-best-eq0.false
-            (omega (arith, due, w.if-due-best_due.false)))
-        | else-left-i-ne0 w ↦ rw (w.best-is, w.best_due-is) (pick_passes_idle _ _ at.i at.best at.best_due picked w.if-left-i-ne0.false)
-      ],
-    )
+    elim c.if-left-i-ne0.branch [
+      | then-left-i-ne0+then-is_none_or w ↦
+          rw (w.best-is, w.due_at-due.ensures)
+          (pick_takes _ _ at.i at.best at.invariant w.if-left-i-ne0.true
+          (rw w.due_at-due.ensures at (is_better at.best w.due_at-due.result _ _ (λ x p. search (rules, tests)) w.is_none_or.ensures w.if-is_none_or.true)))
+      | then-left-i-ne0+else-is_none_or w ↦
+          let kept = is_no_better at.best w.due_at-due.result _ _ (λ x p. search (rules, tests)) w.is_none_or.ensures w.if-is_none_or.false in
+          rw (w.best-is, kept.1)
+          (pick_keeps _ _ at.i kept.0 (rw kept.1 at at.invariant) w.if-left-i-ne0.true (omega (arith, w.due_at-due.ensures, kept.2)))
+      | else-left-i-ne0 w ↦ rw w.best-is (pick_passes_idle _ _ at.i at.best at.invariant w.if-left-i-ne0.false)
+    ]

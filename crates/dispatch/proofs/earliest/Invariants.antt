@@ -1,13 +1,8 @@
 -- `earliest` picks as the definition does, one task a turn.
-use Prim.Native.Nat.{◌-◌, ◌≤◌}
-use lib.ListN.{length, get_or}
+use lib.ListN.{get_or}
 use Rattle.dispatch.specs.Columns.{due_in}
 use Rattle.dispatch.specs.EarliestSoFar.{Picked}
 use Rattle.dispatch.proofs.earliest.Given as goal
 
 abbrev pub invariant-loop-i : goal.invariant-loop-i
-invariant-loop-i l =
-    (l.i ≤ length l.periods) × Picked (due_in l.periods l.windows l.tick) (λ k. get_or l.left k 0) l.i l.best l.best_due
-
-abbrev pub decreases-loop-i : goal.decreases-loop-i
-decreases-loop-i l = length l.periods - l.i
+invariant-loop-i l = Picked (due_in l.periods l.windows l.tick) (λ k. get_or l.left k 0) l.i l.best

@@ -1,13 +1,12 @@
 use mathlib.Core.Path.{refl, ◌∙◌}
 use native.Mathlib.Omega.{arith}
-use borrow.Author.Rules.{rules}
 use lib.ListN.{length-set}
 use Rattle.dispatch.specs.Rows.{after_release}
 use Rattle.dispatch.specs.ReleaseLaws.{none_released, release_next, all_released}
 use Rattle.dispatch.proofs.release.Goals as goal
 
 pub loop-i-init : goal.loop-i-init
-loop-i-init c = (search rules, refl, none_released _ _ _ _)
+loop-i-init c = (refl, none_released _ _ _ _)
 
 pub after_release-requires : goal.after_release-requires
 after_release-requires c =
@@ -19,12 +18,11 @@ unfolding after_release
 loop-i-preserved c =
     let at = c.loop-i in
     let room = c.requires.periods_in_bounds in (
-      search rules,
-      length-set at.left at.i _ ∙ at.invariant.1,
-      release_next _ _ _ _ at.left at.i _ (omega (arith, room)) at.invariant.2 c.after_release.ensures,
+      length-set at.left at.i _ ∙ at.invariant.0,
+      release_next _ _ _ _ at.left at.i _ (omega (arith, room)) at.invariant.1 c.after_release.ensures,
     )
 
 pub returns : goal.returns
 returns c =
     let at = c.loop-i in
-    all_released _ _ _ _ _ at.i (omega arith) (omega (arith, c.requires.periods_in_bounds)) at.invariant.2
+    all_released _ _ _ _ _ at.i (omega arith) (omega (arith, c.requires.periods_in_bounds)) at.invariant.1

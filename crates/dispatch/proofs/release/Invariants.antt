@@ -1,5 +1,4 @@
 -- `release` has released the jobs of the tasks that it has passed.
-use Prim.Native.Nat.{◌-◌, ◌≤◌}
 use mathlib.Core.Path.{◌≡◌}
 use lib.ListN.{length}
 use Rattle.dispatch.specs.ReleaseLaws.{released_so_far}
@@ -7,7 +6,4 @@ use Rattle.dispatch.proofs.release.Given as goal
 
 abbrev pub invariant-loop-i : goal.invariant-loop-i
 invariant-loop-i l =
-    (l.i ≤ length l.periods) × (length l.left ≡ length l.initial.left) × (l.left ≡ released_so_far l.periods l.ticks l.tick l.initial.left l.i)
-
-abbrev pub decreases-loop-i : goal.decreases-loop-i
-decreases-loop-i l = length l.periods - l.i
+    (length l.left ≡ length l.initial.left) × (l.left ≡ released_so_far l.periods l.ticks l.tick l.initial.left l.i)

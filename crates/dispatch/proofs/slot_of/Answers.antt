@@ -1,13 +1,11 @@
-use mathlib.Core.Path.{◌≡◌, refl, sym}
-use native.Mathlib.Omega.{arith}
-use Rattle.dispatch.specs.SelectedTasks.{numbered, numbered_task}
+use Rattle.dispatch.specs.SelectedTasks.{numbered}
+use Rattle.std.proofs.Common.{rules}
 use Rattle.dispatch.proofs.slot_of.Goals as goal
 
-pub returns-then-task-eq0 : goal.returns-then-task-eq0
+pub returns-in-Some : goal.returns-in-Some
 unfolding numbered
-returns-then-task-eq0 c =
-    let none : c.args.task ≡ 0 = c.if-task-eq0.true in
-    rw none refl
+returns-in-Some c = search rules
 
-pub returns : goal.returns
-returns c = sym (numbered_task _ c.args.task (omega arith))
+pub returns-in-None : goal.returns-in-None
+unfolding numbered
+returns-in-None c = search rules

@@ -1,6 +1,7 @@
 use mathlib.Core.Path.{refl, ap, ◌∙◌}
 use native.Mathlib.Omega.{arith}
 use borrow.Author.Rules.{rules}
+use Rattle.dispatch.specs.Chosen.{chosen_below}
 use Rattle.dispatch.specs.Columns.{column_row}
 use Rattle.dispatch.specs.RowLaws.{row_starts, row_goes_on, row_ends, ran_is_task}
 use Rattle.dispatch.proofs.write_row.Goals as goal
@@ -19,12 +20,12 @@ release_due-soonest-requires c =
 pub run_earliest-run-requires : goal.run_earliest-run-requires
 run_earliest-run-requires c =
     let pre = c.requires in
-    let released = c.release_due-soonest.ensures in record { dues_ok = pre.columns_ok.dues_ok; most_period_bound = omega (arith, pre.slots_len_bound, c.loop-tick-test.true); periods_in_bounds = omega (arith, released.released.same_length, pre.periods_in_bounds, c.loop-tick.invariant.2); tick_lt_soonest = released.next_release.later }
+    let released = c.release_due-soonest.ensures in record { dues_ok = pre.columns_ok.dues_ok; periods_in_bounds = omega (arith, released.released.same_length, pre.periods_in_bounds, c.loop-tick.invariant.2); tick_lt_soonest = released.next_release.later }
 
 pub slot_of-requires : goal.slot_of-requires
 slot_of-requires c =
     let ok = c.requires.columns_ok in
-    omega (arith, ran_is_task c.run_earliest-run.ensures, ok.one_number_each)
+    chosen_below _ _ (omega (arith, ran_is_task c.run_earliest-run.ensures, ok.one_number_each))
 
 pub fill-requires : goal.fill-requires
 fill-requires c =

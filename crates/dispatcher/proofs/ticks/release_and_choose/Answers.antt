@@ -1,7 +1,7 @@
 use Prim.Native.Nat.{ℕ, suc, ◌<◌}
 use mathlib.Core.List.{[]}
 use mathlib.Core.Bool.{Bool, cond, ◌&&◌}
-use mathlib.Core.Path.{◌≡◌, refl, ap, ap₂, ◌∙◌}
+use mathlib.Core.Path.{◌≡◌, ap, ap₂, ◌∙◌}
 use native.Mathlib.Omega.{arith}
 use borrow.Author.Rules.{rules}
 use lib.Dec.{eqb}
@@ -9,9 +9,8 @@ use lib.ListN.{length, get_or}
 use Rattle.ranges.specs.Limits.{most_tasks}
 use Rattle.dispatch.specs.Calls.{after_end}
 use Rattle.dispatch.specs.Columns.{column_tasks}
-use Rattle.dispatch.specs.Rows.{after_release, due_at, earliest}
-use Rattle.dispatcher.specs.ColumnLaws.{column_below_number}
-use Rattle.dispatcher.specs.PickLaws.{picks_next}
+use Rattle.dispatch.specs.EarliestSoFar.{column_of, none_picked, picks_next}
+use Rattle.dispatch.specs.Rows.{after_release, due_at}
 use Rattle.dispatcher.specs.Places.{place_of, none_placed, place_within, not_yet_placed, next_placed}
 use Rattle.dispatcher.specs.Ticks.{ready_in}
 use Rattle.dispatcher.proofs.ticks.release_and_choose.Goals as goal
@@ -21,9 +20,8 @@ place_below : (c : goal.In-loop-j) → place_of c.args.numbers.now c.loop-j.j < 
 place_below c = place_within _ c.requires.numbers_rise _ c.loop-j-test.true
 
 pub loop-j-init : goal.loop-j-init
-unfolding earliest
 loop-j-init c =
-    (omega arith, none_placed _ _ _ (search rules), record { number = refl; is_due = λ some. absurd (some refl) })
+    (none_placed _ _ _ (search rules), none_picked _ _)
 
 pub overflow_cast-number : goal.overflow_cast-number
 overflow_cast-number c = omega (arith, c.type_inv.numbers c.loop-j.j)
@@ -64,12 +62,6 @@ bounds-windows-j c = omega (arith, c.requires.one_window_each, c.loop-j-test.tru
 pub due_at-requires : goal.due_at-requires
 due_at-requires c = c.requires.period_above_0 _ c.loop-j-test.true
 
-pub earlier-best-requires : goal.earlier-best-requires
-earlier-best-requires c =
-    let rise = c.requires.numbers_rise in
-    let below = c.loop-j-test.true in
-    omega (arith, column_below_number _ rise _ below, rise.at_most _ below)
-
 is_ready : (c : goal.After-ready_ticks-ready) →
     let args = c.args in
     c.ready_ticks-ready.result ≡ ready_in args.numbers.now args.periods.now args.ticks.now args.state args.ended c.loop-j.j
@@ -78,7 +70,7 @@ is_ready c =
     let args = c.args in
     let at = c.loop-j in
     let below = c.loop-j-test.true in
-    let as_before = not_yet_placed args.numbers.now _ args.state.left c.requires.numbers_rise at.after at.j at.invariant.1 below in
+    let as_before = not_yet_placed args.numbers.now _ args.state.left c.requires.numbers_rise at.after at.j at.invariant.0 below in
     let number : get_or args.numbers.now at.j 0 ≡ suc (place_of args.numbers.now at.j) = omega (arith, c.requires.numbers_rise.above_0 _ below) in
     c.ready_ticks-ready.ensures
     ∙ ap₂ (λ (released over : Bool). cond released (get_or args.ticks.now at.j 0) (cond over 0 (get_or at.after (place_of args.numbers.now at.j) 0)))
@@ -93,13 +85,13 @@ loop-j-preserved c =
     let at = c.loop-j in
     let below = c.loop-j-test.true in
     let ready = is_ready (goal.at.loop-j-preserved c).After-ready_ticks-ready in (
-      omega (arith, below),
-      next_placed args.numbers.now _ args.state.left c.requires.numbers_rise at.after at.j at.invariant.1 below _ ready,
-      picks_next _ _ at.j at.best at.invariant.2 _ _ ready c.due_at.ensures c.earlier-best.ensures,
+      next_placed args.numbers.now _ args.state.left c.requires.numbers_rise at.after at.j at.invariant.0 below _ ready,
+      picks_next _ _ at.j _ _ ready c.due_at.ensures at.invariant.1 c.earlier-best.ensures,
     )
 
 pub returns : goal.returns
 returns c =
     let at = c.loop-j in
     let all : at.j ≡ length c.args.numbers.now = omega arith in
-    record { released = rw all at at.invariant.1; is_earliest = rw all at at.invariant.2.number }
+    let mapped : c.map.result ≡ column_of at.best = search rules in
+    record { released = rw all at at.invariant.0; is_earliest = rw (mapped, ← all) at.invariant.1.number }

@@ -1,6 +1,4 @@
 -- `release_and_choose` has ended and released the jobs of the columns that it has passed, and picked among their tasks.
-use Prim.Native.Nat.{◌-◌, ◌≤◌}
-use lib.ListN.{length}
 use Rattle.dispatch.specs.Columns.{due_in}
 use Rattle.dispatch.specs.EarliestSoFar.{Picked}
 use Rattle.dispatcher.specs.Places.{Placed}
@@ -9,9 +7,5 @@ use Rattle.dispatcher.proofs.ticks.release_and_choose.Given as goal
 
 abbrev pub invariant-loop-j : goal.invariant-loop-j
 invariant-loop-j l =
-    (l.j ≤ length l.numbers)
-    × Placed l.numbers (ready_in l.numbers l.periods l.ticks l.state l.ended) l.state.left l.after l.j
-    × Picked (due_in l.periods l.windows l.state.tick) (ready_in l.numbers l.periods l.ticks l.state l.ended) l.j l.best.column l.best.due
-
-abbrev pub decreases-loop-j : goal.decreases-loop-j
-decreases-loop-j l = length l.numbers - l.j
+    Placed l.numbers (ready_in l.numbers l.periods l.ticks l.state l.ended) l.state.left l.after l.j
+    × Picked (due_in l.periods l.windows l.state.tick) (ready_in l.numbers l.periods l.ticks l.state l.ended) l.j l.best

@@ -1,5 +1,6 @@
 -- The columns are fit for the test of the demand, and their demand is the core's.
-use mathlib.Core.Path.{sym}
+use mathlib.Core.Path.{sym, ◌∙◌}
+use Rattle.std.proofs.Math.Bool.{not-not}
 use Rattle.instance.specs.Held.{held_span}
 use Rattle.plan_rules.specs.KeptDemandLaws.{kept_columns_of_span, length_front, unmet_tick_decides_fit}
 use Rattle.plan_rules.proofs.plan.core_fits.Goals as goal
@@ -32,4 +33,5 @@ pub returns : goal.returns
 returns c =
     let sound = c.requires.sound in
     let columns = c.kept_tasks-kept.ensures in
-    unmet_tick_decides_fit _ sound.valid _ _ _ columns _ _ (held_span _ sound) c.unmet_tick.ensures
+    let fits = unmet_tick_decides_fit _ sound.valid _ _ _ columns _ _ (held_span _ sound) c.unmet_tick.ensures in
+    sym (not-not c.is_none.result) ∙ (rw c.is_none.ensures at fits)
