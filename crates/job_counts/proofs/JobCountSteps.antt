@@ -71,12 +71,12 @@ module _ (slots : List ℕ) (number window ticks : ℕ) where
       none_found : first (is_too_many slots number window ticks) (length slots) ≡ length slots
       none_found = first_of_none _ _ (λ y l. c.none_too_many y (omega arith))
 
-      pub all_ticks_is_right : left ≡ 0 → record { kind = Right; read = x } ≡ count_job slots number window ticks
+      pub all_ticks_is_right : left ≡ 0 → record { kind = Right; read = length slots } ≡ count_job slots number window ticks
       unfolding count_job
       all_ticks_is_right none =
           rw (none_found, le-ltb _ _ (le_refl (length slots)), ← at_end, le-ltb (slots_held slots number x) ticks (omega (arith, c.all_ticks))) refl
 
-      pub ticks_left_is_short : (left ≡ 0 → ⊥) → record { kind = Short; read = x } ≡ count_job slots number window ticks
+      pub ticks_left_is_short : (left ≡ 0 → ⊥) → record { kind = Short; read = length slots } ≡ count_job slots number window ticks
       unfolding count_job
       ticks_left_is_short some =
           rw (none_found, le-ltb _ _ (le_refl (length slots)), ← at_end, lt-ltb (slots_held slots number x) ticks (omega (arith, c.all_ticks, some))) refl

@@ -35,9 +35,8 @@ pub fn count_job(slots: &[Slot], number: Slot, window: usize, ticks: usize) -> C
     ensures promise { CountEnds slots.now number window ticks (kind_number result.kind) result.read }
 {
     let mut left = ticks;
-    let mut x = 0;
-    while x < slots.len() {
-        if slots[x] == number {
+    for (x, slot) in slots.iter().enumerate() {
+        if *slot == number {
             if is_one_too_many(left, window, x) {
                 return Counted {
                     kind: CountKind::Over,
@@ -46,16 +45,14 @@ pub fn count_job(slots: &[Slot], number: Slot, window: usize, ticks: usize) -> C
             }
             left -= 1;
         }
-        x += 1;
     }
-    if left == 0 {
-        return Counted {
-            kind: CountKind::Right,
-            read: x,
-        };
-    }
+    let kind = if left == 0 {
+        CountKind::Right
+    } else {
+        CountKind::Short
+    };
     Counted {
-        kind: CountKind::Short,
-        read: x,
+        kind,
+        read: slots.len(),
     }
 }
