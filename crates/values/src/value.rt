@@ -2,7 +2,7 @@
 ghost use Rattle.std.specs.Prelude.{◌≡◌, ◌≤◌, ◌<◌, length, MatchOption};
 ghost use Rattle.assignment.specs.Entries.{Lowered};
 ghost use Rattle.assignment.specs.Words.{no_cost, value_of};
-ghost use Rattle.values.specs.Worths.{lesser_worth, worth_of};
+ghost use Rattle.values.specs.Worths.{worth_of};
 
 // 2^62: a cost from here on stands for none.
 pub const NO_COST: u64 = 0x4000_0000_0000_0000;
@@ -43,14 +43,6 @@ impl Worth {
             keys[s] = self.key;
         }
     }
-}
-
-// The cheaper of the two, of equal costs the one with the smaller key, and the first where both are equal.
-#[tactic(auto, unfolding(crate::specs::Worths::lesser_worth, crate::specs::Worths::is_first))]
-pub fn lesser(a: Worth, b: Worth) -> Worth
-    ensures { result ≡ lesser_worth a b }
-{
-    a.min(b)
 }
 
 // Lowers entry s of a table, a slice of costs and one of keys, to a cost and a key, where these come first.
