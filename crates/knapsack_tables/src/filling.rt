@@ -49,40 +49,32 @@ pub(crate) struct Branch {
 }
 
 impl Branch {
-    // The last of the items ahead, which is settled next.
-    fn next_item(self) -> Front
+    // The last of the items ahead, and the branches of the sets without it and of those with it.
+    #[tactic(auto, unfolding(assignment::specs::Keys::key_base))]
+    fn settle_next(self) -> (Front, Branch, Branch)
         requires { NextFits self }
-        ensures { result ≡ next_item self }
+        ensures item { result.0 ≡ next_item self }
+        ensures without { result.1 ≡ without_next self }
+        ensures with { result.2 ≡ with_next self }
     {
-        Front {
+        let item = Front {
             core: self.core,
             item: self.ahead - 1,
             places: self.places,
             digit: self.digit,
-        }
-    }
-
-    fn without_next(self) -> Branch
-        requires { NextFits self }
-        ensures { result ≡ without_next self }
-    {
-        Branch {
+        };
+        let without = Branch {
             ahead: self.ahead - 1,
             places: self.places + 1,
             bit: self.bit * 2,
             digit: self.digit * KEY_BASE,
             ..self
-        }
-    }
-
-    fn with_next(self) -> Branch
-        requires { NextFits self }
-        ensures { result ≡ with_next self }
-    {
-        Branch {
+        };
+        let with = Branch {
             index: self.index + self.bit,
-            ..self.without_next()
-        }
+            ..without
+        };
+        (item, without, with)
     }
 }
 
@@ -97,10 +89,11 @@ fn fill(branch: Branch, offers: Offers, knapsack: Knapsack, costs: &mut [u64], k
         store_listed(branch, offers, knapsack, costs, keys);
         return;
     }
-    fill(branch.without_next(), offers, knapsack, costs, keys);
+    let (item, without, with) = branch.settle_next();
+    fill(without, offers, knapsack, costs, keys);
     let mut more_costs = [NO_COST; ENTRIES];
     let mut more_keys = [0u64; ENTRIES];
-    branch.next_item().relax(
+    item.relax(
         offers.load,
         offers.cost,
         knapsack.costs,
@@ -112,7 +105,7 @@ fn fill(branch: Branch, offers: Offers, knapsack: Knapsack, costs: &mut [u64], k
         costs: &more_costs,
         keys: &more_keys,
     };
-    fill(branch.with_next(), offers, more, costs, keys);
+    fill(with, offers, more, costs, keys);
 }
 
 // The knapsack of every set of n items at the whole capacity, in the entry of the set's number, with room for so many

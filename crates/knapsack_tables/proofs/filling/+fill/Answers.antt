@@ -3,17 +3,17 @@ use Rattle.knapsack_tables.specs.BranchLaws.{next_fits, item_before, without_fit
 use Rattle.knapsack.specs.RelaxedItems.{flat_knapsack}
 use Rattle.knapsack_tables.proofs.filling.+fill.Goals as goal
 
-pub without_next-requires : goal.without_next-requires
-without_next-requires t c = next_fits c.requires c.if-branch.false
+pub settle_next-requires : goal.settle_next-requires
+settle_next-requires t c = next_fits c.requires c.if-branch.false
 
 pub fill-requires : goal.fill-requires
 fill-requires t c =
-    rw c.without_next.ensures (omega (arith, c.decreases, c.requires.listed_ahead, c.if-branch.false), without_fits c.requires c.if-branch.false)
+    rw c.settle_next.ensures.without (omega (arith, c.decreases, c.requires.listed_ahead, c.if-branch.false), without_fits c.requires c.if-branch.false)
 
 pub relax-requires : goal.relax-requires
 relax-requires t c =
     let fits = c.requires in
-    let front = c.next_item.ensures in
+    let front = c.settle_next.ensures.item in
     record {
       item_before = rw front (item_before fits c.if-branch.false);
       flat_knapsack = flat_knapsack _ _ _ (rw front fits.affordable.capacity_limited);
@@ -22,13 +22,13 @@ relax-requires t c =
 pub fill-requires-2 : goal.fill-requires-2
 fill-requires-2 t c =
     let made = c.relax in
-    rw c.with_next.ensures (
+    rw c.settle_next.ensures.with (
       omega (arith, c.decreases, c.requires.listed_ahead, c.if-branch.false),
-      with_fits c.requires c.if-branch.false made.auto.costs made.auto.keys (rw c.next_item.ensures at made.ensures) c.fill.auto.costs
+      with_fits c.requires c.if-branch.false made.auto.costs made.auto.keys (rw c.settle_next.ensures.item at made.ensures) c.fill.auto.costs
           c.fill.auto.keys,
     )
 
 pub returns : goal.returns
 returns t c =
-    both_filled c.requires c.if-branch.false (rw c.without_next.ensures at c.fill.ensures) (rw c.next_item.ensures at c.relax.ensures)
-    (rw c.with_next.ensures at c.fill-2.ensures)
+    both_filled c.requires c.if-branch.false (rw c.settle_next.ensures.without at c.fill.ensures) (rw c.settle_next.ensures.item at c.relax.ensures)
+    (rw c.settle_next.ensures.with at c.fill-2.ensures)
