@@ -1,12 +1,10 @@
 -- Item after item is put in front of those whose sets are listed, from the last of the first few to the first of all.
-use Rattle.std.specs.Prelude.{ℕ, suc, ◌+◌, ◌-◌, ◌^◌, ◌≤◌, ◌<◌, ◌≡◌, refl, ◌⊎◌, Bool, true, false, not, List, length, get_or, set}
-use Rattle.std.proofs.Common.{ap, ap₂, ◌∙◌, inl, inr, zero-add, arith, le-leb, length-set, get_or-set_same, get_or-set_other}
+use Rattle.std.specs.Prelude.{ℕ, suc, ◌+◌, ◌-◌, ◌^◌, ◌≤◌, ◌<◌, ◌≡◌, refl, List, length, get_or, set}
+use Rattle.std.proofs.Common.{ap, ap₂, ◌∙◌, zero-add, arith, le-leb, length-set, get_or-set_same, get_or-set_other}
 use Rattle.std.proofs.Math.Nat.{pow-le-pow_right}
-use Rattle.laws.specs.Below.{lt_or_le}
-use Rattle.laws.specs.Truth.{false_not_true}
 use Rattle.assignment.specs.LeastLaws.{none_lesser}
 use Rattle.choice_lists.specs.Listed.{before, nothing, point_at, least_listed, Listed, SetsListed, FrontListed}
-use Rattle.choice_lists.specs.ListedSets.{WithItem, SetsFit}
+use Rattle.choice_lists.specs.ListedSets.{SetsFit}
 use Rattle.assignment.specs.Limits.{most_items}
 use Rattle.knapsack.specs.Offered.{Affordable}
 use Rattle.choice_lists.specs.PointLaws.{least_listed-more, entry_put_older, entry_put}
@@ -50,28 +48,6 @@ lists_stay same_points same_starts fits =
       some_points = rw same_points fits.some_points;
       starts_long = rw same_starts fits.starts_long;
     }
-
--- with one item less, where there is one
-
-pub fewer_fit : {core : Core} {n items : ℕ} {load cost : List ℕ} {points : List Choice} {starts : List ℕ} → ListsFit core n items load cost points starts →
-    ListsFit core (n - 1) items load cost points starts
-fewer_fit fits =
-    record {
-      items_limited = fits.items_limited;
-      some_items = omega (arith, fits.some_items);
-      few = omega (arith, fits.few);
-      affordable = fits.affordable;
-      some_points = fits.some_points;
-      starts_long = fits.starts_long;
-    }
-
-pub some_item : {n : ℕ} (listed : Bool) → not listed ≡ true → (n ≡ 0 → listed ≡ true) → 0 < n
-some_item {n} listed left always = go listed left always (lt_or_le 0 n)
-  where
-    go : (answer : Bool) → not answer ≡ true → (n ≡ 0 → answer ≡ true) → (0 < n) ⊎ (n ≤ 0) → 0 < n
-    go answer tried fits (inl some) = some
-    go true tried fits (inr zero) = absurd (false_not_true refl tried)
-    go false tried fits (inr zero) = absurd (false_not_true refl (fits (omega arith)))
 
 -- the sets of the last c of the first n items
 abbrev pub LastListed : Core → (n items : ℕ) (load cost : List ℕ) (c : ℕ) (points : List Choice) (starts : List ℕ) → Type 0
@@ -154,12 +130,6 @@ module _ {core : Core} {n items : ℕ} {load cost : List ℕ} {points : List Cho
             };
         behind = rw (next, behind_all) listed;
       }
-
-  pub one_more_listed : {points' : List Choice} {starts' : List ℕ} → WithItem (front_at core n c items) c load cost points' starts' →
-      LastListed core n items load cost (suc c) points' starts'
-  one_more_listed listed =
-      let next : n - 1 - c ≡ n - suc c = omega arith in
-      rw (next, behind_all) at listed
 
 pub all_listed : {core : Core} {n : ℕ} (items : ℕ) {load cost : List ℕ} {points : List Choice} {starts : List ℕ} →
     LastListed core n items load cost n points starts → FrontListed core load cost n (items - n) points starts

@@ -1,6 +1,6 @@
 -- The sets with an item are listed one after the other.
-use Rattle.std.specs.Prelude.{ℕ, suc, ◌+◌, ◌*◌, ◌-◌, ◌^◌, ◌≤◌, ◌<◌, ◌≡◌, true, false, List, length}
-use Rattle.std.proofs.Common.{sym, ap, le_refl, ◌∙◌, pow-suc, zero-add, add-zero, mul-le-mul_right, arith}
+use Rattle.std.specs.Prelude.{ℕ, suc, ◌+◌, ◌^◌, ◌≤◌, ◌<◌, ◌≡◌, true, false, List, length}
+use Rattle.std.proofs.Common.{sym, ap, ◌∙◌, pow-suc, zero-add, add-zero, arith}
 use Rattle.choice_lists.specs.Appended.{ItemRoom, ItemAppended}
 use Rattle.knapsack.specs.FrontKnapsacks.{knapsack_before-first, knapsack_before-items}
 use Rattle.choice_lists.specs.Listed.{part, PointSmall, Listed}
@@ -9,26 +9,13 @@ use Rattle.knapsack.specs.Offered.{offer_at}
 use Rattle.assignment.specs.Keys.{key_base}
 use Rattle.knapsack.specs.KnapsackSteps.{with_item, knapsack_before, with_item-same}
 use Rattle.choice_lists.specs.PointLaws.{part_small, part_listed}
-use Rattle.choice_lists.specs.Spread.{ItemFits, ItemSpread}
+use Rattle.choice_lists.specs.Spread.{ItemSpread}
 use Rattle.choice_lists.specs.Sweep.{Swept}
 use Rattle.assignment.specs.Values.{Value}
 use Rattle.knapsack.specs.declared.relaxing.Choice.{Choice}
 use Rattle.knapsack.specs.declared.relaxing.Core.{Core}
 use Rattle.knapsack.specs.declared.relaxing.Front.{Front}
 use Rattle.values.specs.declared.value.Worth.{Worth}
-
--- a list fits as a part of its own
-pub part_fits : {front : Front} {from to : ℕ} {load cost : List ℕ} {points : List Choice} → ItemFits front from to load cost points →
-    ItemFits front 0 (length (part points from to)) load cost (part points from to)
-part_fits {from = from} {to} {points = points} fits =
-    record {
-      affordable = fits.affordable;
-      places_limited = fits.places_limited;
-      digit_is = fits.digit_is;
-      ordered = omega arith;
-      there = le_refl _;
-      small = part_small points from to fits.there fits.small;
-    }
 
 -- what is spread of it and swept is listed
 pub set_added : {front : Front} {from to used end : ℕ} {load cost : List ℕ} {points₀ points : List Choice} {spread : List Worth} →
@@ -73,11 +60,6 @@ set_appended fits appended =
     }
 
 module _ {front : Front} {from to : ℕ} {load cost : List ℕ} {points : List Choice} where
-  -- the sums of all levels are no more than 64 bits count
-  pub sums_counted : ItemFits front from to load cost points → length points * 24 < 2 ^ 63 → front.core.levels * (to - from) < 2 ^ 64
-  sums_counted fits counted =
-      omega (arith, counted, fits.there, mul-le-mul_right (to - from) fits.affordable.levels_limited)
-
   module _ {used : ℕ} (fits : SetFits front from to used load cost points) where
     pub room_short : Short front.core from to → ItemRoom front from to used load cost points
     room_short short =
@@ -86,9 +68,6 @@ module _ {front : Front} {from to : ℕ} {load cost : List ℕ} {points : List C
           behind = fits.behind;
           room = omega (arith, fits.room.short short, fits.there);
         }
-
-    pub room_long : ¬ (Short front.core from to) → used + suc front.core.capacity ≤ length points
-    room_long long = omega (arith, fits.room.long long, fits.there)
 
 module _ (levels first n places : ℕ) (load cost : List ℕ) {k : ℕ} (there : k < 2 ^ n) (rest : ℕ → Value) where
   -- the items behind the first, counted from the first and from the one after it

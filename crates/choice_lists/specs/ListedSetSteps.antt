@@ -1,9 +1,9 @@
 -- One set more is listed, and the lists before it stay.
-use Rattle.std.specs.Prelude.{ℕ, zero, suc, ◌+◌, ◌-◌, ◌^◌, ◌≤◌, ◌<◌, ◌≡◌, refl, ◌⊎◌, Bool, true, false, not, List, length, get_or, set}
-use Rattle.std.proofs.Common.{sym, inl, inr, le_refl, eq-or-lt_of_le, pow-suc, add-zero, arith, length-set, pow_pos, get_or-set_same, get_or-set_other}
+use Rattle.std.specs.Prelude.{ℕ, zero, suc, ◌+◌, ◌-◌, ◌^◌, ◌≤◌, ◌<◌, ◌≡◌, ◌⊎◌, List, length, get_or, set}
+use Rattle.std.proofs.Common.{inl, inr, le_refl, eq-or-lt_of_le, pow-suc, add-zero, arith, length-set, pow_pos, get_or-set_same, get_or-set_other}
 use Rattle.laws.specs.Below.{below_suc}
 use Rattle.choice_lists.specs.Listed.{Listed, SetsListed}
-use Rattle.choice_lists.specs.ListedSets.{Enough, SetFits, SetAdded, SetsRoom, WithItem, SetsFit, SetsGoing, NextSetFits}
+use Rattle.choice_lists.specs.ListedSets.{Enough, SetFits, SetAdded, SetsFit, SetsGoing, NextSetFits}
 use Rattle.choice_lists.specs.ListedSetLaws.{listed_absent, listed_present}
 use Rattle.knapsack.specs.Offered.{offer_at}
 use Rattle.choice_lists.specs.PointLaws.{listed_older}
@@ -14,11 +14,6 @@ use Rattle.choice_lists.specs.Sweep.{Older}
 use Rattle.knapsack.specs.declared.relaxing.Core.{Core}
 use Rattle.knapsack.specs.declared.relaxing.Front.{Front}
 use Rattle.knapsack.specs.declared.relaxing.Choice.{Choice}
-
--- the other answer of a test for "not"
-pub not_not : (answer : Bool) → not answer ≡ false → answer ≡ true
-not_not true e = refl
-not_not false e = sym e
 
 rises : (f : ℕ → ℕ) (upto j : ℕ) → ((k : ℕ) → k < upto → f k ≤ f (suc k)) → j ≤ upto → f j ≤ f upto
 rises f zero j each le = let is : j ≡ 0 = omega arith in rw is (le_refl (f 0))
@@ -77,18 +72,6 @@ module _ {front : Front} {count : ℕ} {load cost : List ℕ} where
             };
       }
 
-  -- the length alone matters
-  pub room_stays : {starts starts' : List ℕ} → length starts' ≡ length starts → SetsRoom front count load cost starts →
-      SetsRoom front count load cost starts'
-  room_stays same_starts room =
-      record {
-        affordable = room.affordable;
-        places_limited = room.places_limited;
-        digit_is = room.digit_is;
-        count_behind = room.count_behind;
-        starts_long = omega (arith, room.starts_long);
-      }
-
   module _ {k : ℕ} {points : List Choice} {starts : List ℕ} (fits : NextSetFits front count k load cost points starts) where
     sum : count + (front.places - count) ≡ front.places
     sum = omega (arith, fits.room.count_behind)
@@ -144,9 +127,3 @@ module _ {front : Front} {count : ℕ} {load cost : List ℕ} where
               )
               (listed_present load cost front k sum fits.there (going.behind.each k fits.there) added)));
         }
-
-  pub sets_done : {points : List Choice} {starts : List ℕ} → SetsGoing front count load cost (2 ^ count) points starts →
-      WithItem front count load cost points starts
-  sets_done going =
-      let all : 2 ^ suc count ≡ 2 ^ count + 2 ^ count = omega (arith, pow-suc 2 count) in
-      rw all going.sofar

@@ -6,7 +6,7 @@ use Rattle.std.proofs.Math.Decide.{ℕ_discrete}
 use native.Mathlib.Omega.{arith}
 use Rattle.assignment.specs.LeastLaws.{lesser_none}
 use Rattle.choice_lists.specs.Listed.{before, point_at}
-use Rattle.choice_lists.specs.Spread.{value_before, spread_at, least_spread, sum_of, SumFits, least_sums, Sound, SumsSmall, LevelSpread}
+use Rattle.choice_lists.specs.Spread.{value_before, spread_at, least_spread, sum_of, least_sums, Sound, LevelSpread}
 use Rattle.choice_lists.specs.SpreadLaws.{before_none, lowered_at, lowered_there, lowered_elsewhere, least_spread-lowered}
 use Rattle.assignment.specs.ValueLaws.{lesser_assoc, lesser_either}
 use Rattle.assignment.specs.Values.{Value, pair, lesser, least_below}
@@ -18,16 +18,6 @@ use Rattle.values.specs.declared.value.Worth.{Worth}
 -- two choices' cost and key
 abbrev pub sum_worth : Choice → Choice → Worth
 sum_worth a b = record { cost = a.cost + b.cost; key = a.key + b.key }
-
--- the sum with an entry of the list
-pub sum_fits : {capacity from to : ℕ} {choice : Choice} {points : List Choice} → SumsSmall capacity choice from to points →
-    {p : ℕ} → from ≤ p → p < to → SumFits choice (point_at points p)
-sum_fits small {p} after below =
-    record {
-      load_fits = omega (arith, small.choice_fits, small.capacity_limited, small.point_fits p after below);
-      cost_fits = omega (arith, small.real p after below);
-      key_fits = small.digits_fit p after below;
-    }
 
 -- the sums with one entry more
 pub one_more_sum : (choice : Choice) (points : List Choice) {from p : ℕ} → from ≤ p → (rest : ℕ → Value) (w : ℕ) →

@@ -1,7 +1,6 @@
 -- A branch of the sets whose items ahead are all listed: each set's knapsack is read from its list.
-use Rattle.std.specs.Prelude.{ℕ, suc, ◌+◌, ◌*◌, ◌-◌, ◌^◌, ◌≤◌, ◌<◌, ◌≡◌, List, length, get_or, set}
+use Rattle.std.specs.Prelude.{ℕ, suc, ◌+◌, ◌*◌, ◌-◌, ◌^◌, ◌<◌, ◌≡◌, List, length, get_or, set}
 use Rattle.std.proofs.Common.{sym, ap, ◌∙◌, zero-add, suc-mul, mul-le-mul_right, arith, pow-add}
-use Rattle.std.proofs.Math.Nat.{pow-le-pow_right}
 use Rattle.knapsack_tables.specs.Branches.{BranchFits}
 use Rattle.choice_lists.specs.Listed.{part, Listed}
 use Rattle.choice_lists.specs.PointLaws.{listed_part}
@@ -10,7 +9,6 @@ use Rattle.knapsack.specs.declared.relaxing.Choice.{Choice}
 use Rattle.knapsack_tables.specs.FilledTables.{Holds, FilledTo, one_more_filled}
 use Rattle.knapsack.specs.FrontKnapsacks.{knapsack_before-items}
 use Rattle.knapsack_tables.specs.ListReads.{ListRead}
-use Rattle.assignment.specs.Limits.{most_items}
 use Rattle.knapsack.specs.KnapsackSteps.{knapsack_before}
 use Rattle.knapsack.specs.KnapsackWords.{knapsack_of}
 use Rattle.assignment.specs.Values.{Value}
@@ -36,28 +34,13 @@ module _ {branch : Branch} {load cost : List ℕ} {points : List Choice} {starts
       let all = pow-add 2 branch.ahead branch.places ∙ ap (λ (b : ℕ). 2 ^ branch.ahead * b) (sym fits.bit_is) in
       omega (arith, all, fits.index_below, suc-mul k branch.bit, mul-le-mul_right branch.bit there)
 
-  pub place_fits : k * branch.bit + branch.index < 2 ^ most_items
-  place_fits =
-      let some_digit : 0 < 2 = omega arith in
-      let few : 2 ^ (branch.ahead + branch.places) ≤ 2 ^ most_items = pow-le-pow_right some_digit fits.items_limited in
-      omega (arith, place_below)
-
   module _ (all_listed : branch.ahead ≡ branch.listed) where
-    pub start_there : suc k < length starts
-    start_there = omega (arith, fits.front_listed.starts_there, ap (λ (n : ℕ). 2 ^ n) all_listed)
-
     -- the list of set number k
     list_there : Listed branch.core.capacity branch.ahead branch.places (ahead_knapsack branch load cost k) points
         (get_or starts k 0) (get_or starts (suc k) 0)
     list_there =
         let behind : branch.ahead + branch.places - branch.ahead ≡ branch.places = omega arith in
         rw behind at ((rw (← all_listed) at fits.front_listed).each k there)
-
-    pub list_in_order : get_or starts k 0 ≤ get_or starts (suc k) 0
-    list_in_order = list_there.ordered
-
-    pub list_in_points : get_or starts (suc k) 0 ≤ length points
-    list_in_points = list_there.there
 
     abbrev pub set_list : List Choice
     set_list = part points (get_or starts k 0) (get_or starts (suc k) 0)

@@ -1,4 +1,4 @@
-use Rattle.std.proofs.Common.{◌≡◌, add-one, arith}
+use Rattle.std.proofs.Common.{add-one, arith}
 use Rattle.choice_lists.specs.SpreadItems.{item_choice_fits, sums_small, spread_no_level, spread_no_room, spread_one_level}
 use Rattle.choice_lists.proofs.long.spread_item.Goals.{then-choice-front, else-choice-front}
 use Rattle.choice_lists.proofs.long.spread_item.Goals as goal
@@ -10,19 +10,9 @@ pub choice_at-choice-requires : goal.choice_at-choice-requires
 choice_at-choice-requires c =
     item_choice_fits c.requires.item_fits c.loop-l-test.true
 
-pub spread_level-requires : goal.spread_level-requires
-spread_level-requires c =
-    let pre = c.requires in
-    record {
-      sums_small = sums_small pre.item_fits c.loop-l-test.true c.choice_at-choice.ensures c.if-choice-front.true;
-      long = omega arith;
-    }
-
-pub returns : goal.returns
-returns c =
-    let at = c.loop-l in
-    let all : at.l ≡ c.args.front.core.levels = omega arith in
-    rw all at at.invariant
+pub spread_level-requires-clause-sums_small : goal.spread_level-requires-clause-sums_small
+spread_level-requires-clause-sums_small c =
+    sums_small c.requires.item_fits c.loop-l-test.true c.choice_at-choice.ensures c.if-choice-front.true
 
 pub loop-l-preserved : goal.loop-l-preserved
 loop-l-preserved c =

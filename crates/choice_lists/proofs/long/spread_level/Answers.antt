@@ -1,20 +1,11 @@
-use Rattle.std.proofs.Common.{◌≡◌, length, add-one, arith}
+use Rattle.std.proofs.Common.{add-one, arith}
 use Rattle.values.specs.WorthLaws.{min_is_lesser}
-use Rattle.choice_lists.specs.SpreadLevels.{sum_fits, spread_nothing, spread_over, spread_lowered}
+use Rattle.choice_lists.specs.SpreadLevels.{spread_nothing, spread_over, spread_lowered}
 use Rattle.choice_lists.proofs.long.spread_level.Goals.{then-sum-capacity, else-sum-capacity}
 use Rattle.choice_lists.proofs.long.spread_level.Goals as goal
 
 pub loop-point-init : goal.loop-point-init
 loop-point-init c = spread_nothing _
-
-pub sum_of-sum-requires : goal.sum_of-sum-requires
-sum_of-sum-requires c = sum_fits c.requires.sums_small (omega arith) c.loop-point-test.true
-
-pub returns : goal.returns
-returns c =
-    let at = c.loop-point in
-    let all : at.point-index ≡ length c.args.list.now = omega arith in
-    rw all at at.invariant
 
 pub loop-point-preserved : goal.loop-point-preserved
 loop-point-preserved c =

@@ -7,15 +7,6 @@ use Rattle.choice_lists.proofs.long.sweep.Goals as goal
 pub loop-load-init : goal.loop-load-init
 loop-load-init c = gathered_none _ _ refl refl
 
-pub bounds-points-to : goal.bounds-points-to
-bounds-points-to c =
-    let sofar = c.loop-load.invariant in
-    omega (arith, loads_swept c.args.spread.now c.requires.long, c.requires.room, sofar.few, sofar.older.same_length)
-
-pub overflow_add-to : goal.overflow_add-to
-overflow_add-to c =
-    record { fits = omega (arith, loads_swept c.args.spread.now c.requires.long, c.requires.room, c.loop-load.invariant.few) }
-
 pub returns : goal.returns
 returns c =
     let at = c.loop-load in

@@ -1,4 +1,4 @@
-use Rattle.std.proofs.Common.{◌≡◌, add-one, arith}
+use Rattle.std.proofs.Common.{add-one, arith}
 use Rattle.choice_lists.specs.AppendItems.{level_room, append_no_level, append_no_room, append_one_level}
 use Rattle.choice_lists.specs.SpreadItems.{item_choice_fits}
 use Rattle.choice_lists.proofs.short.append_item.Goals.{then-choice-front, else-choice-front}
@@ -14,12 +14,6 @@ choice_at-choice-requires c =
 pub append_level-end-requires : goal.append_level-end-requires
 append_level-end-requires c =
     level_room c.requires c.loop-l-test.true c.loop-l.invariant c.choice_at-choice.ensures c.if-choice-front.true
-
-pub returns : goal.returns
-returns c =
-    let at = c.loop-l in
-    let all : at.l ≡ c.args.front.core.levels = omega arith in
-    rw all at at.invariant
 
 pub loop-l-preserved : goal.loop-l-preserved
 loop-l-preserved c =

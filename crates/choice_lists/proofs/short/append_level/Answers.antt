@@ -2,27 +2,12 @@ use Rattle.std.proofs.Common.{◌≡◌, ◌∙◌, add-one, arith, ap}
 use Rattle.choice_lists.specs.AppendLaws.{append_nothing, append_over, append_stored}
 use Rattle.choice_lists.specs.PointLaws.{point_older}
 use Rattle.choice_lists.specs.Spread.{sum_of}
-use Rattle.choice_lists.specs.SpreadLevels.{sum_fits}
 use Rattle.knapsack.specs.declared.relaxing.Choice.{Choice}
 use Rattle.choice_lists.proofs.short.append_level.Goals.{then-sum-capacity, else-sum-capacity}
 use Rattle.choice_lists.proofs.short.append_level.Goals as goal
 
 pub loop-p-init : goal.loop-p-init
 loop-p-init c = append_nothing _
-
-pub sum_of-sum-requires : goal.sum_of-sum-requires
-sum_of-sum-requires c =
-    let fits = c.requires in
-    let at = c.loop-p in
-    rw (point_older at.invariant.older at.p (omega (arith, fits.behind))) (sum_fits fits.sums (omega arith) (omega arith))
-
-pub bounds-points-end : goal.bounds-points-end
-bounds-points-end c =
-    let sofar = c.loop-p.invariant in
-    omega (arith, c.requires.room, sofar.few, sofar.older.same_length)
-
-pub overflow_add-end : goal.overflow_add-end
-overflow_add-end c = omega (arith, c.requires.room, c.loop-p.invariant.few)
 
 pub returns : goal.returns
 returns c =

@@ -1,5 +1,5 @@
 use Rattle.std.proofs.Common.{arith}
-use Rattle.knapsack_tables.specs.BranchLaws.{next_fits, item_before, without_fits, with_fits, both_filled}
+use Rattle.knapsack_tables.specs.BranchLaws.{next_fits, without_fits, with_fits, both_filled}
 use Rattle.knapsack.specs.RelaxedItems.{flat_knapsack}
 use Rattle.knapsack_tables.proofs.filling.+fill.Goals as goal
 
@@ -10,14 +10,9 @@ pub fill-requires : goal.fill-requires
 fill-requires t c =
     rw c.settle_next.ensures.without (omega (arith, c.decreases, c.requires.listed_ahead, c.if-branch.false), without_fits c.requires c.if-branch.false)
 
-pub relax-requires : goal.relax-requires
-relax-requires t c =
-    let fits = c.requires in
-    let front = c.settle_next.ensures.item in
-    record {
-      item_before = rw front (item_before fits c.if-branch.false);
-      flat_knapsack = flat_knapsack _ _ _ (rw front fits.affordable.capacity_limited);
-    }
+pub relax-requires-clause-flat_knapsack : goal.relax-requires-clause-flat_knapsack
+relax-requires-clause-flat_knapsack t c =
+    flat_knapsack _ _ _ (rw c.settle_next.ensures.item c.requires.affordable.capacity_limited)
 
 pub fill-requires-2 : goal.fill-requires-2
 fill-requires-2 t c =

@@ -7,9 +7,6 @@ use Rattle.knapsack_tables.proofs.front.least_listed.Goals as goal
 pub loop-choice-init : goal.loop-choice-init
 loop-choice-init c = least_of_none
 
-pub overflow_sub-room : goal.overflow_sub-room
-overflow_sub-room c = (point_read c.requires.3 {p = c.loop-choice.choice-index} (omega arith) c.loop-choice-test.true).room
-
 pub overflow_add-key : goal.overflow_add-key
 overflow_add-key c = record { fits = (point_read c.requires.3 {p = c.loop-choice.choice-index} (omega arith) c.loop-choice-test.true).key_fits }
 

@@ -1,10 +1,6 @@
-use Rattle.std.proofs.Common.{◌≡◌, ◌^◌, add-one, arith}
-use Rattle.knapsack_tables.specs.FilledTables.{none_filled}
+use Rattle.std.proofs.Common.{add-one, arith}
 use Rattle.knapsack_tables.specs.ListedBranches.{ahead_knapsack, place_below, list_read, one_more_read}
 use Rattle.knapsack_tables.proofs.front.store_listed.Goals as goal
-
-pub loop-k-init : goal.loop-k-init
-loop-k-init c = none_filled _ _ _
 
 pub least_listed-worth-requires : goal.least_listed-worth-requires
 least_listed-worth-requires c =
@@ -22,12 +18,6 @@ store-requires c =
     let at = c.loop-k in
     let place = place_below fits {k = at.k} (omega (arith, c.sets_of-k-end.ensures)) in
     (omega (arith, place, fits.costs_for_all, at.auto.costs), omega (arith, place, fits.keys_for_all, at.auto.keys))
-
-pub returns : goal.returns
-returns c =
-    let at = c.loop-k in
-    let all : at.k ≡ 2 ^ c.args.branch.ahead = omega (arith, c.sets_of-k-end.ensures) in
-    rw all at at.invariant
 
 pub loop-k-preserved : goal.loop-k-preserved
 loop-k-preserved c =
