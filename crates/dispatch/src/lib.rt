@@ -1,17 +1,26 @@
-// Earliest deadline first on one core, and the row of slots that it gives. What the core runs stands in columns: for each of
-// its tasks a number, a period, a window and the ticks of a job; and what each still has to run.
+// Earliest deadline first on one core, and the row of slots that it gives.
 #![tactic(auto)]
 
 ghost use Rattle.std.specs.Prelude.{cond, ◌≡◌, ℕ, ◌-◌, ◌%◌, ◌≤◌, ◌<◌, IfSome, eqb, length, get_or};
 ghost use Rattle.ranges.specs.Limits.{most_span};
 ghost use Rattle.dispatch.specs.Chosen.{HasTicks, number_of};
-ghost use Rattle.dispatch.specs.Columns.{ColumnsOk, DuesOk, PeriodsOk, column_row, due_in};
+ghost use Rattle.dispatch.specs.Columns.{ColumnsOk, column_row, due_in};
 ghost use Rattle.dispatch.specs.Columns.{Filled, NextRelease, NoRelease, RanEarliest, RanFor, Released, RunsUntil};
 ghost use Rattle.dispatch.specs.Rows as rows;
 ghost use Rattle.dispatch.specs.SelectedTasks.{numbered};
 
 pub use ranges::Slot;
 use tick_steps::{Best, due_at};
+
+// What the core runs, in columns: for each of its tasks a number, a period, a window and the ticks of a job.
+#[derive(Clone, Copy)]
+struct Columns<'a> {
+    numbers: &'a [Slot],
+    periods: &'a [u32],
+    windows: &'a [u32],
+    ticks: &'a [u32],
+    ghost well_formed: { ColumnsOk numbers.now periods.now windows.now ticks.now },
+}
 
 // The ticks left of a task once the jobs of this tick are released, from those left before: all of its ticks at a release.
 fn after_release(period: u32, ticks: u32, tick: u32, left: u32) -> u32
@@ -22,18 +31,6 @@ fn after_release(period: u32, ticks: u32, tick: u32, left: u32) -> u32
         return ticks;
     }
     left
-}
-
-// Releases the jobs of this tick.
-fn release(periods: &[u32], ticks: &[u32], tick: u32, left: &mut [u32])
-    requires periods_ok { PeriodsOk periods.now }
-    requires ticks_len { length ticks.now ≡ length periods.now }
-    requires periods_in_bounds { length periods.now ≤ length left.old }
-    ensures { Released periods.now ticks.now tick left.old left.new }
-{
-    for i in 0..periods.len() {
-        left[i] = after_release(periods[i], ticks[i], tick, left[i]);
-    }
 }
 
 // The first release after this tick of a task with this period, or `end` where that comes sooner.
@@ -48,62 +45,6 @@ fn next_release(period: u32, tick: u32, end: u32) -> u32
         return tick + wait;
     }
     end
-}
-
-// The first release of all after this tick, or `end` where that comes sooner.
-fn soonest_release(periods: &[u32], tick: u32, end: u32) -> u32
-    requires periods_ok { PeriodsOk periods.now }
-    requires tick_lt_end { tick < end }
-    ensures { NextRelease periods.now (length periods.now) tick end result }
-{
-    let mut soonest = end;
-    for period in periods {
-        soonest = next_release(*period, tick, soonest);
-    }
-    soonest
-}
-
-// Releases the jobs of this tick, if the soonest release has come. Answers the next one.
-fn release_due(
-    periods: &[u32],
-    ticks: &[u32],
-    tick: u32,
-    soonest: u32,
-    end: u32,
-    left: &mut [u32],
-) -> u32
-    requires periods_ok { PeriodsOk periods.now }
-    requires ticks_len { length ticks.now ≡ length periods.now }
-    requires periods_in_bounds { length periods.now ≤ length left.old }
-    requires tick_lt_end { (tick < end) × (soonest ≤ end) }
-    requires no_release { NoRelease periods.now (length periods.now) tick soonest }
-    ensures released { Released periods.now ticks.now tick left.old left.new }
-    ensures next_release { NextRelease periods.now (length periods.now) tick end result }
-{
-    if tick < soonest {
-        return soonest;
-    }
-    release(periods, ticks, tick, left);
-    soonest_release(periods, tick, end)
-}
-
-// Of the tasks with ticks left the one that is due first, of equal ones the lowest.
-fn earliest(periods: &[u32], windows: &[u32], tick: u32, left: &[u32]) -> Option<usize>
-    requires dues_ok { DuesOk periods.now windows.now }
-    requires periods_in_bounds { length periods.now ≤ length left.now }
-    ensures { number_of result ≡ rows.earliest (due_in periods.now windows.now tick)
-        (λ i. get_or left.now i 0) (length periods.now) }
-{
-    let mut best: Option<Best> = None;
-    for i in 0..periods.len() {
-        if left[i] != 0 {
-            let due = due_at(periods[i], windows[i], tick);
-            if best.is_none_or(|before| due < before.due) {
-                best = Some(Best { column: i, due });
-            }
-        }
-    }
-    best.map(|best| best.column)
 }
 
 // The tick up to which a task runs from this one: to the end of its job, or to the soonest release where that comes sooner. With
@@ -136,19 +77,6 @@ struct Run {
     end: u32,
 }
 
-// From this tick, whose jobs are released, the earliest due task runs as long as nothing can change the choice.
-fn run_earliest(periods: &[u32], windows: &[u32], tick: u32, soonest: u32, left: &mut [u32]) -> Run
-    requires dues_ok { DuesOk periods.now windows.now }
-    requires periods_in_bounds { length periods.now ≤ length left.old }
-    requires tick_lt_soonest { tick < soonest }
-    ensures { RanEarliest periods.now windows.now tick soonest left.old left.new result }
-{
-    let task = earliest(periods, windows, tick, left);
-    let end = run_end(task, tick, soonest, left);
-    run_for(task, end - tick, left);
-    Run { task, end }
-}
-
 // What a slot shows: the number of the task that runs, or 0 for none.
 pub fn slot_of(numbers: &[Slot], task: Option<usize>) -> Slot
     requires { IfSome task (λ j. j < length numbers.now) }
@@ -160,39 +88,101 @@ pub fn slot_of(numbers: &[Slot], task: Option<usize>) -> Slot
     }
 }
 
+impl Columns<'_> {
+    // Releases the jobs of this tick.
+    fn release(&self, tick: u32, left: &mut [u32])
+        requires { length self.now.periods.now ≤ length left.old }
+        ensures { Released self.now.periods.now self.now.ticks.now tick left.old left.new }
+    {
+        for i in 0..self.periods.len() {
+            left[i] = after_release(self.periods[i], self.ticks[i], tick, left[i]);
+        }
+    }
+
+    // The first release of all after this tick, or `end` where that comes sooner.
+    fn soonest_release(&self, tick: u32, end: u32) -> u32
+        requires { tick < end }
+        ensures { NextRelease self.now.periods.now (length self.now.periods.now) tick end result }
+    {
+        let mut soonest = end;
+        for period in self.periods {
+            soonest = next_release(*period, tick, soonest);
+        }
+        soonest
+    }
+
+    // Releases the jobs of this tick, if the soonest release has come. Answers the next one.
+    fn release_due(&self, tick: u32, soonest: u32, end: u32, left: &mut [u32]) -> u32
+        requires periods_in_bounds { length self.now.periods.now ≤ length left.old }
+        requires tick_lt_end { (tick < end) × (soonest ≤ end) }
+        requires no_release { NoRelease self.now.periods.now (length self.now.periods.now) tick soonest }
+        ensures released { Released self.now.periods.now self.now.ticks.now tick left.old left.new }
+        ensures next_release { NextRelease self.now.periods.now (length self.now.periods.now) tick end result }
+    {
+        if tick < soonest {
+            return soonest;
+        }
+        self.release(tick, left);
+        self.soonest_release(tick, end)
+    }
+
+    // Of the tasks with ticks left the one that is due first, of equal ones the lowest.
+    fn earliest(&self, tick: u32, left: &[u32]) -> Option<usize>
+        requires { length self.now.periods.now ≤ length left.now }
+        ensures { number_of result ≡ rows.earliest (due_in self.now.periods.now self.now.windows.now tick)
+            (λ i. get_or left.now i 0) (length self.now.periods.now) }
+    {
+        let mut best: Option<Best> = None;
+        for i in 0..self.periods.len() {
+            if left[i] != 0 {
+                let due = due_at(self.periods[i], self.windows[i], tick);
+                if best.is_none_or(|before| due < before.due) {
+                    best = Some(Best { column: i, due });
+                }
+            }
+        }
+        best.map(|best| best.column)
+    }
+
+    // From this tick, whose jobs are released, the earliest due task runs as long as nothing can change the choice.
+    fn run_earliest(&self, tick: u32, soonest: u32, left: &mut [u32]) -> Run
+        requires periods_in_bounds { length self.now.periods.now ≤ length left.old }
+        requires tick_lt_soonest { tick < soonest }
+        ensures { RanEarliest self.now.periods.now self.now.windows.now tick soonest left.old left.new result }
+    {
+        let task = self.earliest(tick, left);
+        let end = run_end(task, tick, soonest, left);
+        run_for(task, end - tick, left);
+        Run { task, end }
+    }
+
+    // The row, run by run, from tasks that have nothing left.
+    fn write_row(&self, left: &mut [u32], slots: &mut [Slot])
+        requires periods_in_bounds { length self.now.periods.now ≤ length left.old }
+        requires by_index { (i : ℕ) → i < length self.now.periods.now → get_or left.old i 0 ≡ 0 }
+        requires slots_len_bound { length slots.old ≤ most_span }
+        ensures { slots.new ≡ column_row self.now.numbers.now self.now.periods.now self.now.windows.now
+            self.now.ticks.now (length slots.old) }
+    {
+        let end = slots.len() as u32;
+        let mut tick = 0;
+        let mut soonest = 0;
+        while tick < end {
+            soonest = self.release_due(tick, soonest, end, left);
+            let run = self.run_earliest(tick, soonest, left);
+            let shown = slot_of(self.numbers, run.task);
+            fill(slots, tick, run.end, shown);
+            tick = run.end;
+        }
+    }
+}
+
 // The slots from one tick up to, but without, another.
 fn fill(slots: &mut [Slot], from: u32, to: u32, slot: Slot)
     requires { (from ≤ to) × (to ≤ length slots.old) }
     ensures { Filled slots.old slots.new from to slot }
 {
     slots[from as usize..to as usize].fill(slot);
-}
-
-// The row, run by run, from tasks that have nothing left.
-fn write_row(
-    numbers: &[Slot],
-    periods: &[u32],
-    windows: &[u32],
-    ticks: &[u32],
-    left: &mut [u32],
-    slots: &mut [Slot],
-)
-    requires columns_ok { ColumnsOk numbers.now periods.now windows.now ticks.now }
-    requires periods_in_bounds { length periods.now ≤ length left.old }
-    requires by_index { (i : ℕ) → i < length periods.now → get_or left.old i 0 ≡ 0 }
-    requires slots_len_bound { length slots.old ≤ most_span }
-    ensures { slots.new ≡ column_row numbers.now periods.now windows.now ticks.now
-        (length slots.old) }
-{
-    let end = slots.len() as u32;
-    let mut tick = 0;
-    let mut soonest = 0;
-    while tick < end {
-        soonest = release_due(periods, ticks, tick, soonest, end, left);
-        let run = run_earliest(periods, windows, tick, soonest, left);
-        fill(slots, tick, run.end, slot_of(numbers, run.task));
-        tick = run.end;
-    }
 }
 
 // The first slots of the columns' tasks, as many as there is room for.
@@ -208,6 +198,12 @@ pub fn fill_row(
     ensures { slots.new ≡ column_row numbers.now periods.now windows.now ticks.now
         (length slots.old) }
 {
+    let columns = Columns {
+        numbers,
+        periods,
+        windows,
+        ticks,
+    };
     let mut left = [0; ranges::MOST_TASKS as usize];
-    write_row(numbers, periods, windows, ticks, &mut left, slots);
+    columns.write_row(&mut left, slots);
 }

@@ -8,4 +8,4 @@ pub write_row-requires : goal.write_row-requires
 write_row-requires c =
     let pre = c.requires in
     let few = pre.columns_ok.few_tasks in
-    record { columns_ok = pre.columns_ok; periods_in_bounds = few; by_index = λ i l. get_or-replicate most_tasks i 0 0 (omega arith); slots_len_bound = pre.slots_len_bound }
+    record { periods_in_bounds = few; by_index = λ i l. get_or-replicate most_tasks i 0 0 (omega arith); slots_len_bound = pre.slots_len_bound }

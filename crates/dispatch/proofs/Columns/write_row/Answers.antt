@@ -4,27 +4,26 @@ use borrow.Author.Rules.{rules}
 use Rattle.dispatch.specs.Chosen.{chosen_below}
 use Rattle.dispatch.specs.Columns.{column_row}
 use Rattle.dispatch.specs.RowLaws.{row_starts, row_goes_on, row_ends, ran_is_task}
-use Rattle.dispatch.proofs.write_row.Goals as goal
+use Rattle.dispatch.proofs.Columns.write_row.Goals as goal
 
 pub loop-tick-init : goal.loop-tick-init
 loop-tick-init c =
     let pre = c.requires in
-    (search rules, search rules, refl, refl, row_starts _ _ _ _ pre.columns_ok _ _ pre.by_index)
+    (search rules, search rules, refl, refl, row_starts _ _ _ _ c.args.self.now.well_formed _ _ pre.by_index)
 
 pub release_due-soonest-requires : goal.release_due-soonest-requires
 release_due-soonest-requires c =
     let pre = c.requires in
-    let ok = pre.columns_ok in
-    let inv = c.loop-tick.invariant in record { periods_ok = ok.dues_ok.periods_ok; ticks_len = ok.one_job_each; periods_in_bounds = omega (arith, pre.periods_in_bounds, inv.2); tick_lt_end = (c.loop-tick-test.true, inv.1); no_release = inv.4.no_release }
+    let inv = c.loop-tick.invariant in record { periods_in_bounds = omega (arith, pre.periods_in_bounds, inv.2); tick_lt_end = (c.loop-tick-test.true, inv.1); no_release = inv.4.no_release }
 
 pub run_earliest-run-requires : goal.run_earliest-run-requires
 run_earliest-run-requires c =
     let pre = c.requires in
-    let released = c.release_due-soonest.ensures in record { dues_ok = pre.columns_ok.dues_ok; periods_in_bounds = omega (arith, released.released.same_length, pre.periods_in_bounds, c.loop-tick.invariant.2); tick_lt_soonest = released.next_release.later }
+    let released = c.release_due-soonest.ensures in record { periods_in_bounds = omega (arith, released.released.same_length, pre.periods_in_bounds, c.loop-tick.invariant.2); tick_lt_soonest = released.next_release.later }
 
-pub slot_of-requires : goal.slot_of-requires
-slot_of-requires c =
-    let ok = c.requires.columns_ok in
+pub slot_of-shown-requires : goal.slot_of-shown-requires
+slot_of-shown-requires c =
+    let ok = c.args.self.now.well_formed in
     chosen_below _ _ (omega (arith, ran_is_task c.run_earliest-run.ensures, ok.one_number_each))
 
 pub fill-requires : goal.fill-requires
@@ -41,12 +40,12 @@ loop-tick-smaller c =
 
 pub loop-tick-preserved : goal.loop-tick-preserved
 loop-tick-preserved c =
-    let ok = c.requires.columns_ok in
+    let ok = c.args.self.now.well_formed in
     let inv = c.loop-tick.invariant in
     let released = c.release_due-soonest.ensures in
     let ran = c.run_earliest-run.ensures in
     let filled = c.fill.ensures in
-    let shows = rw c.slot_of.ensures at filled in (
+    let shows = rw c.slot_of-shown.ensures at filled in (
       omega (arith, ran.until.within, released.next_release.within),
       released.next_release.within,
       omega (arith, ran.ran.same_length, released.released.same_length, inv.2),

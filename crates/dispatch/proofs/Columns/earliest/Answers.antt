@@ -5,8 +5,8 @@ use Rattle.std.proofs.Common.{rules}
 use borrow.Author.Tests.{tests}
 use Rattle.dispatch.specs.EarliestSoFar.{column_of, is_better, is_no_better, none_picked, pick_passes_idle, pick_keeps, pick_takes}
 use Rattle.dispatch.specs.Rows.{due_at}
-use Rattle.dispatch.proofs.earliest.Goals as goal
-use Rattle.dispatch.proofs.earliest.Goals.{then-left-i-ne0+then-is_none_or, then-left-i-ne0+else-is_none_or, else-left-i-ne0}
+use Rattle.dispatch.proofs.Columns.earliest.Goals as goal
+use Rattle.dispatch.proofs.Columns.earliest.Goals.{then-left-i-ne0+then-is_none_or, then-left-i-ne0+else-is_none_or, else-left-i-ne0}
 
 pub loop-i-init : goal.loop-i-init
 loop-i-init c = none_picked _ _
@@ -14,7 +14,7 @@ loop-i-init c = none_picked _ _
 pub returns : goal.returns
 returns c =
     let at = c.loop-i in
-    let all : at.i ≡ length c.args.periods.now = omega arith in
+    let all : at.i ≡ length c.args.self.now.periods.now = omega arith in
     let mapped : c.map.result ≡ column_of at.best = search rules in
     rw (mapped, ← all) at.invariant.number
 

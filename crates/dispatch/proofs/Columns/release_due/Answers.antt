@@ -1,10 +1,9 @@
 -- Before the soonest release comes there is nothing to release, and it stays the next one.
 use Rattle.dispatch.specs.ReleaseLaws.{next_is_to_come, nothing_released}
-use Rattle.dispatch.proofs.release_due.Goals as goal
+use Rattle.dispatch.proofs.Columns.release_due.Goals as goal
 
 pub soonest_release-requires : goal.soonest_release-requires
-soonest_release-requires c =
-    record { periods_ok = c.requires.periods_ok; tick_lt_end = c.requires.tick_lt_end.0 }
+soonest_release-requires c = c.requires.tick_lt_end.0
 
 pub returns : goal.returns
 returns c = record { released = c.release.ensures; next_release = c.soonest_release.ensures }

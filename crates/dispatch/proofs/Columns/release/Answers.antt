@@ -3,21 +3,21 @@ use native.Mathlib.Omega.{arith}
 use lib.ListN.{length-set}
 use Rattle.dispatch.specs.Rows.{after_release}
 use Rattle.dispatch.specs.ReleaseLaws.{none_released, release_next, all_released}
-use Rattle.dispatch.proofs.release.Goals as goal
+use Rattle.dispatch.proofs.Columns.release.Goals as goal
 
 pub loop-i-init : goal.loop-i-init
 loop-i-init c = (refl, none_released _ _ _ _)
 
 pub after_release-requires : goal.after_release-requires
 after_release-requires c =
-    let ok = c.requires.periods_ok in
+    let ok = c.args.self.now.well_formed.dues_ok.periods_ok in
     ok.above_0 c.loop-i.i c.loop-i-test.true
 
 pub loop-i-preserved : goal.loop-i-preserved
 unfolding after_release
 loop-i-preserved c =
     let at = c.loop-i in
-    let room = c.requires.periods_in_bounds in (
+    let room = c.requires in (
       length-set at.left at.i _ ∙ at.invariant.0,
       release_next _ _ _ _ at.left at.i _ (omega (arith, room)) at.invariant.1 c.after_release.ensures,
     )
@@ -25,4 +25,4 @@ loop-i-preserved c =
 pub returns : goal.returns
 returns c =
     let at = c.loop-i in
-    all_released _ _ _ _ _ at.i (omega arith) (omega (arith, c.requires.periods_in_bounds)) at.invariant.1
+    all_released _ _ _ _ _ at.i (omega arith) (omega (arith, c.requires)) at.invariant.1
