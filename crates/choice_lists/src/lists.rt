@@ -8,7 +8,7 @@ ghost use Rattle.assignment.specs.Limits.{most_items};
 ghost use Rattle.knapsack.specs.Offered.{Affordable};
 
 use crate::long::list_long;
-use crate::points::{NOTHING, Part};
+use crate::points::{NOTHING, Offers, Part};
 use crate::short::append_item;
 use knapsack::{Choice, Core, Front};
 use values::{keys_of, sets_of};
@@ -25,21 +25,14 @@ struct NoRoom;
 
 // The list of a set with the item, behind the first `used` points, from that of the set without it, in the way that takes
 // less time. Answers where it ends.
-fn list_set(
-    front: Front,
-    part: Part,
-    used: usize,
-    load: &[u64],
-    cost: &[u64],
-    points: &mut [Choice],
-) -> usize
-    requires { SetFits front part.from part.to used load.now cost.now points.old }
-    ensures { SetAdded front part.from part.to used load.now cost.now points.old points.new result }
+fn list_set(front: Front, part: Part, used: usize, offers: Offers, points: &mut [Choice]) -> usize
+    requires { SetFits front part.from part.to used offers.load.now offers.cost.now points.old }
+    ensures { SetAdded front part.from part.to used offers.entry.load.now offers.entry.cost.now points.old points.new result }
 {
     if part.is_short(front.core) {
-        append_item(front, part, used, load, cost, points)
+        append_item(front, part, used, offers, points)
     } else {
-        list_long(front, part, used, load, cost, points)
+        list_long(front, part, used, offers, points)
     }
 }
 
@@ -48,13 +41,12 @@ fn list_next(
     front: Front,
     count: usize,
     k: usize,
-    load: &[u64],
-    cost: &[u64],
+    offers: Offers,
     points: &mut [Choice],
     starts: &mut [usize],
 ) -> Result<(), NoRoom>
-    requires { NextSetFits front count k load.now cost.now points.old starts.old }
-    ensures { OnOk result (SetsGoing front count load.now cost.now (suc k) points.new starts.new) }
+    requires { NextSetFits front count k offers.load.now offers.cost.now points.old starts.old }
+    ensures { OnOk result (SetsGoing front count offers.entry.load.now offers.entry.cost.now (suc k) points.new starts.new) }
 {
     let at = sets_of(count) + k;
     let part = Part {
@@ -65,7 +57,7 @@ fn list_next(
     if points.len() - used < part.most_points(front.core) {
         return Err(NoRoom);
     }
-    starts[at + 1] = list_set(front, part, used, load, cost, points);
+    starts[at + 1] = list_set(front, part, used, offers, points);
     Ok(())
 }
 
@@ -73,16 +65,15 @@ fn list_next(
 fn list_sets(
     front: Front,
     count: usize,
-    load: &[u64],
-    cost: &[u64],
+    offers: Offers,
     points: &mut [Choice],
     starts: &mut [usize],
 ) -> Result<(), NoRoom>
-    requires { SetsFit front count load.now cost.now points.old starts.old }
-    ensures { OnOk result (WithItem front count load.now cost.now points.new starts.new) }
+    requires { SetsFit front count offers.load.now offers.cost.now points.old starts.old }
+    ensures { OnOk result (WithItem front count offers.entry.load.now offers.entry.cost.now points.new starts.new) }
 {
     for k in 0..sets_of(count) {
-        list_next(front, count, k, load, cost, points, starts)?;
+        list_next(front, count, k, offers, points, starts)?;
     }
     Ok(())
 }
@@ -118,19 +109,18 @@ fn list_items(
     core: Core,
     n: usize,
     items: usize,
-    load: &[u64],
-    cost: &[u64],
+    offers: Offers,
     points: &mut [Choice],
     starts: &mut [usize],
 ) -> Result<(), NoRoom>
-    requires { ListsFit core n items load.now cost.now points.old starts.old }
-    ensures front_listed { OnOk result (FrontListed core load.now cost.now n (items - n) points.new starts.new) }
+    requires { ListsFit core n items offers.load.now offers.cost.now points.old starts.old }
+    ensures front_listed { OnOk result (FrontListed core offers.entry.load.now offers.entry.cost.now n (items - n) points.new starts.new) }
     ensures some_items { OnErr result (0 < n) }
 {
     list_none(points, starts);
     for c in 0..n {
         let front = front_at(core, n, c, items);
-        list_sets(front, c, load, cost, points, starts)?;
+        list_sets(front, c, offers, points, starts)?;
     }
     Ok(())
 }
@@ -151,8 +141,9 @@ pub fn list_front(
     ensures upper_bound { (result ≤ items) × (result ≤ most_listed) }
     ensures front_listed { FrontListed core load.now cost.now result (items - result) points.new starts.new }
 {
+    let offers = Offers { load, cost };
     let mut n = items.min(MOST_LISTED);
-    while list_items(core, n, items, load, cost, points, starts).is_err() {
+    while list_items(core, n, items, offers, points, starts).is_err() {
         n -= 1;
     }
     n

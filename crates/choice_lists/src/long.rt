@@ -4,7 +4,7 @@ ghost use Rattle.choice_lists.specs.ListedSets.{SetAdded};
 ghost use Rattle.choice_lists.specs.Spread.{Cleared, ItemFits, ItemSpread, LevelSpread, SumsSmall};
 ghost use Rattle.choice_lists.specs.Sweep.{Swept};
 
-use crate::points::{Part, sum_of};
+use crate::points::{Offers, Part, sum_of};
 use knapsack::{Choice, Front};
 use values::{ENTRIES, Worth};
 
@@ -27,15 +27,15 @@ fn spread_level(capacity: usize, choice: Choice, list: &[Choice], spread: &mut [
 }
 
 // The item at each level.
-fn spread_item(front: Front, list: &[Choice], load: &[u64], cost: &[u64], spread: &mut [Worth])
-    requires item_fits { ItemFits front 0 (length list.now) load.now cost.now list.now }
+fn spread_item(front: Front, list: &[Choice], offers: Offers, spread: &mut [Worth])
+    requires item_fits { ItemFits front 0 (length list.now) offers.load.now offers.cost.now list.now }
     requires long { front.core.capacity < length spread.old }
     requires cleared { Cleared front.core.capacity spread.old }
-    ensures { ItemSpread front 0 (length list.now) load.now cost.now list.now
+    ensures { ItemSpread front 0 (length list.now) offers.entry.load.now offers.entry.cost.now list.now
         front.core.levels spread.new }
 {
     for l in 0..front.core.levels {
-        let choice = front.choice_at(load, cost, l);
+        let choice = front.choice_at(offers.load, offers.cost, l);
         if choice.load <= front.core.capacity {
             spread_level(front.core.capacity, choice, list, spread);
         }
@@ -70,16 +70,15 @@ pub(crate) fn list_long(
     front: Front,
     part: Part,
     used: usize,
-    load: &[u64],
-    cost: &[u64],
+    offers: Offers,
     points: &mut [Choice],
 ) -> usize
-    requires item_fits { ItemFits front part.from part.to load.now cost.now points.old }
+    requires item_fits { ItemFits front part.from part.to offers.load.now offers.cost.now points.old }
     requires room { used + suc front.core.capacity ≤ length points.old }
-    ensures { SetAdded front part.from part.to used load.now cost.now points.old points.new result }
+    ensures { SetAdded front part.from part.to used offers.entry.load.now offers.entry.cost.now points.old points.new result }
 {
     let mut spread = [Worth::NONE; ENTRIES];
     let list = &points[part.from..part.to];
-    spread_item(front, list, load, cost, &mut spread);
+    spread_item(front, list, offers, &mut spread);
     sweep(front.core.capacity, used, &spread, points)
 }

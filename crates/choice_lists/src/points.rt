@@ -17,6 +17,13 @@ pub const NOTHING: Choice = Choice {
 // So many points are written as they come: to spread them over all loads and to sweep these takes longer.
 const SHORT: usize = 256;
 
+// The loads and costs of all items at every level.
+#[derive(Clone, Copy)]
+pub(crate) struct Offers<'a> {
+    pub(crate) load: &'a [u64],
+    pub(crate) cost: &'a [u64],
+}
+
 // The points of one list.
 #[derive(Clone, Copy)]
 pub(crate) struct Part {

@@ -1,7 +1,7 @@
 // Short lists of choices: those of one set more are written as they come.
 ghost use Rattle.choice_lists.specs.Appended.{ItemAppended, ItemRoom, LevelAppended, LevelRoom};
 
-use crate::points::{Part, sum_of};
+use crate::points::{Offers, Part, sum_of};
 use knapsack::{Choice, Front};
 
 // The choice with each point of the list becomes a point, from the point `start` on, where the capacity takes both.
@@ -32,17 +32,16 @@ pub(crate) fn append_item(
     front: Front,
     part: Part,
     used: usize,
-    load: &[u64],
-    cost: &[u64],
+    offers: Offers,
     points: &mut [Choice],
 ) -> usize
-    requires { ItemRoom front part.from part.to used load.now cost.now points.old }
-    ensures { ItemAppended front part.from part.to used load.now cost.now points.old
+    requires { ItemRoom front part.from part.to used offers.load.now offers.cost.now points.old }
+    ensures { ItemAppended front part.from part.to used offers.entry.load.now offers.entry.cost.now points.old
         front.core.levels points.new result }
 {
     let mut end = used;
     for l in 0..front.core.levels {
-        let choice = front.choice_at(load, cost, l);
+        let choice = front.choice_at(offers.load, offers.cost, l);
         if choice.load <= front.core.capacity {
             end = append_level(front.core.capacity, choice, part, end, points);
         }

@@ -2,8 +2,8 @@
 use Rattle.choice_lists.specs.ListedFront.{ListsFit}
 use Rattle.choice_lists.proofs.lists.list_front.Given as goal
 
-abbrev pub invariant-loop-core : goal.invariant-loop-core
-invariant-loop-core l = ListsFit l.core l.n l.items l.load l.cost l.points l.starts
+abbrev pub invariant-loop-offers : goal.invariant-loop-offers
+invariant-loop-offers l = ListsFit l.core l.n l.items l.offers.load.now l.offers.cost.now l.points l.starts
 
-abbrev pub decreases-loop-core : goal.decreases-loop-core
-decreases-loop-core l = l.n
+abbrev pub decreases-loop-offers : goal.decreases-loop-offers
+decreases-loop-offers l = l.n
