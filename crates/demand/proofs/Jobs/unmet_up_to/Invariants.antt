@@ -2,10 +2,10 @@
 use Prim.Native.Nat.{◌≤◌}
 use Rattle.dispatch.specs.Columns.{column_tasks}
 use Rattle.demand.specs.UnmetTicks.{MetAbove}
-use Rattle.demand.proofs.unmet_up_to.Given as goal
+use Rattle.demand.proofs.Jobs.unmet_up_to.Given as goal
 
 abbrev pub invariant-loop-tick : goal.invariant-loop-tick
-invariant-loop-tick l = (l.tick ≤ l.end) × MetAbove (column_tasks l.periods l.windows l.ticks) l.tick l.end
+invariant-loop-tick l = (l.tick ≤ l.end) × MetAbove (column_tasks l.self.periods.now l.self.windows.now l.self.ticks.now) l.tick l.end
 
 abbrev pub decreases-loop-tick : goal.decreases-loop-tick
 decreases-loop-tick l = l.tick
