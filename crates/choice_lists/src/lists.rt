@@ -19,6 +19,9 @@ const MOST_LISTED: usize = 6;
 // Where the list of each set of these starts, and where the last one ends.
 pub const STARTS: usize = (1 << MOST_LISTED) + 1;
 
+// Points and starts stay two slices in what follows: of a struct that lends both, each contract would also have to say that it
+// still lends the same two.
+
 // There is no room for the lists of all sets.
 #[derive(Clone, Copy)]
 struct NoRoom;

@@ -17,6 +17,7 @@ fn append_level(
     ensures { LevelAppended capacity choice part.from part.to start points.old points.new result }
 {
     let mut end = start;
+    // An index, since the slice that is read is written behind the list.
     for p in part.from..part.to {
         let sum = sum_of(choice, points[p]);
         if sum.load <= capacity {
