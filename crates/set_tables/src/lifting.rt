@@ -22,9 +22,9 @@ fn add_item(half: usize, amount: u64, sums: &mut [u64])
 }
 
 // What the items of each set are priced at least.
-pub(crate) fn fill_sums(items: usize, least: [u64; MOST_ITEMS], sums: &mut [u64])
-    requires { SumsReady items least sums.old }
-    ensures { NumberedBy items (least_priced least 0) sums.new }
+pub(crate) fn fill_sums(items: usize, least: &[u64; MOST_ITEMS], sums: &mut [u64])
+    requires { SumsReady items least.now sums.old }
+    ensures { NumberedBy items (least_priced least.now 0) sums.new }
 {
     let mut half = 1;
     for i in (0..items).rev() {
@@ -46,7 +46,7 @@ fn lifted(old: Worth, sum: u64, key: u64, budget: u64) -> Worth
     }
     Worth {
         cost: sum - budget,
-        key: key,
+        key,
     }
 }
 
@@ -64,8 +64,7 @@ pub fn lift_all(
     ensures { LiftedBelow items relaxed (2 ^ items) costs.old keys.old costs.new keys.new }
 {
     let mut sums = [0u64; MOST_SETS];
-    let least = relaxed.least;
-    fill_sums(items, least, &mut sums);
+    fill_sums(items, &relaxed.least, &mut sums);
     let all = sets_of(items);
     for x in 0..all {
         let old = Worth {

@@ -7,10 +7,11 @@ ghost use Rattle.set_tables.specs.OwnPatterns.{LevelsOf, is_within, is_better, o
 
 use crate::dropping::drop_unserved;
 use crate::lifting::fill_sums;
-use lagrangian::{TIMING_WIDTH, Timed, is_within_window};
+use lagrangian::{TIMING_WIDTH, Timed, TimedCore, is_within_window};
 use values::{MOST_ITEMS, STRIDE, keys_of};
 
-// Of each item at its own level: the ticks of a job, the cost, and its choice as a digit of a key.
+// Of each item at its own level: the ticks of a job, the cost, and its choice as a digit of a key. They stand in arrays of their own,
+// since a table is filled from each.
 #[derive(Clone, Copy)]
 pub(crate) struct OwnColumns {
     pub(crate) ticks: [u32; MOST_ITEMS],
@@ -18,18 +19,48 @@ pub(crate) struct OwnColumns {
     pub(crate) digits: [u64; MOST_ITEMS],
 }
 
+impl OwnColumns {
+    // Those of all items of a core.
+    fn of(core: &TimedCore<'_>) -> OwnColumns
+        requires { 1 ≤ core.now.timed.levels }
+        ensures { OwnUpTo core.now.timed core.now.timings.now core.now.cost.now core.now.timed.items result }
+    {
+        let mut own = OwnColumns {
+            ticks: [0; MOST_ITEMS],
+            costs: [0; MOST_ITEMS],
+            digits: [0; MOST_ITEMS],
+        };
+        for item in 0..core.timed.items {
+            own.add_item(core, item);
+        }
+        own
+    }
+
+    // One item more.
+    fn add_item(&mut self, core: &TimedCore<'_>, item: usize)
+        requires le_levels { (1 ≤ core.now.timed.levels) × (item < core.now.timed.items) }
+        requires own_up_to { OwnUpTo core.now.timed core.now.timings.now core.now.cost.now item self.old }
+        ensures { OwnUpTo core.now.timed core.now.timings.now core.now.cost.now (item + 1) self.new }
+    {
+        let level = own_level(core, item);
+        self.ticks[item] = core.timings[item * TIMING_WIDTH + 2 + level];
+        self.costs[item] = own_cost(core, item, level);
+        self.digits[item] = (level as u64 + 1) * keys_of(core.timed.items - 1 - item);
+    }
+}
+
 // The better of two levels of an item: the first where a job has its ticks within its window only there, or where it is cheaper.
-fn better_level(item: usize, level: usize, best: usize, timings: &[u32], cost: &[u64]) -> usize
-    requires { LevelsOf item level best timings.now cost.now }
-    ensures { result ≡ cond (is_better timings.now cost.now item level best) level best }
+fn better_level(core: &TimedCore<'_>, item: usize, level: usize, best: usize) -> usize
+    requires { LevelsOf item level best core.now.timings.now core.now.cost.now }
+    ensures { result ≡ cond (is_better core.now.timings.now core.now.cost.now item level best) level best }
 {
-    if !is_within_window(item, level, timings) {
+    if !is_within_window(item, level, core.timings) {
         return best;
     }
-    if !is_within_window(item, best, timings) {
+    if !is_within_window(item, best, core.timings) {
         return level;
     }
-    if cost[item * STRIDE + level] < cost[item * STRIDE + best] {
+    if core.cost[item * STRIDE + level] < core.cost[item * STRIDE + best] {
         return level;
     }
     best
@@ -37,73 +68,29 @@ fn better_level(item: usize, level: usize, best: usize, timings: &[u32], cost: &
 
 // The cheapest level of an item of those at which a job has its ticks within its window, of equally cheap ones the first; level 0 where
 // there is none.
-fn own_level(timed: Timed, item: usize, timings: &[u32], cost: &[u64]) -> usize
-    requires timed_ready { TimedReady timed timings.now cost.now }
-    requires le_levels { (1 ≤ timed.levels) × (item < timed.items) }
-    ensures value { result ≡ own_level timings.now cost.now item timed.levels }
-    ensures upper_bound { result < timed.levels }
+fn own_level(core: &TimedCore<'_>, item: usize) -> usize
+    requires { (1 ≤ core.now.timed.levels) × (item < core.now.timed.items) }
+    ensures value { result ≡ own_level core.now.timings.now core.now.cost.now item core.now.timed.levels }
+    ensures upper_bound { result < core.now.timed.levels }
 {
     let mut own = 0;
-    for level in 0..timed.levels {
-        own = better_level(item, level, own, timings, cost);
+    for level in 0..core.timed.levels {
+        own = better_level(core, item, level, own);
     }
     own
 }
 
 // What an item costs at a level, where a job has its ticks within its window there.
-fn own_cost(timed: Timed, item: usize, level: usize, timings: &[u32], cost: &[u64]) -> u64
-    requires timed_ready { TimedReady timed timings.now cost.now }
-    requires item_lt_timed { (item < timed.items) × (level < timed.levels) }
-    ensures value { is_within timings.now item level ≡ true → result ≡ entry_of cost.now item level }
+fn own_cost(core: &TimedCore<'_>, item: usize, level: usize) -> u64
+    requires { (item < core.now.timed.items) × (level < core.now.timed.levels) }
+    ensures value { is_within core.now.timings.now item level ≡ true →
+        result ≡ entry_of core.now.cost.now item level }
     ensures upper_bound { result ≤ most_amount }
 {
-    if !is_within_window(item, level, timings) {
+    if !is_within_window(item, level, core.timings) {
         return 0;
     }
-    cost[item * STRIDE + level]
-}
-
-// With one item more.
-fn with_item(
-    timed: Timed,
-    own: OwnColumns,
-    item: usize,
-    timings: &[u32],
-    cost: &[u64],
-) -> OwnColumns
-    requires timed_ready { TimedReady timed timings.now cost.now }
-    requires le_levels { (1 ≤ timed.levels) × (item < timed.items) }
-    requires own_up_to { OwnUpTo timed timings.now cost.now item own }
-    ensures { OwnUpTo timed timings.now cost.now (item + 1) result }
-{
-    let level = own_level(timed, item, timings, cost);
-    let mut ticks = own.ticks;
-    ticks[item] = timings[item * TIMING_WIDTH + 2 + level];
-    let mut costs = own.costs;
-    costs[item] = own_cost(timed, item, level, timings, cost);
-    let mut digits = own.digits;
-    digits[item] = (level as u64 + 1) * keys_of(timed.items - 1 - item);
-    OwnColumns {
-        ticks,
-        costs,
-        digits,
-    }
-}
-
-fn own_columns(timed: Timed, timings: &[u32], cost: &[u64]) -> OwnColumns
-    requires timed_ready { TimedReady timed timings.now cost.now }
-    requires le_levels { 1 ≤ timed.levels }
-    ensures { OwnUpTo timed timings.now cost.now timed.items result }
-{
-    let mut own = OwnColumns {
-        ticks: [0; MOST_ITEMS],
-        costs: [0; MOST_ITEMS],
-        digits: [0; MOST_ITEMS],
-    };
-    for item in 0..timed.items {
-        own = with_item(timed, own, item, timings, cost);
-    }
-    own
+    core.cost[item * STRIDE + level]
 }
 
 // What each set's own pattern costs where a core admits it, none where not; and its key.
@@ -113,11 +100,13 @@ pub fn fill_own(timed: Timed, timings: &[u32], cost: &[u64], costs: &mut [u64], 
     requires own_room { OwnRoom timed costs.old keys.old }
     ensures { OwnTable timed timings.now cost.now costs.new keys.new }
 {
-    let own = own_columns(timed, timings, cost);
-    let ticks = own.ticks;
-    let each = own.costs;
-    let digits = own.digits;
-    fill_sums(timed.items, each, costs);
-    fill_sums(timed.items, digits, keys);
-    drop_unserved(timed, ticks, 0, 0, false, timings, costs);
+    let core = TimedCore {
+        timed,
+        timings,
+        cost,
+    };
+    let own = OwnColumns::of(&core);
+    fill_sums(timed.items, &own.costs, costs);
+    fill_sums(timed.items, &own.digits, keys);
+    drop_unserved(timed, own.ticks, 0, 0, false, timings, costs);
 }

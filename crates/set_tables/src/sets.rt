@@ -1,23 +1,17 @@
 // The sets that the cores run of a plan.
-ghost use Rattle.std.specs.Prelude.{◌≡◌, ◌^◌, ◌≤◌, ◌<◌};
+ghost use Rattle.std.specs.Prelude.{cond, ◌≡◌, ◌^◌, ◌≤◌, ◌<◌};
 ghost use Rattle.assignment.specs.Keys.{key_base};
 ghost use Rattle.assignment.specs.Limits.{most_items};
 ghost use Rattle.set_tables.specs.CoreSets.{core_set_number, runs_on};
 
 use values::{KEY_BASE, keys_of};
 
-// 1 where this choice has the core run its item, else 0.
-fn runs_on(levels: usize, core: usize, choice: usize) -> usize
+// Whether this choice has the core run its item.
+fn runs_on(levels: usize, core: usize, choice: usize) -> bool
     requires { 1 ≤ levels }
-    ensures { result ≡ runs_on levels core choice }
+    ensures { cond result 1 0 ≡ runs_on levels core choice }
 {
-    if choice == 0 {
-        return 0;
-    }
-    if (choice - 1) / levels == core {
-        return 1;
-    }
-    0
+    choice != 0 && (choice - 1) / levels == core
 }
 
 // The number of the set that a core runs of the plan that a key stands for.
@@ -32,7 +26,7 @@ pub fn core_set(items: usize, levels: usize, core: usize, key: u64) -> usize
     let mut set = 0;
     for _i in 0..items {
         power /= KEY_BASE;
-        set = set * 2 + runs_on(levels, core, (rest / power) as usize);
+        set = set * 2 + usize::from(runs_on(levels, core, (rest / power) as usize));
         rest %= power;
     }
     set

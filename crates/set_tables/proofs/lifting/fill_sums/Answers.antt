@@ -1,4 +1,4 @@
-use Rattle.std.proofs.Common.{suc, ◌-◌, ◌^◌, ◌≤◌, ◌≡◌, refl, arith, pow_mono}
+use Rattle.std.proofs.Common.{suc, ◌-◌, ◌≡◌, refl, arith}
 use Rattle.set_tables.specs.LiftingLaws.{no_item_yet, room_for_item, one_item_more}
 use Rattle.set_tables.proofs.lifting.fill_sums.Goals as goal
 
@@ -12,20 +12,6 @@ add_item-requires c =
     let at = c.loop-i in
     let is : at.i ≡ suc (at.i - 1) = omega arith in
     room_for_item c.requires (rw is at at.invariant.1) (omega (arith, at.auto.i)) (rw is at at.invariant.0) at.auto.sums
-
-pub overflow_mul-half : goal.overflow_mul-half
-overflow_mul-half c =
-    let at = c.loop-i in
-    let n = c.args.items in
-    let few : 2 ^ (n - at.i) ≤ 2 ^ 12 = pow_mono {j = 12} (omega (arith, c.requires.few_items)) in
-    omega (arith, at.invariant.0, few)
-
-pub returns : goal.returns
-returns c =
-    let at = c.loop-i in
-    let first : at.i ≡ 0 = omega arith in
-    let all : c.args.items - 0 ≡ c.args.items = omega arith in
-    rw (first, all) at at.invariant.1
 
 pub loop-i-preserved : goal.loop-i-preserved
 loop-i-preserved c =

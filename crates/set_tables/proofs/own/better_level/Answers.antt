@@ -13,14 +13,14 @@ returns-then-not-is_within_window-2 c =
     taken_within _ _ _ _ _ (rw c.is_within_window.ensures at c.if-not-is_within_window.false)
     (rw c.is_within_window-2.ensures at c.if-not-is_within_window-2.true)
 
-pub returns-then-cost-item : goal.returns-then-cost-item
+pub returns-then-core-item : goal.returns-then-core-item
 unfolding timing_at
-returns-then-cost-item c =
+returns-then-core-item c =
     taken_cheaper _ _ _ _ _ (rw c.is_within_window.ensures at c.if-not-is_within_window.false)
-    (rw c.is_within_window-2.ensures at c.if-not-is_within_window-2.false) c.if-cost-item.true
+    (rw c.is_within_window-2.ensures at c.if-not-is_within_window-2.false) c.if-core-item.true
 
 pub returns : goal.returns
 unfolding timing_at
 returns c =
     stays_no_cheaper _ _ _ _ _ (rw c.is_within_window.ensures at c.if-not-is_within_window.false)
-    (rw c.is_within_window-2.ensures at c.if-not-is_within_window-2.false) (omega (arith, c.if-cost-item.false))
+    (rw c.is_within_window-2.ensures at c.if-not-is_within_window-2.false) (omega (arith, c.if-core-item.false))

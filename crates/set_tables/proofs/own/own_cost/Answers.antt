@@ -12,6 +12,5 @@ returns-then-not-is_within_window c = record { value = λ within. absurd (false_
 pub returns : goal.returns
 unfolding timing_at
 returns c =
-    let pre = c.requires in
     let within = leb-true _ _ (rw c.is_within_window.ensures at c.if-not-is_within_window.false) in
-    record { value = λ its. refl; upper_bound = omega (arith, pre.timed_ready.cheap _ _ pre.item_lt_timed.0 pre.item_lt_timed.1 within) }
+    record { value = λ its. refl; upper_bound = omega (arith, c.args.core.now.ready.cheap _ _ c.requires.0 c.requires.1 within) }

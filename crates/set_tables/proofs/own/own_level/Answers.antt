@@ -10,14 +10,14 @@ loop-level-init c = refl
 pub better_level-own-requires : goal.better_level-own-requires
 better_level-own-requires c =
     let at = c.loop-level in
-    let pre = c.requires in
-    let levels = pre.timed_ready.timed_items.few_levels in
+    let ready = c.args.core.now.ready in
+    let levels = ready.timed_items.few_levels in
     record {
-      is_item = omega (arith, pre.timed_ready.timed_items.few_items);
+      is_item = omega (arith, ready.timed_items.few_items);
       is_level = omega (arith, levels, c.loop-level-test.true);
-      is_best = omega (arith, levels, c.loop-level-test.true, at.invariant, own_at_most c.args.timings.now c.args.cost.now c.args.item at.level);
-      timings_for_it = omega (arith, pre.timed_ready.timed_items.timings_for_all);
-      costs_for_it = omega (arith, pre.timed_ready.costs_for_all);
+      is_best = omega (arith, levels, c.loop-level-test.true, at.invariant, own_at_most c.args.core.now.timings.now c.args.core.now.cost.now c.args.item at.level);
+      timings_for_it = omega (arith, ready.timed_items.timings_for_all);
+      costs_for_it = omega (arith, ready.costs_for_all);
     }
 
 pub loop-level-preserved : goal.loop-level-preserved
@@ -30,6 +30,6 @@ loop-level-preserved c =
 pub returns : goal.returns
 returns c =
     let at = c.loop-level in
-    let all : at.level ≡ c.args.timed.levels = omega (arith, c.loop-level-test.false, at.auto.level-end) in
+    let all : at.level ≡ c.args.core.now.timed.levels = omega (arith, c.loop-level-test.false, at.auto.level-end) in
     let own = rw all at at.invariant in
-    record { value = own; upper_bound = rw own (own_below c.args.timings.now c.args.cost.now c.args.item c.args.timed.levels c.requires.le_levels.0) }
+    record { value = own; upper_bound = rw own (own_below c.args.core.now.timings.now c.args.core.now.cost.now c.args.item c.args.core.now.timed.levels c.requires.0) }
