@@ -14,3 +14,4 @@ pub mod StartTables
 pub mod LiftedLaws
 pub mod TriedLaws
 pub mod DroppedLaws
+pub mod ToldLaws

@@ -24,7 +24,7 @@ use offer::Offer;
 use partition::fill_weights;
 use search::{Found, Shape, write_plan};
 use table::Table;
-use values::{MOST_SETS, NO_COST};
+use values::MOST_SETS;
 
 // How many items there are, and how many cores and levels for each; the span, and what the idle ticks of a whole span cost.
 #[derive(Clone, Copy)]
@@ -92,10 +92,9 @@ pub fn cheapest_in_time(
     table.lift_by_samples(&offer);
     table.settle_own(&offer);
     table.search_small(&offer);
-    let best = table.least_in_rounds(&offer);
-    if NO_COST <= best.cost {
+    let Some(best) = table.least_in_rounds(&offer) else {
         return Found::NoPlan;
-    }
+    };
     write_plan(site.items, best.key, plan);
     Found::Cheapest(best.cost)
 }

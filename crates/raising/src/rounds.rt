@@ -1,19 +1,14 @@
 // The rounds of the search.
 ghost use Rattle.std.specs.Prelude.{◌^◌, ◌<◌};
 ghost use Rattle.assignment.specs.Keys.{key_base};
-ghost use Rattle.assignment.specs.SearchTheorem.{BestAnswers};
-ghost use Rattle.assignment.specs.Words.{no_cost};
-ghost use Rattle.values.specs.Worths.{worth_of};
-ghost use Rattle.raising.specs.Rounds.{RoundFound};
-ghost use Rattle.raising.specs.TimedSites.{shape_of, site_options};
-ghost use Rattle.raising.specs.Tables.{TableRaised, PlanRaised};
+ghost use Rattle.raising.specs.Tables.{TableRaised, PlanRaised, RoundTold, BestTold};
 
 use crate::offer::Offer;
 use crate::table::Table;
 use core_tables::charge_idle_once;
 use search::least_of_table;
 use set_tables::core_set;
-use values::{MOST_SETS, NO_COST, Worth};
+use values::{MOST_SETS, Worth};
 
 // The round from which on other plans than the best are looked at too.
 const FIRST_NEAR_ROUND: usize = 2;
@@ -21,10 +16,9 @@ const FIRST_NEAR_ROUND: usize = 2;
 impl Table {
     // What partition and keeping find over the table as it stands, once each set owes the idle energy of a whole span once. `near` gets
     // the keys of plans that cost little more.
-    fn least_charged(&self, offer: &Offer, near: &mut [u64]) -> Worth
+    fn least_charged(&self, offer: &Offer, near: &mut [u64]) -> Option<Worth>
         requires { TableRaised offer.now self.now }
-        ensures { RoundFound (shape_of offer.now.site) offer.now.site.whole offer.now.refusal.now offer.now.must.now
-            self.now.costs self.now.keys result }
+        ensures { RoundTold offer.now self.now result }
     {
         let mut costs = self.costs;
         charge_idle_once(offer.site.items, offer.site.whole, &mut costs);
@@ -36,6 +30,7 @@ impl Table {
             &self.keys,
             near,
         )
+        .found()
     }
 
     // Tries the sets that the cores of the plan with this key run, where their entries are not exact, and answers how many these were.
@@ -57,25 +52,19 @@ impl Table {
         raised
     }
 
-    // The value of the best plan, from a table of lower values. Each round tries a set.
-    pub(crate) fn least_in_rounds(&mut self, offer: &Offer) -> Worth
+    // What the best plan is worth, from a table of lower values; none where there is no plan. Each round tries a set.
+    pub(crate) fn least_in_rounds(&mut self, offer: &Offer) -> Option<Worth>
         requires { TableRaised offer.now self.old }
-        ensures best_answers { BestAnswers
-            (site_options offer.now.site offer.now.timings.now offer.now.cost.now offer.now.refusal.now offer.now.must.now)
-            (worth_of result) }
-        ensures key_bound { result.cost < no_cost → result.key < key_base ^ offer.now.site.items }
+        ensures { BestTold offer.now result }
     {
         let mut near = [0u64; MOST_SETS];
         let mut waiting = FIRST_NEAR_ROUND;
         loop {
-            let best = self.least_charged(offer, &mut near);
-            if NO_COST <= best.cost {
-                return best;
-            }
+            let best = self.least_charged(offer, &mut near)?;
             let raised = self.raise_sets(offer, best.key);
             let settled = raised == 0;
             if settled {
-                return best;
+                return Some(best);
             }
             waiting = waiting.saturating_sub(1);
             self.raise_near(offer, waiting, &near);

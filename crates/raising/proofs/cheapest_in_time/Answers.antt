@@ -1,5 +1,7 @@
 -- `cheapest_in_time` writes the plan that the rounds find.
 use mathlib.Core.Path.{refl}
+use native.Mathlib.Nat.{le_refl}
+use Rattle.assignment.specs.Words.{no_cost, words_none}
 use Rattle.partition.specs.Tables.{room_for_sets}
 use Rattle.raising.specs.SiteLaws.{no_plan_told, plan_told}
 use Rattle.raising.specs.StartTables.{site_ready}
@@ -21,18 +23,15 @@ invariant_of-offer c =
 pub fill_start-requires : goal.fill_start-requires
 fill_start-requires c = record { costs_value = refl; untried = refl }
 
-pub returns-then-best-ge-NO_COST : goal.returns-then-best-ge-NO_COST
-returns-then-best-ge-NO_COST c =
-    let best = c.least_in_rounds-best in
-    no_plan_told _ _ _ _ _ best.result best.ensures.best_answers _ c.if-best-ge-NO_COST.true
+pub returns-in_default : goal.returns-in_default
+returns-in_default c = no_plan_told _ _ _ _ _ record { cost = no_cost; key = 0 } (rw (words_none no_cost 0 (le_refl _)) c.in_default.ensures) _ (le_refl _)
 
 pub write_plan-requires : goal.write_plan-requires
 write_plan-requires c =
-    let best = c.least_in_rounds-best in
     let pre = c.requires in
-    record { le_most_items = pre.site_offered.limits.items; key_bound = best.ensures.key_bound c.if-best-ge-NO_COST.false; in_bounds = pre.site_in_bounds }
+    record { le_most_items = pre.site_offered.limits.items; key_bound = c.in-Some.ensures.key_bound; in_bounds = pre.site_in_bounds }
 
 pub returns : goal.returns
 returns c =
-    let best = c.least_in_rounds-best in
-    plan_told _ _ _ _ _ best.result best.ensures.best_answers _ _ c.if-best-ge-NO_COST.false c.write_plan.ensures
+    let best = c.in-Some.ensures in
+    plan_told _ _ _ _ _ _ best.best_answers _ _ best.real c.write_plan.ensures

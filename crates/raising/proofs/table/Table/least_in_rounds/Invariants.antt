@@ -3,8 +3,8 @@ use Rattle.raising.specs.RaisedTables.{tries_left}
 use Rattle.raising.specs.Tables.{TableRaised}
 use Rattle.raising.proofs.table.Table.least_in_rounds.Given as goal
 
-abbrev pub invariant-loop-near : goal.invariant-loop-near
-invariant-loop-near l = TableRaised l.offer l.self
+abbrev pub invariant-loop-best : goal.invariant-loop-best
+invariant-loop-best l = TableRaised l.offer l.self
 
-abbrev pub decreases-loop-near : goal.decreases-loop-near
-decreases-loop-near l = tries_left l.offer.site.items l.self.left
+abbrev pub decreases-loop-best : goal.decreases-loop-best
+decreases-loop-best l = tries_left l.offer.site.items l.self.left
