@@ -1,5 +1,5 @@
 -- The table of the search in rounds, of what is offered for a site.
-use Rattle.std.specs.Prelude.{ℕ, ◌^◌, ◌≤◌, ◌<◌, List, Bool, Option, MatchOption}
+use Rattle.std.specs.Prelude.{ℕ, ◌^◌, ◌≤◌, ◌<◌, Option, MatchOption}
 use Rattle.assignment.specs.Assignment.{Options}
 use Rattle.assignment.specs.Keys.{key_base}
 use Rattle.assignment.specs.SearchTheorem.{BestAnswers}

@@ -4,7 +4,7 @@ use Rattle.assignment.specs.Keys.{key_base}
 use Rattle.assignment.specs.Words.{no_cost, words_none}
 use Rattle.values.specs.declared.value.Worth.{Worth}
 use Rattle.raising.specs.SiteLaws.{key_is_plan, nothing_found, plan_settled}
-use Rattle.raising.specs.Tables.{TableRaised, PlanRaised, RoundOf, RoundTold, BestWorth, BestTold}
+use Rattle.raising.specs.Tables.{TableRaised, PlanRaised, RoundOf, RoundTold, BestTold}
 use Rattle.raising.specs.declared.offer.Offer.{Offer}
 use Rattle.raising.specs.declared.table.Table.{Table}
 

@@ -1,10 +1,11 @@
 // What is offered for a site, held together.
+ghost use Rattle.std.specs.Prelude.{◌≡◌};
 ghost use Rattle.lagrangian.specs.Lagrangians.{Relaxes};
 ghost use Rattle.raising.specs.Rounds.{RefusalsOffered};
 ghost use Rattle.raising.specs.TimedSites.{timed_of, SiteReady, SetsWeighed};
 
 use crate::Site;
-use lagrangian::{Lagrangian, relaxation_at, relaxation_of};
+use lagrangian::{Lagrangian, TimedCore};
 use values::MOST_SETS;
 
 // A site; of its items the timings and the costs of each alone on an awake core, what refusing them costs and which must be kept; and
@@ -23,23 +24,30 @@ pub(crate) struct Offer<'a> {
 }
 
 impl<'a> Offer<'a> {
+    // One of its cores.
+    fn core(&self) -> TimedCore<'a>
+        ensures timed { result.timed ≡ timed_of self.now.site }
+        ensures timings { result.timings ≡ self.now.timings }
+        ensures cost { result.cost ≡ self.now.cost }
+    {
+        TimedCore {
+            timed: self.site.timed(),
+            timings: self.timings,
+            cost: self.cost,
+        }
+    }
+
     // The relaxation with the ticks of a whole span weighed.
     pub(crate) fn relaxation_at(&self, weight: u64) -> Lagrangian
         ensures { Relaxes (timed_of self.now.site) self.now.timings.now self.now.cost.now result }
     {
-        relaxation_at(
-            self.site.timed(),
-            self.site.span,
-            weight,
-            self.timings,
-            self.cost,
-        )
+        self.core().relaxation_at(self.site.span, weight)
     }
 
     // The relaxation that is chosen for a set.
     pub(crate) fn relaxation_of(&self, set: usize) -> Lagrangian
         ensures { Relaxes (timed_of self.now.site) self.now.timings.now self.now.cost.now result }
     {
-        relaxation_of(self.site.timed(), set, self.timings, self.cost)
+        self.core().relaxation_of(set)
     }
 }

@@ -1,4 +1,4 @@
 use Rattle.raising.proofs.offer.Offer.relaxation_at.Goals as goal
 
-pub relaxation_at-requires : goal.relaxation_at-requires
-relaxation_at-requires c = rw c.timed.ensures c.args.self.now.ready.timed
+pub returns : goal.returns
+returns c = let core = c.core.ensures in rw (core.timed, core.timings, core.cost) at c.relaxation_at.ensures
