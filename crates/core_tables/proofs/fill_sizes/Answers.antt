@@ -1,8 +1,7 @@
-use Prim.Native.Nat.{◌/◌, ◌^◌}
-use mathlib.Core.Path.{◌≡◌, refl, ◌∙◌}
+use Prim.Native.Nat.{◌/◌}
+use mathlib.Core.Path.{refl, ◌∙◌}
 use native.Mathlib.Omega.{arith}
 use lib.ListN.{length-set}
-use lib.Pow.{pow_pos}
 use Rattle.core_tables.specs.ChargedTables.{first_size, one_more_size}
 use Rattle.core_tables.specs.SetSizes.{items_in-at_most}
 use Rattle.core_tables.proofs.fill_sizes.Goals as goal
@@ -22,9 +21,3 @@ pub loop-x-preserved : goal.loop-x-preserved
 loop-x-preserved c =
     let at = c.loop-x in
     (length-set at.sizes at.x _ ∙ at.invariant.0, one_more_size at.invariant.1 (omega arith) (omega arith) (omega arith))
-
-pub returns : goal.returns
-returns c =
-    let at = c.loop-x in
-    let all : at.x ≡ 2 ^ c.args.items = omega (arith, pow_pos c.args.items) in
-    rw all at at.invariant.1

@@ -11,11 +11,6 @@ use Rattle.light.proofs.light_plan.Goals.{In-Some}
 pub loop-i-init : goal.loop-i-init
 loop-i-init c = no_items _ _ _ _ _ _
 
-pub first_cheapest-requires : goal.first_cheapest-requires
-first_cheapest-requires c =
-    let fit = c.requires in
-    let offer = fit.affordable in record { levels_le_most_levels = offer.levels_limited; most_levels_in_bounds = omega (arith, offer.loads_for_all); most_levels_in_bounds_2 = omega (arith, offer.costs_for_all); i_in_bounds = omega (arith, fit.refusals_for_all); i_in_bounds_2 = omega (arith, fit.musts_for_all) }
-
 -- past the test, the item's pick is added
 added : (c : goal.In-Some) → c.loop-i.used + c.in-Some.pick.load ≤ c.args.capacity →
     let a = c.args in

@@ -1,5 +1,4 @@
-use mathlib.Core.Path.{◌≡◌, refl}
-use native.Mathlib.Omega.{arith}
+use mathlib.Core.Path.{refl}
 use Rattle.knapsack.specs.Offered.{offer_at}
 use Rattle.values.specs.Items.{item_at}
 use Rattle.light.specs.Picks.{with_level}
@@ -12,9 +11,3 @@ loop-l-init c = c.refused-picked.ensures _ _ _ refl refl
 pub loop-l-preserved : goal.loop-l-preserved
 unfolding offer_at
 loop-l-preserved c = with_level _ _ c.loop-l.invariant refl refl refl c.cheaper-picked.ensures
-
-pub returns : goal.returns
-returns c =
-    let at = c.loop-l in
-    let all : at.l ≡ c.args.levels = omega arith in
-    rw all at at.invariant

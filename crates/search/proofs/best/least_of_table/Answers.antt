@@ -3,21 +3,15 @@ use mathlib.Core.Path.{◌∙◌}
 use native.Mathlib.Nat.{le_refl}
 use native.Mathlib.Omega.{arith}
 use Rattle.partition.specs.Tables.{most_sets}
-use Rattle.search.specs.ChosenTables.{lower_ready, shift_fits, alone_ready, core_above_ready, table_above_ready, alone_chosen, core_above_chosen, table_above_chosen}
+use Rattle.search.specs.ChosenTables.{lower_ready, core_above_ready, table_above_ready, alone_chosen, core_above_chosen, table_above_chosen}
 use Rattle.search.proofs.best.least_of_table.Goals as goal
 
 pub fill_best-requires : goal.fill_best-requires
 fill_best-requires c = lower_ready c.requires (le_refl most_sets) (le_refl most_sets)
 
-pub least_on_one-requires : goal.least_on_one-requires
-least_on_one-requires c = alone_ready c.requires c.fill_best.ensures.best_filled
-
 pub returns-then-above-eq0 : goal.returns-then-above-eq0
 returns-then-above-eq0 c =
     c.least_on_one.ensures ∙ alone_chosen c.requires c.fill_best.ensures.best_filled (omega (arith, c.if-above-eq0.true))
-
-pub overflow_mul-shift : goal.overflow_mul-shift
-overflow_mul-shift c = record { fits = shift_fits c.requires }
 
 pub least_over_halves-requires : goal.least_over_halves-requires
 least_over_halves-requires c = core_above_ready c.requires c.fill_best.ensures.best_filled

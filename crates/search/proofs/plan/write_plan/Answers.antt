@@ -13,9 +13,6 @@ loop-i-init c =
 pub nonzero_div-plan : goal.nonzero_div-plan
 nonzero_div-plan c = omega (arith, (next_digit c.loop-i.invariant.1 c.loop-i-test.true).some_weight)
 
-pub overflow_cast-plan : goal.overflow_cast-plan
-overflow_cast-plan c = omega (arith, (next_digit c.loop-i.invariant.1 c.loop-i-test.true).small)
-
 pub nonzero_rem-rest : goal.nonzero_rem-rest
 nonzero_rem-rest c = omega (arith, (next_digit c.loop-i.invariant.1 c.loop-i-test.true).some_weight)
 

@@ -8,12 +8,6 @@ use Rattle.knapsack.proofs.relaxing.Choice.relax.Goals as goal
 pub loop-w-init : goal.loop-w-init
 loop-w-init c = relaxed_start _ _ _ _ _ _ _ _
 
-pub overflow_add-cost : goal.overflow_add-cost
-overflow_add-cost c = record { fits = c.requires.knapsack_sums_fit.cost_fits _ (omega arith) }
-
-pub overflow_add-keys : goal.overflow_add-keys
-overflow_add-keys c = record { fits = c.requires.knapsack_sums_fit.key_fits _ (omega arith) }
-
 -- entry w is relaxed beside those below it
 relaxed : (c : goal.Joined-cost-costs) →
     let a = c.args in
@@ -32,6 +26,3 @@ loop-w-preserved c = rw add-one (relaxed (goal.at.loop-w-preserved c).Joined-cos
 
 pub returns-after-cost-costs : goal.returns-after-cost-costs
 returns-after-cost-costs c = λ w le. (relaxed (goal.at.returns-after-cost-costs c).Joined-cost-costs).done w (omega arith) le
-
-pub returns : goal.returns
-returns c = λ w le. c.loop-w.invariant.done w (omega arith) le
