@@ -3,6 +3,7 @@ pub mod ReachedLaws
 pub mod Exchange
 pub mod Found
 pub mod SearchBounds
+pub mod PartnerColumns
 pub mod PromisingLaws
 pub mod WholeLaws
 pub mod ChangedLaws

@@ -1,12 +1,14 @@
 // Items that are alike but for their windows.
-ghost use Rattle.std.specs.Prelude.{true, false, ◌≡◌, ℕ, suc, ◌+◌, ◌*◌, ◌≤◌, ◌<◌, length};
+ghost use Rattle.std.specs.Prelude.{true, false, ◌≡◌, ◌+◌, ◌*◌, ◌≤◌, ◌<◌, length};
 ghost use Rattle.assignment.specs.Limits.{most_items};
 ghost use Rattle.knapsack.specs.Offered.{entry_of};
 ghost use Rattle.lagrangian.specs.TimedItems.{TimedReady};
 ghost use Rattle.lagrangian.specs.TimedCores.{timing_at, timing_width};
 ghost use Rattle.timed_sets.specs.Exchange.{DueNoSooner, Partner, Partners, SameLevels};
+ghost use Rattle.timed_sets.specs.PartnerColumns.{numbers_of, PartnerOf};
 
 use lagrangian::{TIMING_WIDTH, Timed, is_in_set};
+use timed_parts::column_of;
 use values::{MOST_ITEMS, STRIDE};
 
 // Whether two items have the same ticks of a job and the same cost at a level.
@@ -82,7 +84,7 @@ fn is_partner(
     has_same_levels(timed, j, i, timings, cost)
 }
 
-// 1 + the index of the last such item before item i, its partner; or 0.
+// The last such item before item i, its partner.
 fn partner_of(
     timed: Timed,
     set: usize,
@@ -90,21 +92,17 @@ fn partner_of(
     i: usize,
     timings: &[u32],
     cost: &[u64],
-) -> usize
+) -> Option<usize>
     requires timed_ready { TimedReady timed timings.now cost.now }
     requires i_lt_timed { i < timed.items }
-    ensures by_index { (j : ℕ) → result ≡ suc j → Partner timed timings.now cost.now j i }
-    ensures i_bound { keyed ≡ true → (j : ℕ) → result ≡ suc j →
-        (timing_at timings.now i).window ≤ (timing_at timings.now j).window }
+    ensures { PartnerOf timed timings.now cost.now keyed i result }
 {
-    let mut j = i;
-    while 0 < j {
-        if is_partner(timed, set, keyed, j - 1, i, timings, cost) {
-            return j;
+    for j in (0..i).rev() {
+        if is_partner(timed, set, keyed, j, i, timings, cost) {
+            return Some(j);
         }
-        j -= 1;
     }
-    0
+    None
 }
 
 // The same of each item.
@@ -114,16 +112,14 @@ pub(crate) fn partners_in(
     keyed: bool,
     timings: &[u32],
     cost: &[u64],
-) -> [usize; MOST_ITEMS]
+) -> [Option<usize>; MOST_ITEMS]
     requires { TimedReady timed timings.now cost.now }
-    ensures partners { Partners timed timings.now cost.now timed.items result }
-    ensures due_no_sooner { keyed ≡ true → DueNoSooner timings.now timed.items result }
+    ensures partners { Partners timed timings.now cost.now timed.items (numbers_of result) }
+    ensures due_no_sooner { keyed ≡ true → DueNoSooner timings.now timed.items (numbers_of result) }
 {
-    let mut partners = [0; MOST_ITEMS];
-    for i in 0..timed.items {
-        partners[i] = partner_of(timed, set, keyed, i, timings, cost);
-    }
-    partners
+    column_of(timed.items, None, |item| {
+        partner_of(timed, set, keyed, item, timings, cost)
+    })
 }
 
 // Whether an item of the set has a partner in it that is due sooner.
@@ -134,11 +130,10 @@ fn has_sooner_at(timed: Timed, set: usize, i: usize, timings: &[u32], cost: &[u6
     if !is_in_set(timed.items, set, i) {
         return false;
     }
-    let partner = partner_of(timed, set, false, i, timings, cost);
-    if partner == 0 {
-        return false;
+    match partner_of(timed, set, false, i, timings, cost) {
+        Some(partner) => is_due_sooner(partner, i, timings),
+        None => false,
     }
-    is_due_sooner(partner - 1, i, timings)
 }
 
 // Whether some item has: then a search for costs alone tries fewer levels than one for keys too.

@@ -4,6 +4,7 @@ ghost use Rattle.lagrangian.specs.PriceColumns.{most_ticks};
 ghost use Rattle.lagrangian.specs.TimedItems.{TimedItems, TimedReady};
 ghost use Rattle.timed_parts.specs.DemandRows.{DemandRows};
 ghost use Rattle.timed_sets.specs.Exchange.{Partners};
+ghost use Rattle.timed_sets.specs.PartnerColumns.{numbers_of};
 ghost use Rattle.timed_sets.specs.SearchBounds.{BoundsHold};
 ghost use Rattle.timed_parts.specs.Nodes.{Stands};
 ghost use Rattle.timed_sets.specs.Found.{SmallWorth, FoundFrom, worth_at};
@@ -44,16 +45,16 @@ pub(crate) fn least_from(
     lowcosts: &[u64],
     lowkeys: &[u64],
     rows: &[u32],
-    partners: &[usize],
+    partners: &[Option<usize>],
 ) -> Worth
     requires timed_ready { TimedReady bounded.timed timings.now cost.now }
     requires bounds_hold { BoundsHold bounded timings.now cost.now lowcosts.now lowkeys.now }
     requires by_index { (q : List ℕ) × (T : List Bool) × Stands bounded.timed timings.now cost.now node q T }
     requires small_worth { SmallWorth bounded.timed best }
     requires demand_rows { DemandRows bounded.timed timings.now most_ticks rows.now }
-    requires partners { Partners bounded.timed timings.now cost.now bounded.timed.items partners.now }
+    requires partners { Partners bounded.timed timings.now cost.now bounded.timed.items (numbers_of partners.now) }
     ensures by_index_2 { (q : List ℕ) (T : List Bool) → Stands bounded.timed timings.now cost.now node q T →
-        FoundFrom bounded.timed timings.now cost.now partners.now node q T best result }
+        FoundFrom bounded.timed timings.now cost.now (numbers_of partners.now) node q T best result }
     ensures small_worth_2 { SmallWorth bounded.timed result }
 {
     if !is_promising(bounded, node, best, lowcosts, lowkeys, rows) {

@@ -1,21 +1,23 @@
-use mathlib.Core.Path.{◌≡◌}
-use native.Mathlib.Omega.{arith}
-use Rattle.timed_sets.specs.PartnerLaws.{no_partner_yet, one_item_named, none_sooner_yet, one_item_no_sooner}
+use borrow.Author.Rules.{rules}
+use Prim.Native.Nat.{ℕ, ◌<◌}
+use lib.ListN.{get_or}
+use Rattle.std.proofs.Common.{◌∙◌, None}
+use Rattle.std.proofs.lemmas.List.{length-map}
+use Rattle.timed_sets.specs.PartnerColumns.{number_of, partner_at, PartnerOf}
 use Rattle.timed_sets.proofs.partners.partners_in.Goals as goal
+use Rattle.timed_sets.proofs.partners.partners_in.Goals.{After-column_of}
 
-pub loop-i-init : goal.loop-i-init
-loop-i-init c = (omega arith, no_partner_yet, λ keyed. none_sooner_yet)
-
-pub loop-i-preserved : goal.loop-i-preserved
-loop-i-preserved c =
-    let so_far = c.loop-i.invariant in (
-      omega arith,
-      one_item_named so_far.1 (omega arith) c.partner_of.ensures.by_index,
-      λ keyed. one_item_no_sooner (so_far.2 keyed) (omega (arith, so_far.1.places)) (c.partner_of.ensures.i_bound keyed),
-    )
+each : (c : After-column_of) (i : ℕ) → i < c.args.timed.items →
+    PartnerOf c.args.timed c.args.timings.now c.args.cost.now c.args.keyed i (get_or c.column_of.result i None)
+each c i under = let one = c.column_of.ensures.entries i under in search rules
 
 pub returns : goal.returns
-returns c =
-    let at = c.loop-i in
-    let all : at.i ≡ c.args.timed.items = omega arith in
-    record { partners = rw all at at.invariant.1; due_no_sooner = λ keyed. rw all at (at.invariant.2 keyed) }
+returns c = record {
+  partners = record {
+    places = length-map c.column_of.result number_of ∙ c.column_of.ensures.places;
+    partner = λ i j under is. (each c i under).is_partner j (partner_at c.column_of.result i is);
+  };
+  due_no_sooner = λ keyed. record {
+    no_sooner = λ i j under is. (each c i under).no_sooner keyed j (partner_at c.column_of.result i is);
+  };
+}

@@ -1,4 +1,6 @@
-use mathlib.Core.Path.{refl}
+use mathlib.Core.Path.{refl, sym, ◌∙◌}
+use Rattle.std.proofs.lemmas.List.{length-map}
+use Rattle.timed_sets.specs.PartnerColumns.{number_of}
 use native.Mathlib.Omega.{arith}
 use Rattle.lagrangian.specs.TimedCores.{timing_at}
 use Rattle.timed_sets.specs.FoundLaws.{found_nothing, passed_stands, found_passed, found_none, found_later, run_stands, found_both}
@@ -84,7 +86,7 @@ pub may_run-requires : goal.may_run-requires
 may_run-requires t c =
     let pre = c.requires in let its = pre.by_index in
     let below = item_below pre.timed_ready its.2 c.if-i-bounded.false in
-    let named = pre.partners in record { small_node = small_node pre.timed_ready its.2 c.if-i-bounded.false; level_in_bounds = omega (arith, below, its.2.level, c.if-l-bounded.false, pre.timed_ready.timed_items.few_levels, pre.timed_ready.timed_items.timings_for_all); partners_len = (named.places, partner_within named _ below) }
+    let named = pre.partners in record { small_node = small_node pre.timed_ready its.2 c.if-i-bounded.false; level_in_bounds = omega (arith, below, its.2.level, c.if-l-bounded.false, pre.timed_ready.timed_items.few_levels, pre.timed_ready.timed_items.timings_for_all); partners_len = (sym (length-map _ number_of) ∙ named.places, partner_within named _ below) }
 
 pub next_level-requires : goal.next_level-requires
 next_level-requires t c =
