@@ -4,6 +4,7 @@ pub mod Exchange
 pub mod Found
 pub mod SearchBounds
 pub mod PartnerColumns
+pub mod Searches
 pub mod PromisingLaws
 pub mod WholeLaws
 pub mod ChangedLaws

@@ -18,22 +18,22 @@ use given::worth_along;
 use lagrangian::cheapest_key;
 pub use partners::has_sooner_partner;
 use partners::partners_in;
-use search::least_from;
+use search::Search;
 use timed_parts::{Bounded, Node, ROW_WORDS, fill_rows};
 use values::{MOST_ITEMS, Worth};
 
 // The least value of running exactly the items of a set, by its number, with every job done in time; or the limit `most`, where nothing
 // comes before it. Where not `keyed`, that is said of costs alone: the key is any pattern's, and fewer levels are tried. The search begins
 // with the pattern of the levels that are cheapest by the relaxation, where the core admits it.
-pub fn least_up_to(
+pub fn least_up_to<'a>(
     bounded: Bounded,
     set: usize,
     keyed: bool,
     most: Worth,
-    timings: &[u32],
-    cost: &[u64],
-    lowcosts: &[u64],
-    lowkeys: &[u64],
+    timings: &'a [u32],
+    cost: &'a [u64],
+    lowcosts: &'a [u64],
+    lowkeys: &'a [u64],
 ) -> Worth
     requires timed_ready { TimedReady bounded.timed timings.now cost.now }
     requires bounds_hold { BoundsHold bounded timings.now cost.now lowcosts.now lowkeys.now }
@@ -51,15 +51,21 @@ pub fn least_up_to(
         key: 0,
         ticks: [0; MOST_ITEMS],
     };
-    let prices = bounded.relaxed.prices;
-    let key = cheapest_key(bounded.timed, set, prices, timings, cost);
-    let one = worth_along(bounded.timed, start, key, timings, cost);
-    let best = most.min(one);
-    let ticks = bounded.relaxed.ticks;
+    let timed = bounded.timed;
+    let relaxed = bounded.relaxed;
+    let key = cheapest_key(timed, set, relaxed.prices, timings, cost);
+    let best = most.min(worth_along(timed, start, key, timings, cost));
     let mut rows = [0; ROW_WORDS];
-    fill_rows(bounded.timed, ticks, timings, &mut rows);
-    let partners = partners_in(bounded.timed, set, keyed, timings, cost);
-    least_from(
-        bounded, start, best, timings, cost, lowcosts, lowkeys, &rows, &partners,
-    )
+    fill_rows(timed, relaxed.ticks, timings, &mut rows);
+    let partners = partners_in(timed, set, keyed, timings, cost);
+    let search = Search {
+        bounded,
+        timings,
+        cost,
+        lowcosts,
+        lowkeys,
+        rows: &rows,
+        partners,
+    };
+    search.least_from(start, best)
 }

@@ -27,6 +27,6 @@ returns c =
       turned = inl (record {
         due_no_sooner = c.is_due_sooner.ensures.i_bound c.if-is_due_sooner.false;
         higher = rw (← between, ← c.choice_at.ensures) (leb-false _ _ is);
-        no_more_ticks = c.if-its-partners_ticks.false;
+        no_more_ticks = omega arith;
       });
     }
