@@ -1,6 +1,6 @@
 use native.Mathlib.Omega.{arith}
 use mathlib.Core.Path.{sym, ◌∙◌}
-use Rattle.timed_sets.proofs.Worths.{no_sooner}
+use Rattle.values.specs.WorthLaws.{less_not_first, not_first}
 use Rattle.lagrangian.specs.FrontKeyLaws.{power_above_0}
 use Rattle.timed_sets.specs.PromisingLaws.{rest_below, bound_cost_fits, bound_key_fits, none_to_come, bound_not_first}
 use Rattle.timed_sets.proofs.search.Search.bound_comes_first.Goals as goal
@@ -50,4 +50,4 @@ overflow_add-bound-2 c =
 pub returns : goal.returns
 returns c =
     λ q T stands no.
-    bound_not_first c.requires.ready.bounds_hold.table stands (omega (arith, c.if-low-ge-NO_COST.false)) (rw (← c.keys_of.ensures) (no_sooner _ _ (sym c.lt.ensures ∙ no)))
+    bound_not_first c.requires.ready.bounds_hold.table stands (omega (arith, c.if-low-ge-NO_COST.false)) (rw (← c.keys_of.ensures) (not_first (less_not_first (sym c.lt.ensures ∙ no))))
