@@ -9,4 +9,4 @@ pub use limits::{
     ENTRIES, MOST_CAPACITY, MOST_CORES, MOST_COST, MOST_ITEMS, MOST_LEVELS, MOST_SETS, STRIDE,
 };
 pub use powers::{KEY_BASE, keys_of, sets_of};
-pub use value::{NO_COST, Worth, lower};
+pub use value::{NO_COST, Worth};

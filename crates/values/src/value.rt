@@ -1,7 +1,7 @@
 // What a part of a plan is worth.
 ghost use Rattle.std.specs.Prelude.{◌≡◌, ◌≤◌, ◌<◌, length, MatchOption};
 ghost use Rattle.assignment.specs.Entries.{Lowered};
-ghost use Rattle.assignment.specs.Words.{no_cost, value_of};
+ghost use Rattle.assignment.specs.Words.{no_cost};
 ghost use Rattle.values.specs.Worths.{worth_of};
 
 // 2^62: a cost from here on stands for none.
@@ -43,13 +43,4 @@ impl Worth {
             keys[s] = self.key;
         }
     }
-}
-
-// Lowers entry s of a table, a slice of costs and one of keys, to a cost and a key, where these come first.
-pub fn lower(s: usize, cost: u64, key: u64, costs: &mut [u64], keys: &mut [u64])
-    requires s_in_bounds { s < length costs.old }
-    requires s_in_bounds_2 { s < length keys.old }
-    ensures { Lowered s (value_of cost key) costs.old keys.old costs.new keys.new }
-{
-    Worth { cost, key }.lower(s, costs, keys);
 }
