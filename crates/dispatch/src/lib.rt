@@ -10,7 +10,7 @@ ghost use Rattle.dispatch.specs.Rows as rows;
 ghost use Rattle.dispatch.specs.SelectedTasks.{numbered};
 
 pub use ranges::Slot;
-use tick_steps::{Best, due_at};
+use tick_steps::{Best, due_at, is_released};
 
 // What the core runs, in columns: for each of its tasks a number, a period, a window and the ticks of a job.
 #[derive(Clone, Copy)]
@@ -27,7 +27,7 @@ fn after_release(period: u32, ticks: u32, tick: u32, left: u32) -> u32
     requires { 0 < period }
     ensures { result ≡ cond (eqb (tick % period) 0) ticks left }
 {
-    if tick % period == 0 {
+    if is_released(period, tick) {
         return ticks;
     }
     left
@@ -78,6 +78,7 @@ struct Run {
 }
 
 // What a slot shows: the number of the task that runs, or 0 for none.
+#[tactic(auto, unfolding(crate::specs::SelectedTasks::numbered))]
 pub fn slot_of(numbers: &[Slot], task: Option<usize>) -> Slot
     requires { IfSome task (λ j. j < length numbers.now) }
     ensures { result ≡ numbered (λ j. get_or numbers.now j 0) (number_of task) }

@@ -1,15 +1,9 @@
 use native.Mathlib.Omega.{arith}
-use borrow.Author.Rules.{rules}
-use Rattle.demand.specs.UnmetTickLaws.{end_of_span_decides, found_unmet}
+use Rattle.demand.specs.UnmetTickLaws.{end_of_span_decides}
 use Rattle.demand.proofs.unmet_tick.Goals as goal
 
 pub invariant_of-jobs : goal.invariant_of-jobs
 invariant_of-jobs c = record { well_formed = c.requires.columns; words = λ i. omega (arith, c.type_inv.ticks i) }
-
-pub returns-then-span-demand_at : goal.returns-then-span-demand_at
-returns-then-span-demand_at c =
-    let ok = c.requires in
-    found_unmet _ _ _ (search rules) (rw c.demand_at.ensures at c.if-span-demand_at.true)
 
 pub returns : goal.returns
 returns c =

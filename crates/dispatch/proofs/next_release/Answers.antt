@@ -5,9 +5,6 @@ use native.Mathlib.Nat.{mod-lt}
 use Rattle.dispatch.specs.ReleaseLaws.{next_multiple}
 use Rattle.dispatch.proofs.next_release.Goals as goal
 
-pub overflow_sub-wait : goal.overflow_sub-wait
-overflow_sub-wait c = omega (arith, mod-lt c.args.tick c.requires.period_nonzero)
-
 pub returns-then-wait-end : goal.returns-then-wait-end
 returns-then-wait-end c =
     let a = c.args in

@@ -7,7 +7,6 @@ use Rattle.laws.specs.Sums.{sum}
 use Rattle.ranges.specs.Limits.{most_span, most_tasks, most_word}
 use Rattle.dispatch.specs.Columns.{column_tasks}
 use Rattle.edf.specs.Demand.{demand_at, jobs_due, ticks_due}
-use Rattle.edf.specs.JobsDueLaws.{period_above_0}
 use Rattle.demand.specs.ColumnDemandLaws.{demand_so_far_at_most}
 use Rattle.demand.proofs.Jobs.demand_at.Goals as goal
 use Rattle.demand.proofs.Jobs.demand_at.Goals.{After-jobs_due-jobs}
@@ -38,11 +37,6 @@ so_far c =
 pub loop-i-init : goal.loop-i-init
 unfolding sum
 loop-i-init c = refl
-
-pub jobs_due-jobs-requires : goal.jobs_due-jobs-requires
-jobs_due-jobs-requires c =
-    let ok = c.args.self.now.well_formed in
-    let below = c.loop-i-test.true in record { period_nonzero = (period_above_0 ok.well_formed _ below, ok.well_formed.window_within_period _ below); period_bound = omega (arith, ok.period_at_most _ below, c.requires) }
 
 pub overflow_mul-due : goal.overflow_mul-due
 overflow_mul-due c = omega (arith, its_ticks (goal.at.overflow_mul-due c).After-jobs_due-jobs, so_far (goal.at.overflow_mul-due c).After-jobs_due-jobs)

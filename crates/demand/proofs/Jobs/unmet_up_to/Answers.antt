@@ -1,19 +1,11 @@
 use mathlib.Core.Path.{◌≡◌}
 use native.Mathlib.Omega.{arith}
 use borrow.Author.Rules.{rules}
-use Rattle.demand.specs.UnmetTickLaws.{found_unmet, goes_on_at, none_above_end, none_unmet}
+use Rattle.demand.specs.UnmetTickLaws.{goes_on_at, none_above_end, none_unmet}
 use Rattle.demand.proofs.Jobs.unmet_up_to.Goals as goal
 
 pub loop-tick-init : goal.loop-tick-init
 loop-tick-init c = (search rules, none_above_end _ _)
-
-pub demand_at-due-requires : goal.demand_at-due-requires
-demand_at-due-requires c =
-    omega (arith, c.requires, c.loop-tick.invariant.0)
-
-pub returns-then-tick-due : goal.returns-then-tick-due
-returns-then-tick-due c =
-    found_unmet _ _ _ c.loop-tick.invariant.0 (rw c.demand_at-due.ensures at c.if-tick-due.true)
 
 pub loop-tick-preserved : goal.loop-tick-preserved
 loop-tick-preserved c =

@@ -8,11 +8,6 @@ use Rattle.dispatch.proofs.Columns.release.Goals as goal
 pub loop-i-init : goal.loop-i-init
 loop-i-init c = (refl, none_released _ _ _ _)
 
-pub after_release-requires : goal.after_release-requires
-after_release-requires c =
-    let ok = c.args.self.now.well_formed.dues_ok.periods_ok in
-    ok.above_0 c.loop-i.i c.loop-i-test.true
-
 pub loop-i-preserved : goal.loop-i-preserved
 unfolding after_release
 loop-i-preserved c =

@@ -11,32 +11,10 @@ loop-tick-init c =
     let pre = c.requires in
     (search rules, search rules, refl, refl, row_starts _ _ _ _ c.args.self.now.well_formed _ _ pre.by_index)
 
-pub release_due-soonest-requires : goal.release_due-soonest-requires
-release_due-soonest-requires c =
-    let pre = c.requires in
-    let inv = c.loop-tick.invariant in record { periods_in_bounds = omega (arith, pre.periods_in_bounds, inv.2); tick_lt_end = (c.loop-tick-test.true, inv.1); no_release = inv.4.no_release }
-
-pub run_earliest-run-requires : goal.run_earliest-run-requires
-run_earliest-run-requires c =
-    let pre = c.requires in
-    let released = c.release_due-soonest.ensures in record { periods_in_bounds = omega (arith, released.released.same_length, pre.periods_in_bounds, c.loop-tick.invariant.2); tick_lt_soonest = released.next_release.later }
-
 pub slot_of-shown-requires : goal.slot_of-shown-requires
 slot_of-shown-requires c =
     let ok = c.args.self.now.well_formed in
     chosen_below _ _ (omega (arith, ran_is_task c.run_earliest-run.ensures, ok.one_number_each))
-
-pub fill-requires : goal.fill-requires
-fill-requires c =
-    let until = c.run_earliest-run.ensures.until in
-    let next = c.release_due-soonest.ensures.next_release in
-    let at = c.loop-tick in
-    (omega (arith, until.later), omega (arith, until.within, next.within, at.invariant.3))
-
-pub loop-tick-smaller : goal.loop-tick-smaller
-loop-tick-smaller c =
-    let until = c.run_earliest-run.ensures.until in
-    omega (arith, until.later, c.loop-tick-test.true)
 
 pub loop-tick-preserved : goal.loop-tick-preserved
 loop-tick-preserved c =
