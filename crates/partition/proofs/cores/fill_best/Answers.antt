@@ -2,17 +2,9 @@ use Prim.Native.Nat.{◌^◌}
 use mathlib.Core.Path.{◌≡◌, refl, ◌∙◌}
 use native.Mathlib.Omega.{arith}
 use Rattle.assignment.specs.Keys.{key_base}
-use Rattle.partition.specs.BestFilled.{first_core, copied, next_choices, core_ready, next_core}
+use Rattle.partition.specs.BestFilled.{first_core, copied, next_choices, next_core}
 use Rattle.partition.specs.CoreLaws.{others_kept}
 use Rattle.partition.proofs.cores.fill_best.Goals as goal
-
-pub copy_entries-requires : goal.copy_entries-requires
-copy_entries-requires c =
-    let ready = c.requires in record { le_most_items = ready.few_items; in_bounds = ready.core_table.small.costs_for_all; in_bounds_2 = ready.costs_for_all }
-
-pub copy_entries-requires-2 : goal.copy_entries-requires-2
-copy_entries-requires-2 c =
-    let ready = c.requires in record { le_most_items = ready.few_items; in_bounds = ready.core_table.small.keys_for_all; in_bounds_2 = ready.keys_for_all }
 
 pub loop-c-init : goal.loop-c-init
 loop-c-init c =
@@ -29,10 +21,6 @@ loop-c-init c =
 pub overflow_mul-shift : goal.overflow_mul-shift
 unfolding key_base
 overflow_mul-shift c = omega (arith, next_choices c.requires c.loop-c-test.true)
-
-pub add_core-requires : goal.add_core-requires
-add_core-requires c =
-    core_ready c.requires (omega arith) c.loop-c.auto.c c.loop-c.invariant.0
 
 pub loop-c-preserved : goal.loop-c-preserved
 loop-c-preserved c =

@@ -1,14 +1,10 @@
-use Prim.Native.Nat.{◌<◌, ◌^◌}
-use mathlib.Core.Path.{◌≡◌}
+use Prim.Native.Nat.{◌<◌}
 use native.Mathlib.Omega.{arith}
 use borrow.Author.Rules.{rules}
 use lib.ListN.{length, length-set}
 use lib.Pow.{pow_pos}
 use Rattle.partition.specs.MoveLaws.{first_weight, next_weight_fits, one_more_weight}
 use Rattle.partition.proofs.cores.fill_weights.Goals as goal
-
-pub bounds-weights-0 : goal.bounds-weights-0
-bounds-weights-0 c = omega (arith, pow_pos c.args.items)
 
 pub loop-x-init : goal.loop-x-init
 loop-x-init c =
@@ -26,9 +22,3 @@ pub loop-x-preserved : goal.loop-x-preserved
 loop-x-preserved c =
     let at = c.loop-x in
     one_more_weight at.invariant at.auto.x (omega (arith, length-set c.args.weights.now 0 0))
-
-pub returns : goal.returns
-returns c =
-    let at = c.loop-x in
-    let all : at.x ≡ 2 ^ c.args.items = omega (arith, pow_pos c.args.items) in
-    rw all at at.invariant

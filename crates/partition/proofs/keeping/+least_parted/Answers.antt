@@ -3,14 +3,9 @@ use Rattle.assignment.specs.Values.{lesser}
 use Rattle.values.specs.Worths.{worth_of}
 use Rattle.values.specs.WorthLaws.{lesser_worth-value, min_is_lesser}
 use Rattle.partition.specs.Splits.{sum_at}
-use Rattle.partition.specs.SplitLaws.{first_sum_fits, half_is_power}
+use Rattle.partition.specs.SplitLaws.{half_is_power}
 use Rattle.partition.specs.PartedLaws.{parted_nothing, parted_either, half_of_parts, in_top_ready, in_rest_ready}
 use Rattle.partition.proofs.keeping.+least_parted.Goals as goal
-
-pub sum-requires : goal.sum-requires
-sum-requires t c =
-    let ready = c.requires in
-    record { costs_fit = first_sum_fits ready.sets ready.costs_fit; keys_fit = first_sum_fits ready.sets ready.keys_fit }
 
 pub returns-then-size-eq1 : goal.returns-then-size-eq1
 returns-then-size-eq1 t c =

@@ -1,5 +1,5 @@
 use Rattle.std.proofs.Common.{◌∙◌, arith}
-use Rattle.partition.specs.RefuseSteps.{half_of_sets, next_item, without_ready, with_ready, item_ready, nothing_refused, item_kept, item_refused}
+use Rattle.partition.specs.RefuseSteps.{half_of_sets, without_ready, with_ready, item_ready, nothing_refused, item_kept, item_refused}
 use Rattle.partition.proofs.keeping.+refuse.Goals as goal
 
 pub returns-then-size-eq1 : goal.returns-then-size-eq1
@@ -15,9 +15,6 @@ refuse-requires-2 t c =
     let kept = c.refuse.auto in
     let more = c.if-size-eq1.false in
     (omega (arith, half_of_sets c.requires more, c.decreases), with_ready c.requires more c.refuse.ensures kept.costs kept.keys)
-
-pub bounds-must-i : goal.bounds-must-i
-bounds-must-i t c = (next_item c.requires c.if-size-eq1.false).in_musts
 
 pub returns-then-must-i : goal.returns-then-must-i
 returns-then-must-i t c = item_kept c.if-size-eq1.false c.refuse.ensures c.refuse-2.ensures c.if-must-i.true

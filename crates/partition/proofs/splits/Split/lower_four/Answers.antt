@@ -6,9 +6,6 @@ use Rattle.partition.specs.Splits.{sum_at}
 use Rattle.partition.specs.SplitLaws.{top_ready, rest_ready, lowered_one_more}
 use Rattle.partition.proofs.splits.Split.lower_four.Goals as goal
 
-pub in_top-requires : goal.in_top-requires
-in_top-requires c = let start = c in omega (arith, start.requires.splits_ready, start.well_formed)
-
 pub lower_pair-requires-2 : goal.lower_pair-requires-2
 lower_pair-requires-2 c =
     let start = c in

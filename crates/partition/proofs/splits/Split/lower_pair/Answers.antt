@@ -6,9 +6,6 @@ use Rattle.partition.specs.Splits.{sum_at}
 use Rattle.partition.specs.SplitLaws.{lowered_one_more}
 use Rattle.partition.proofs.splits.Split.lower_pair.Goals as goal
 
-pub in_top-requires : goal.in_top-requires
-in_top-requires c = let start = c in omega (arith, start.requires.splits_ready, start.well_formed)
-
 pub returns : goal.returns
 returns c =
     let start = c in
