@@ -117,7 +117,8 @@ fn list_items(
     starts: &mut [usize],
 ) -> Result<(), NoRoom>
     requires { ListsFit core n items offers.load.now offers.cost.now points.old starts.old }
-    ensures front_listed { OnOk result (FrontListed core offers.entry.load.now offers.entry.cost.now n (items - n) points.new starts.new) }
+    ensures front_listed { OnOk result (FrontListed core offers.entry.load.now offers.entry.cost.now
+        n (items - n) points.new starts.new) }
     ensures some_items { OnErr result (0 < n) }
 {
     list_none(points, starts);
