@@ -84,38 +84,7 @@ impl TimedCore<'_> {
     }
 }
 
-// The same three for callers that hold the parts of a core.
-
-pub fn relaxation_at(
-    timed: Timed,
-    tick: u32,
-    weight: u64,
-    timings: &[u32],
-    cost: &[u64],
-) -> Lagrangian
-    requires { TimedReady timed timings.now cost.now }
-    ensures { Relaxes timed timings.now cost.now result }
-{
-    let core = TimedCore {
-        timed,
-        timings,
-        cost,
-    };
-    core.relaxation_at(tick, weight)
-}
-
-pub fn relaxation_of(timed: Timed, set: usize, timings: &[u32], cost: &[u64]) -> Lagrangian
-    requires { TimedReady timed timings.now cost.now }
-    ensures { Relaxes timed timings.now cost.now result }
-{
-    let core = TimedCore {
-        timed,
-        timings,
-        cost,
-    };
-    core.relaxation_of(set)
-}
-
+// The same for a caller that holds the parts of a core.
 pub fn relaxation_from(
     timed: Timed,
     relaxed: Lagrangian,

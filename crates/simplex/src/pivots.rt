@@ -12,6 +12,7 @@ pub fn take_off(
 )
     requires { columns ≤ MOST_COLUMNS }
 {
+    // By an index, which stays within both rows (must-fail/entries_one_further goes past one).
     for column in 0..columns {
         entries[column] -= factor * others[column];
     }
