@@ -40,10 +40,8 @@ pub fn drop_unserved(
     }
     let half = sets_of(timed.items - item - 1);
     let with = set + half;
-    if !largest_fails {
-        if is_served(timed, with + half - 1, column, timings) {
-            return;
-        }
+    if !largest_fails && is_served(timed, with + half - 1, column, timings) {
+        return;
     }
     drop_unserved(timed, column, item + 1, set, false, timings, costs);
     if !is_served(timed, with, column, timings) {
