@@ -1,118 +1,128 @@
-// Both planners, each with buffers of its own. A planner's answer is five numbers: the refusal's number and place, energy,
-// penalty and cost. Those that an answer of its kind lacks are 0.
+// Both planners, each with buffers of its own.
+ghost use Rattle.std.specs.Prelude.{◌≤◌};
+
 use exhaustive::{Site, Tried};
-use generator::tally::{Counts, add, add_if};
-use generator::{Choices, PLAN_ROOM, TABLE_ROOM, Table, plans_differ, tables_differ, tally};
-use prices::Priced;
-use refusals::Refusal;
+use generator::tally::{Counts, Faults};
+use generator::{Choices, Generator, PLAN_ROOM, TABLE_ROOM, Table, draw_room};
+use prices::{Price, Priced};
+use ranges::Slot;
+use refusals::{Refusal, refusal_number, refusal_place};
+
+pub(crate) type Answer = Result<Price, Refusal>;
 
 // How many elements of each buffer are lent.
 #[derive(Clone, Copy)]
 pub(crate) struct Rooms {
-    pub(crate) plan: usize,
-    pub(crate) table: usize,
+    plan: usize,
+    table: usize,
+    ghost plan_fits: { plan ≤ 12 },
+    ghost table_fits: { table ≤ 128 },
 }
 
-fn numbers_of(answer: Priced) -> [u64; 5] {
-    match answer {
-        Priced::Cost(price) => [0, 0, price.energy, price.penalty, price.cost],
-        Priced::Refused(why) => {
-            [
-                refusals::refusal_number(why),
-                refusals::refusal_place(why),
-                0,
-                0,
-                0,
-            ]
+impl Rooms {
+    pub(crate) fn all() -> Rooms {
+        Rooms {
+            plan: PLAN_ROOM,
+            table: TABLE_ROOM,
         }
     }
-}
 
-// Lends so much of the table; a room above the buffers is never drawn.
-fn search_with_table(
-    words: &[u32],
-    plan: &mut [u32],
-    table: &mut [ranges::Slot],
-    room: usize,
-) -> Priced {
-    if room <= table.len() {
-        return planner::plan(words, plan, &mut table[0..room]);
+    // Room for what is planned at a site, or for nothing where it is refused.
+    pub(crate) fn draw(site: Result<Site, Refusal>, rng: &mut Generator) -> Rooms {
+        let (tasks, slots) = match site {
+            Ok(site) => (site.tasks, site.slots),
+            Err(_) => (0, 0),
+        };
+        let plan = draw_room(tasks, PLAN_ROOM, rng);
+        let table = draw_room(slots, TABLE_ROOM, rng);
+        Rooms { plan, table }
     }
-    Priced::Refused(Refusal::ShortBuffer(room))
 }
 
-// Lends so much of the plan.
-fn search_with_plan(
-    words: &[u32],
-    plan: &mut [u32],
-    table: &mut [ranges::Slot],
-    rooms: Rooms,
-) -> Priced {
-    let room = rooms.plan;
-    if room <= plan.len() {
-        return search_with_table(words, &mut plan[0..room], table, rooms.table);
-    }
-    Priced::Refused(Refusal::ShortBuffer(room))
+// What a planner answers, and what it leaves in its buffers.
+#[derive(Clone, Copy)]
+pub(crate) struct Planned<A> {
+    pub(crate) answer: A,
+    pub(crate) plan: Choices,
+    pub(crate) table: Table,
 }
 
-// The answer of the planner that is compared.
-pub(crate) fn plan_by_search(
+// Lends a planner so much of buffers that held numbers which no planner puts there.
+fn plan_into<A, F: FnOnce(&[u32], &mut [u32], &mut [Slot]) -> A>(
+    planner: F,
     words: &[u32],
     rooms: Rooms,
-    plan: &mut Choices,
-    table: &mut Table,
-) -> [u64; 5] {
-    numbers_of(search_with_plan(words, plan, table, rooms))
+) -> Planned<A>
+    requires { F.IsAlwaysCallable planner }
+{
+    let mut plan = [7_777_777; PLAN_ROOM];
+    let mut table = [77; TABLE_ROOM];
+    let answer = planner(words, &mut plan[..rooms.plan], &mut table[..rooms.table]);
+    Planned {
+        answer,
+        plan,
+        table,
+    }
+}
+
+fn search(words: &[u32], plan: &mut [u32], table: &mut [Slot]) -> Answer {
+    match planner::plan(words, plan, table) {
+        Priced::Cost(price) => Ok(price),
+        Priced::Refused(why) => Err(why),
+    }
+}
+
+// By the planner that is compared.
+pub(crate) fn plan_by_search(words: &[u32], rooms: Rooms) -> Planned<Answer> {
+    plan_into(search, words, rooms)
 }
 
 fn count_tried(tried: Tried, counts: &mut Counts) {
-    add(counts, tally::PLANS_TRIED, tried.tried);
-    add(counts, tally::PLANS_PRICED, tried.priced);
-    add_if(counts, tally::SEVERAL_LEAST, 1 < tried.cheapest);
-    add_if(counts, tally::PLANS_UNTRIED, !tried.complete);
-    add(counts, tally::FITS_DIFFER, tried.fits_differ);
+    counts.plans.tried.add(tried.tried);
+    counts.plans.priced.add(tried.priced);
+    counts.plans.several_least.add_if(1 < tried.cheapest);
+    counts.faults.plans_untried.add_if(!tried.complete);
+    counts.faults.fits_differ.add(tried.fits_differ);
 }
 
-// Counts the numbers in which two answers differ, each at its place.
-fn count_differences(counts: &mut Counts, a: &[u64; 5], b: &[u64; 5]) {
-    let mut i = 0;
-    while i < 5 {
-        add_if(counts, tally::ANSWERS_DIFFER + i, a[i] != b[i]);
-        i += 1;
+// A refusal's number and place, energy, penalty and cost: 0 for those that an answer of its kind lacks.
+fn numbers_of(answer: Answer) -> [u64; 5] {
+    match answer {
+        Ok(price) => [0, 0, price.energy, price.penalty, price.cost],
+        Err(why) => [refusal_number(why), refusal_place(why), 0, 0, 0],
     }
+}
+
+// Counts the numbers in which two answers differ.
+fn count_differences(a: Answer, b: Answer, faults: &mut Faults) {
+    let [refusal, place, energy, penalty, cost] = numbers_of(a);
+    let [
+        other_refusal,
+        other_place,
+        other_energy,
+        other_penalty,
+        other_cost,
+    ] = numbers_of(b);
+    faults.refusals.add_if(refusal != other_refusal);
+    faults.places.add_if(place != other_place);
+    faults.energies.add_if(energy != other_energy);
+    faults.penalties.add_if(penalty != other_penalty);
+    faults.costs.add_if(cost != other_cost);
 }
 
 // Has the planner that tries every plan do the same, and counts what differs.
 pub(crate) fn compare_with_trying(
     words: &[u32],
-    site: Site,
     rooms: Rooms,
-    answer: &[u64; 5],
-    plan: &Choices,
-    table: &Table,
+    planned: &Planned<Answer>,
     counts: &mut Counts,
 ) {
-    let mut own_plan = [7_777_777; PLAN_ROOM];
-    let mut own_table = [77; TABLE_ROOM];
-    let tried = exhaustive::plan(
-        words,
-        site,
-        &mut own_plan,
-        rooms.plan,
-        &mut own_table,
-        rooms.table,
-    );
-    add_if(counts, tally::PLANS_DIFFER, plans_differ(plan, &own_plan));
-    add_if(
-        counts,
-        tally::TABLES_DIFFER,
-        tables_differ(table, &own_table),
-    );
-    count_answer(tried, answer, counts);
-}
-
-fn count_answer(tried: Tried, answer: &[u64; 5], counts: &mut Counts) {
-    let own = tried.answer;
-    count_differences(counts, answer, &own);
-    count_tried(tried, counts);
+    let own = plan_into(exhaustive::plan, words, rooms);
+    counts.faults.plan_buffers.add_if(planned.plan != own.plan);
+    counts
+        .faults
+        .table_buffers
+        .add_if(planned.table != own.table);
+    count_differences(planned.answer, own.answer.answer, &mut counts.faults);
+    count_tried(own.answer, counts);
 }

@@ -1,118 +1,74 @@
 // Whether a plan's cores fit, tick by tick: what is due by a tick may not be more than the ticks up to it. This is the paper's test at
 // its plainest, and shares nothing with the test that pricing makes.
+ghost use Rattle.std.specs.Prelude.{◌≤◌, length};
+
+use crate::site::level_count;
 use instance::{Instance, Task};
 
 const MOST_TASKS: usize = ranges::MOST_TASKS as usize;
 
-// What a core runs: the ticks of a job for each task that it keeps, 0 for the others.
-type JobTicks = [u32; MOST_TASKS];
-
-// The rest of a division, 0 where there is none.
-fn rest(a: u32, b: u32) -> u32 {
-    if b == 0 {
-        return 0;
+// The ticks of a job on a core, where the task is kept there.
+fn ticks_on(inst: &Instance, task: Task, choice: u32, core: u32) -> Option<u32> {
+    let place = choice.checked_sub(1)?;
+    let levels = level_count(inst);
+    if place.checked_div(levels)? != core {
+        return None;
     }
-    a % b
-}
-
-fn quotient(a: u32, b: u32) -> u32 {
-    if b == 0 {
-        return 0;
+    let level = inst.levels.get(place.checked_rem(levels)? as usize)?;
+    if level.speed == 0 {
+        return None;
     }
-    a / b
-}
-
-fn rounded_up(a: u32, b: u32) -> u32 {
-    if rest(a, b) == 0 {
-        return quotient(a, b);
-    }
-    std::num::wrapping_add_u32(quotient(a, b), 1)
-}
-
-fn speed_of(inst: Instance, level: u32) -> u32 {
-    if level < ranges::MOST_LEVELS {
-        let chosen = inst.levels[level as usize];
-        return chosen.speed;
-    }
-    0
-}
-
-// The ticks of a job on a core, 0 where the task is not kept there.
-fn ticks_on(inst: Instance, task: Task, choice: u32, core: u32) -> u32 {
-    let levels = (inst.levelcount % 4294967296) as u32;
-    if choice == 0 {
-        return 0;
-    }
-    if quotient(choice - 1, levels) != core {
-        return 0;
-    }
-    let busy = rounded_up(task.cycles, speed_of(inst, rest(choice - 1, levels)));
-    std::num::wrapping_add_u32(busy, inst.start)
-}
-
-fn job_ticks(inst: Instance, choices: &[u32; MOST_TASKS], core: u32) -> JobTicks {
-    let mut ticks = [0; MOST_TASKS];
-    let mut i = 0;
-    while i < MOST_TASKS {
-        if i < inst.taskcount {
-            let task = inst.tasks[i];
-            ticks[i] = ticks_on(inst, task, choices[i], core);
-        }
-        i += 1;
-    }
-    ticks
+    Some(task.cycles.div_ceil(level.speed).wrapping_add(inst.start))
 }
 
 // Whether a job of a task is due at a tick: its first at the deadline, the others a period after another.
 fn is_due(task: Task, tick: u32) -> bool {
-    if tick < task.deadline {
-        return false;
+    match tick.checked_sub(task.deadline) {
+        Some(after) => after.is_multiple_of(task.period),
+        None => false,
     }
-    rest(tick - task.deadline, task.period) == 0
-}
-
-// With the ticks of a task's job, where it is due at a tick.
-fn with_job(due: u64, task: Task, ticks: u32, tick: u32) -> u64 {
-    if 0 < ticks && is_due(task, tick) {
-        return std::num::wrapping_add_u64(due, ticks as u64);
-    }
-    due
 }
 
 // The ticks of the jobs that are due at a tick.
-fn due_at(inst: Instance, ticks: &JobTicks, tick: u32) -> u64 {
-    let mut due = 0;
-    let mut i = 0;
-    while i < MOST_TASKS {
-        let task = inst.tasks[i];
-        due = with_job(due, task, ticks[i], tick);
-        i += 1;
+fn due_at(tasks: &[Task], ticks: &[u32], tick: u32) -> u64 {
+    let mut due: u64 = 0;
+    for (task, ticks) in tasks.iter().zip(ticks) {
+        if 0 < *ticks && is_due(*task, tick) {
+            due = due.wrapping_add(u64::from(*ticks));
+        }
     }
     due
 }
 
-fn core_fits(inst: Instance, ticks: &JobTicks) -> bool {
-    let mut due = 0;
-    let mut tick = 0;
-    while tick < inst.span {
-        tick += 1;
-        due = std::num::wrapping_add_u64(due, due_at(inst, ticks, tick));
-        if (tick as u64) < due {
+// Whether tasks fit of which each has jobs of so many ticks, 0 where it is not kept.
+fn tasks_fit(tasks: &[Task], ticks: &[u32], span: u32) -> bool {
+    let mut due: u64 = 0;
+    for tick in 1..=span {
+        due = due.wrapping_add(due_at(tasks, ticks, tick));
+        if u64::from(tick) < due {
             return false;
         }
     }
     true
 }
 
-// The lowest core that does not fit, from 1; 0 where all fit.
-pub(crate) fn unfit_core(inst: Instance, choices: &[u32; MOST_TASKS]) -> u64 {
-    let mut core = 0;
-    while core < inst.cores {
-        let ticks = job_ticks(inst, choices, core);
-        core += 1;
-        if !core_fits(inst, &ticks) {
-            return core as u64;
-        }
+fn core_fits(inst: &Instance, choices: &[u32], core: u32) -> bool
+    requires { length choices.now ≤ 12 }
+{
+    let tasks = &inst.tasks[..choices.len()];
+    let mut all = [0; MOST_TASKS];
+    let ticks = &mut all[..choices.len()];
+    for ((ticks, task), choice) in ticks.iter_mut().zip(tasks).zip(choices) {
+        *ticks = ticks_on(inst, *task, *choice, core).unwrap_or(0);
     }
-    0
+    tasks_fit(tasks, ticks, inst.span)
+}
+
+// The lowest core that does not fit, from 1.
+pub(crate) fn unfit_core(inst: &Instance, choices: &[u32]) -> Option<u32>
+    requires { length choices.now ≤ 12 }
+{
+    (0..inst.cores)
+        .find(|core| !core_fits(inst, choices, *core))
+        .map(|core| core.wrapping_add(1))
 }

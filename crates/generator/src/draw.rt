@@ -1,25 +1,41 @@
-// A fixed generator, so that every run draws the same instances: Lehmer's, whose state is the last number drawn.
-ghost use Rattle.std.specs.Prelude.{◌<◌};
+// A fixed generator, so that every run draws the same instances.
+ghost use Rattle.std.specs.Prelude.{◌<◌, ◌≤◌, ◌^◌, length};
 
-// The next number below n.
-pub(crate) fn below(state: &mut u32, n: u32) -> u32
-    requires { 0 < n }
-    ensures { result < n }
-{
-    let next = (*state as u64 * 48271 % 2147483647) as u32;
-    *state = next;
-    next % n
+// Lehmer's generator, whose state is the last number drawn.
+#[derive(Clone, Copy)]
+pub struct Generator {
+    last: u32,
 }
 
-// A number from 1 to `most`, or 0 where there is none.
-pub fn up_to(state: &mut u32, most: u32) -> u32 {
-    if most == 0 {
-        return 0;
+impl Generator {
+    pub fn new(seed: u32) -> Generator {
+        Generator { last: seed }
     }
-    1 + below(state, most)
-}
 
-// The product without what is above a word.
-pub(crate) fn times(a: u32, b: u32) -> u32 {
-    (a as u64 * b as u64 % 4294967296) as u32
+    // The next number below n.
+    pub(crate) fn below(&mut self, n: u32) -> u32
+        requires { 0 < n }
+        ensures { result < n }
+    {
+        self.last = (u64::from(self.last) * 48271 % 2147483647) as u32;
+        self.last % n
+    }
+
+    // A number from 1 to `most`, or 0 where there is none.
+    pub fn up_to(&mut self, most: u32) -> u32
+        ensures { result ≤ most }
+    {
+        if most == 0 {
+            return 0;
+        }
+        1 + self.below(most)
+    }
+
+    // One of the numbers, each as often as it stands there.
+    pub(crate) fn one_of(&mut self, numbers: &[u32]) -> u32
+        requires some { 0 < length numbers.now }
+        requires few { length numbers.now < 2 ^ 32 }
+    {
+        numbers[self.below(numbers.len() as u32) as usize]
+    }
 }

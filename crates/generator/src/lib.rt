@@ -10,14 +10,15 @@ mod other_tables;
 mod site_words;
 mod start;
 pub mod tally;
+mod words;
 
 pub use buffers::{
-    Choices, PLAN_ROOM, TABLE_ROOM, Table, WORDS_ROOM, Words, draw_room, has_busy_slots,
-    plans_differ, tables_differ,
+    Choices, PLAN_ROOM, TABLE_ROOM, Table, draw_room, has_full_row, uses_other_cores,
 };
 pub use deadlines::{count_deadlines, end_of_tasks, has_early_deadlines};
-pub use draw::up_to;
+pub use draw::Generator;
 pub use idle::count_idle;
 pub use instances::draw_instance;
 pub use other_tables::fill_table;
 pub use start::count_start;
+pub use words::Words;

@@ -1,18 +1,36 @@
 // Tables that are not made by earliest deadline first: task after task takes the free slots that its jobs' windows have left.
-use crate::buffers::{PLAN_ROOM, TABLE_ROOM, Table};
-use crate::draw::{below, times};
+ghost use Rattle.std.specs.Prelude.{◌<◌};
+
+use crate::buffers::{TABLE_ROOM, Table};
+use crate::draw::Generator;
 use crate::site_words::{deadline_of, level_count, period_of, ticks_at};
 use ranges::Slot;
 
-// In place of the slot of its window that a job tries first: it tries them from the end.
-const FROM_THE_END: u32 = 24;
+// The slot of its window that a job tries first: from there it goes on and round, or it tries all from the end.
+#[derive(Clone, Copy)]
+enum First {
+    Slot(u32),
+    Last,
+}
+
+impl First {
+    // The slot of a window that is tried after x others.
+    fn slot_after(self, x: u32, window: u32) -> u32
+        requires { x < window }
+    {
+        match self {
+            First::Slot(first) => first.wrapping_add(x) % window,
+            First::Last => window - 1 - x,
+        }
+    }
+}
 
 // The task that comes first, the slot of a window that each job tries first, and whether the windows go on after the due ticks, up
 // to the next release: then the check may have to refuse the table.
 #[derive(Clone, Copy)]
 struct Order {
     turn: u32,
-    first: u32,
+    first: First,
     late: bool,
 }
 
@@ -24,68 +42,38 @@ struct Kept {
     period: u32,
     window: u32,
     ticks: u32,
-    first: u32,
+    first: First,
 }
 
-// The rest of a division, 0 where there is none.
-fn rest(a: u32, b: u32) -> u32 {
-    if b == 0 {
-        return 0;
+// Takes a slot where it is free; answers whether it was.
+fn take_slot(table: &mut Table, at: usize, number: Slot) -> bool {
+    let is_free = at < TABLE_ROOM && table[at] == 0;
+    if is_free {
+        table[at] = number;
     }
-    a % b
+    is_free
 }
 
-// The slot of a window that is tried after x others.
-fn slot_of_window(first: u32, window: u32, x: u32) -> u32 {
-    if first == FROM_THE_END {
-        return std::num::wrapping_sub_u32(window, std::num::wrapping_add_u32(x, 1));
-    }
-    rest(std::num::wrapping_add_u32(first, x), window)
-}
-
-// Takes a slot that is free, for a job with ticks left; answers the ticks left then.
-fn take_slot(table: &mut Table, t: usize, number: Slot, left: u32) -> u32 {
-    if t < TABLE_ROOM {
-        if 0 < left && table[t] == 0 {
-            table[t] = number;
-            return left - 1;
+// A job of a task: it takes free slots of its window until it has its ticks, or has tried them all.
+fn fill_window(table: &mut Table, task: Kept, release: u32) {
+    let mut left = task.ticks;
+    for x in 0..task.window {
+        let slot = task.first.slot_after(x, task.window);
+        let at = release.wrapping_add(slot) as usize;
+        if 0 < left && take_slot(table, at, task.number) {
+            left -= 1;
         }
     }
-    left
 }
 
-// Turn y of a task, in which its job tries one slot, or none once it has tried its whole window; answers the ticks that the job
-// has left then.
-fn take_turn(table: &mut Table, task: Kept, y: u32, left: u32) -> u32 {
-    let x = rest(y, task.period);
-    let slot = slot_of_window(task.first, task.window, x);
-    let release = std::num::wrapping_add_u32(task.row, std::num::wrapping_sub_u32(y, x));
-    let at = std::num::wrapping_add_u32(release, slot) as usize;
-    if x == 0 {
-        return take_slot(table, at, task.number, task.ticks);
-    }
-    if x < task.window {
-        return take_slot(table, at, task.number, left);
-    }
-    left
-}
-
-// All jobs of a task: as many turns as its row has slots.
+// All jobs of a task.
 fn fill_row(table: &mut Table, task: Kept, span: u32) {
-    let mut left = 0;
-    let mut y = 0;
-    while y < span {
-        left = take_turn(table, task, y, left);
-        y += 1;
+    if task.period == 0 {
+        return;
     }
-}
-
-// The first slot of the row of a kept task's core.
-fn row_of(choice: u32, levels: u32, span: u32) -> u32 {
-    if levels == 0 {
-        return 0;
+    for release in (0..span).step_by(task.period as usize) {
+        fill_window(table, task, task.row.wrapping_add(release));
     }
-    times(std::num::wrapping_sub_u32(choice, 1) / levels, span)
 }
 
 fn window_of(words: &[u32], number: Slot, late: bool) -> u32 {
@@ -95,55 +83,45 @@ fn window_of(words: &[u32], number: Slot, late: bool) -> u32 {
     deadline_of(words, number)
 }
 
-// The task with this number, from 1, and this choice.
-fn kept_task(words: &[u32], span: u32, choice: u32, number: Slot, order: Order) -> Kept {
+// The task with this number, from 1, and this choice, unless it is refused.
+fn kept_task(words: &[u32], span: u32, choice: u32, number: Slot, order: Order) -> Option<Kept> {
+    let place = choice.checked_sub(1)?;
     let levels = level_count(words);
-    let level = rest(std::num::wrapping_sub_u32(choice, 1), levels);
-    Kept {
+    let core = place.checked_div(levels)?;
+    let level = place.checked_rem(levels)?;
+    Some(Kept {
         number,
-        row: row_of(choice, levels, span),
+        row: core.wrapping_mul(span),
         period: period_of(words, number),
         window: window_of(words, number, order.late),
         ticks: ticks_at(words, number, level),
         first: order.first,
-    }
-}
-
-fn fill_task(table: &mut Table, words: &[u32], span: u32, choice: u32, i: usize, order: Order) {
-    if choice == 0 {
-        return;
-    }
-    if i < PLAN_ROOM {
-        let number = (i + 1) as Slot;
-        fill_row(table, kept_task(words, span, choice, number, order), span);
-    }
+    })
 }
 
 // All tasks, from task `turn` on and round.
 fn fill_tasks(table: &mut Table, words: &[u32], span: u32, plan: &[u32], order: Order) {
-    let mut i = 0;
-    while i < plan.len() {
-        let next = std::num::wrapping_add_usize(order.turn as usize, i) % plan.len();
-        if next < plan.len() {
-            fill_task(table, words, span, plan[next], next, order);
+    let numbered = (1..=Slot::MAX).zip(plan).cycle();
+    for (number, choice) in numbered.skip(order.turn as usize).take(plan.len()) {
+        if let Some(task) = kept_task(words, span, *choice, number, order) {
+            fill_row(table, task, span);
         }
-        i += 1;
     }
 }
 
-fn draw_first(state: &mut u32) -> u32 {
-    if below(state, 2) == 0 {
-        return FROM_THE_END;
+fn draw_first(rng: &mut Generator) -> First {
+    if rng.below(2) == 0 {
+        return First::Last;
     }
-    below(state, 24)
+    First::Slot(rng.below(24))
 }
 
 // Fills an idle table for a plan, in an order that is drawn. A job may get fewer slots than it has ticks.
-pub fn fill_table(table: &mut Table, words: &[u32], span: u32, plan: &[u32], state: &mut u32) {
+pub fn fill_table(table: &mut Table, words: &[u32], span: u32, plan: &[u32], rng: &mut Generator) {
     let order = Order {
-        turn: below(state, 4),
-        first: draw_first(state),
-        late: below(state, 4) == 0,
+        turn: rng.below(4),
+        first: draw_first(rng),
+        late: rng.below(4) == 0,
     };
     fill_tasks(table, words, span, plan, order);
 }

@@ -1,27 +1,10 @@
 // Prints the listing of the text on standard input.
 #![tactic(auto)]
 
-ghost use Rattle.std.specs.Prelude.{◌≤◌, IfOk, length};
-
 use listings::{MOST_LISTING, list_site};
+use printing::read_text;
 use ranges::MOST_TEXT_BYTES;
 use std::io;
-use std::io::Read;
-
-// Reads until the text is full or the input ends; answers how many bytes were read.
-fn read_text(input: &mut impl Read, text: &mut [u8]) -> io::Result<usize>
-    ensures { IfOk result (λ n. n ≤ length text.new) }
-{
-    let mut n = 0;
-    while n < text.len() {
-        let more = input.read(&mut text[n..])?;
-        if more == 0 {
-            return Ok(n);
-        }
-        n += more;
-    }
-    Ok(n)
-}
 
 // Prints the whole listing, or fails.
 fn print_listing(rt: &impl Print, text: &[u8]) -> io::Result<()> {

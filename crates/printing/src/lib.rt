@@ -1,43 +1,37 @@
-// Prints lines to standard output, with numbers in them.
+// What the programs have in common: a text is read into a buffer, and lines and lists are printed.
 #![tactic(auto)]
 
+ghost use Rattle.std.specs.Prelude.{◌≤◌, IfOk, length};
+
+use std::fmt::Display;
 use std::io;
+use std::io::Read;
 
-pub fn print(rt: &impl Print, bytes: &[u8]) -> io::Result<()> {
-    rt.write_all(bytes)
-}
-
-pub fn print_line(rt: &impl Print, bytes: &[u8]) -> io::Result<()> {
-    print(rt, bytes)?;
-    print(rt, b"\n")
-}
-
-// A number after a word.
-pub fn print_field(rt: &impl Print, name: &[u8], n: u64) -> io::Result<()> {
-    print(rt, name)?;
-    rt.print(n)
-}
-
-// Prints a byte, or for 35, which is #, the number at a place; answers the place of the number after it.
-fn print_byte(rt: &impl Print, numbers: &[u64], place: usize, byte: u8) -> io::Result<usize> {
-    if byte == 35 {
-        if place < numbers.len() {
-            rt.print(numbers[place])?;
-            return Ok(place + 1);
+// Reads until the text is full or the input ends; answers how many bytes were read.
+pub fn read_text(input: &mut impl Read, text: &mut [u8]) -> io::Result<usize>
+    ensures { IfOk result (λ n. n ≤ length text.new) }
+{
+    let mut n = 0;
+    while n < text.len() {
+        let more = input.read(&mut text[n..])?;
+        if more == 0 {
+            return Ok(n);
         }
+        n += more;
     }
-    let bytes = [byte];
-    print(rt, &bytes)?;
-    Ok(place)
+    Ok(n)
 }
 
-// Prints a text, with the numbers in turn in place of each #.
-pub fn print_filled(rt: &impl Print, text: &[u8], numbers: &[u64]) -> io::Result<()> {
-    let mut place = 0;
-    let mut i = 0;
-    while i < text.len() {
-        place = print_byte(rt, numbers, place, text[i])?;
-        i += 1;
+// A line of bytes that need not be text.
+pub fn print_line(rt: &impl Print, bytes: &[u8]) -> io::Result<()> {
+    rt.write_all(bytes)?;
+    rt.write_all(b"\n")
+}
+
+// Each item after a space.
+pub fn print_list<T: Display>(rt: &impl Print, items: &[T]) -> io::Result<()> {
+    for item in items {
+        print!(rt; " {item}")?;
     }
     Ok(())
 }

@@ -1,142 +1,98 @@
 // Tables for plans that are drawn, and other tables for the plan that was answered. One that passes the check is a drawing,
-// and no drawing is cheaper than the answered plan. Each function is told the ticks of the span and the slots of a table.
+// and no drawing is cheaper than the answered plan.
 #![tactic(auto)]
 
-use generator::tally::{Counts, add, add_if};
-use generator::{Choices, PLAN_ROOM, TABLE_ROOM, Table, fill_table, tables_differ, tally, up_to};
+use generator::tally::Counts;
+use generator::{Generator, PLAN_ROOM, TABLE_ROOM, Table, fill_table};
 use prices::Priced;
 use refusals::Verdict;
 
-fn passes_check(words: &[u32], plan: &[u32], table: &Table, slots: usize) -> bool {
-    let all = &table[..];
-    if all.len() < slots {
-        return false;
-    }
-    match checks::check_table(words, plan, &all[0..slots]) {
-        Verdict::Accepted => true,
-        Verdict::Refused(_) => false,
-    }
+// An instance of so many tasks, with the ticks of its span, the slots of a table and the largest choice of a plan; and what its
+// answered plan costs, where there is one.
+#[derive(Clone, Copy)]
+pub struct Trials<'a> {
+    pub words: &'a [u32],
+    pub tasks: usize,
+    pub span: u32,
+    pub slots: usize,
+    pub most: u32,
+    pub least: Option<u64>,
 }
 
-// Draws one of so many choices for each of n tasks.
-fn draw_plan(plan: &mut Choices, n: usize, choices: u32, state: &mut u32) {
-    let mut i = 0;
-    while i < PLAN_ROOM {
-        if i < n {
-            plan[i] = std::num::wrapping_sub_u32(up_to(state, choices), 1);
+impl Trials<'_> {
+    fn passes_check(&self, plan: &[u32], table: &Table) -> bool {
+        match table.get(..self.slots) {
+            Some(rows) => matches!(
+                checks::check_table(self.words, plan, rows),
+                Verdict::Accepted
+            ),
+            None => false,
         }
-        i += 1;
     }
-}
 
-// Whether a table is not the plan's own.
-fn is_other(words: &[u32], plan: &[u32], table: &Table) -> bool {
-    let mut own = [0; TABLE_ROOM];
-    tables::tabulate(words, plan, &mut own);
-    tables_differ(table, &own)
-}
-
-// What a drawing's plan costs, where the answered plan costs `least`.
-fn count_price(priced: Priced, least: u64, counts: &mut Counts) {
-    match priced {
-        Priced::Cost(price) => add_if(counts, tally::CHEAPER_DRAWINGS, price.cost < least),
-        Priced::Refused(_) => add(counts, tally::UNFIT_DRAWINGS, 1),
+    // Whether a table is not the plan's own.
+    fn is_other(&self, plan: &[u32], table: &Table) -> bool {
+        let mut own = [0; TABLE_ROOM];
+        tables::tabulate(self.words, plan, &mut own);
+        *table != own
     }
-}
 
-fn count_drawing(words: &[u32], plan: &[u32], table: &Table, least: u64, counts: &mut Counts) {
-    add(counts, tally::DRAWINGS, 1);
-    add_if(counts, tally::OTHER_DRAWINGS, is_other(words, plan, table));
-    count_price(prices::price(words, plan), least, counts);
-}
-
-// Fills a table for a plan in some way, and has it checked.
-fn try_table(
-    words: &[u32],
-    span: u32,
-    slots: usize,
-    plan: &[u32],
-    least: u64,
-    state: &mut u32,
-    counts: &mut Counts,
-) {
-    let mut table = [0; TABLE_ROOM];
-    fill_table(&mut table, words, span, plan, state);
-    add(counts, tally::TABLES_TRIED, 1);
-    if passes_check(words, plan, &table, slots) {
-        count_drawing(words, plan, &table, least, counts);
+    // What a drawing's plan costs. Where no plan was answered, each is too cheap.
+    fn count_price(&self, plan: &[u32], counts: &mut Counts) {
+        match prices::price(self.words, plan) {
+            Priced::Cost(price) => {
+                let is_cheaper = self.least.is_none_or(|least| price.cost < least);
+                counts.faults.cheaper_drawings.add_if(is_cheaper);
+            }
+            Priced::Refused(_) => counts.faults.unfit_drawings.add(1),
+        }
     }
-}
 
-// A table for a plan that stands at the front.
-fn try_front(
-    words: &[u32],
-    span: u32,
-    slots: usize,
-    front: &Choices,
-    n: usize,
-    least: u64,
-    state: &mut u32,
-    counts: &mut Counts,
-) {
-    let all = &front[..];
-    if n <= all.len() {
-        try_table(words, span, slots, &all[0..n], least, state, counts);
+    // Fills a table for a plan in some way, and has it checked.
+    fn try_plan(&self, plan: &[u32], rng: &mut Generator, counts: &mut Counts) {
+        let mut table = [0; TABLE_ROOM];
+        fill_table(&mut table, self.words, self.span, plan, rng);
+        counts.tables.tried.add(1);
+        if self.passes_check(plan, &table) {
+            counts.tables.drawings.add(1);
+            counts
+                .tables
+                .other_drawings
+                .add_if(self.is_other(plan, &table));
+            self.count_price(plan, counts);
+        }
     }
-}
 
-// A table for a plan of n tasks drawn at random, with choices from 0 to `most`.
-fn try_drawn_plan(
-    words: &[u32],
-    span: u32,
-    slots: usize,
-    n: usize,
-    most: u32,
-    least: u64,
-    state: &mut u32,
-    counts: &mut Counts,
-) {
-    let mut plan = [0; PLAN_ROOM];
-    draw_plan(&mut plan, n, std::num::wrapping_add_u32(most, 1), state);
-    try_front(words, span, slots, &plan, n, least, state, counts);
-}
-
-// Tables for three plans drawn at random.
-pub fn try_drawn_plans(
-    words: &[u32],
-    span: u32,
-    slots: usize,
-    n: usize,
-    most: u32,
-    least: u64,
-    state: &mut u32,
-    counts: &mut Counts,
-) {
-    try_drawn_plan(words, span, slots, n, most, least, state, counts);
-    try_drawn_plan(words, span, slots, n, most, least, state, counts);
-    try_drawn_plan(words, span, slots, n, most, least, state, counts);
-}
-
-// Whether the answered table fails the check for its plan, of n tasks at the front.
-pub fn table_fails(words: &[u32], slots: usize, front: &Choices, n: usize, table: &Table) -> bool {
-    let all = &front[..];
-    if n <= all.len() {
-        return !passes_check(words, &all[0..n], table, slots);
+    // Draws a choice for each task.
+    fn draw_plan(&self, plan: &mut [u32], rng: &mut Generator) {
+        for choice in plan {
+            *choice = rng.up_to(self.most.wrapping_add(1)).saturating_sub(1);
+        }
     }
-    true
-}
 
-// Two other tables for the plan that was answered, of n tasks at the front.
-pub fn try_answered(
-    words: &[u32],
-    span: u32,
-    slots: usize,
-    front: &Choices,
-    n: usize,
-    least: u64,
-    state: &mut u32,
-    counts: &mut Counts,
-) {
-    try_front(words, span, slots, front, n, least, state, counts);
-    try_front(words, span, slots, front, n, least, state, counts);
+    // Tables for three plans drawn at random.
+    pub fn try_drawn_plans(&self, rng: &mut Generator, counts: &mut Counts) {
+        let mut choices = [0; PLAN_ROOM];
+        for _ in 0..3 {
+            if let Some(plan) = choices.get_mut(..self.tasks) {
+                self.draw_plan(plan, rng);
+                self.try_plan(plan, rng, counts);
+            }
+        }
+    }
+
+    // Two other tables for the plan that was answered, and whether its own fails the check.
+    pub fn try_answered(
+        &self,
+        plan: &[u32],
+        table: &Table,
+        rng: &mut Generator,
+        counts: &mut Counts,
+    ) {
+        let fails = !self.passes_check(plan, table);
+        counts.faults.tables_fail.add_if(fails);
+        for _ in 0..2 {
+            self.try_plan(plan, rng, counts);
+        }
+    }
 }

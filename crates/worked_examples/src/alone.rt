@@ -1,45 +1,61 @@
 // Examples that need no site.
-use crate::numbers::{MOST_NUMBERS, words_of};
+use crate::numbers::words_of;
+use crate::texts::Shown;
 use crate::{counts, listing, reading, runs, small, texts};
 use std::io;
 
-pub(crate) fn run(rt: &impl Print, kind: u8, given: &[u8]) -> io::Result<()> {
-    match kind {
-        b't' | b'b' | b'l' => texts::spelt(rt, kind, given),
-        _ => run_numbers(rt, kind, given),
+// What is done with a line.
+#[derive(Clone, Copy, PartialEq, Eq)]
+enum Example {
+    // A text that is spelt, or given as runs of equal bytes.
+    Spelt(Shown),
+    Runs(Shown),
+    // The instance of a list of words, of the small list with a word changed, or of its first words.
+    Words,
+    Varied,
+    Cut,
+    Count,
+    OverDots,
+}
+
+// The example that a letter stands for.
+fn example_of(letter: u8) -> Option<Example> {
+    match letter {
+        b't' => Some(Example::Spelt(Shown::Words)),
+        b'b' => Some(Example::Spelt(Shown::FirstThree)),
+        b'l' => Some(Example::Spelt(Shown::Listing)),
+        b'r' => Some(Example::Runs(Shown::Words)),
+        b'g' => Some(Example::Runs(Shown::Listing)),
+        b'w' => Some(Example::Words),
+        b'v' => Some(Example::Varied),
+        b'c' => Some(Example::Cut),
+        b'j' => Some(Example::Count),
+        b'd' => Some(Example::OverDots),
+        _ => None,
     }
 }
 
-fn run_numbers(rt: &impl Print, kind: u8, given: &[u8]) -> io::Result<()> {
-    let mut words = [0; MOST_NUMBERS];
-    let n = words_of(given, &mut words);
-    run_front(rt, kind, &words, n)
-}
-
-fn run_front(rt: &impl Print, kind: u8, words: &[u32; MOST_NUMBERS], n: usize) -> io::Result<()> {
-    let all = &words[..];
-    if n <= all.len() {
-        run_words(rt, kind, &all[0..n])?;
+pub(crate) fn run(rt: &impl Print, letter: u8, given: &[u8]) -> io::Result<()> {
+    match example_of(letter) {
+        Some(Example::Spelt(shown)) => texts::spelt(rt, shown, given),
+        Some(example) => run_numbers(rt, example, words_of(given).list()),
+        None => Ok(()),
     }
-    Ok(())
 }
 
 // The word at a place, 0 past the end.
 fn word(words: &[u32], at: usize) -> u32 {
-    if at < words.len() {
-        return words[at];
-    }
-    0
+    words.get(at).copied().unwrap_or(0)
 }
 
-fn run_words(rt: &impl Print, kind: u8, words: &[u32]) -> io::Result<()> {
-    match kind {
-        b'r' | b'g' => runs::show(rt, kind, words),
-        b'w' => reading::words(rt, words),
-        b'v' => small::varied(rt, word(words, 0), word(words, 1)),
-        b'c' => small::cut(rt, word(words, 0)),
-        b'j' => counts::show(rt, words),
-        b'd' => listing::over_dots(rt, word(words, 0) as usize),
-        _ => Ok(()),
+fn run_numbers(rt: &impl Print, example: Example, words: &[u32]) -> io::Result<()> {
+    match example {
+        Example::Spelt(_) => Ok(()),
+        Example::Runs(shown) => runs::show(rt, shown, words),
+        Example::Words => reading::words(rt, words),
+        Example::Varied => small::varied(rt, word(words, 0), word(words, 1)),
+        Example::Cut => small::cut(rt, word(words, 0)),
+        Example::Count => counts::show(rt, words),
+        Example::OverDots => listing::over_dots(rt, word(words, 0) as usize),
     }
 }

@@ -1,138 +1,131 @@
 // Examples at a site, whose words are lent as text.
-use crate::numbers::{MOST_NUMBERS, slots_of, words_of};
+use crate::numbers::{slots_of, words_of};
+use crate::sleeping::Switching;
 use crate::{dispatching, plans, sleeping};
-use ranges::Slot;
+use dispatcher::DispatchState;
 use std::io;
 
-pub(crate) fn run(rt: &impl Print, kind: u8, site: &[u8], given: &[u8]) -> io::Result<()> {
-    let mut words = [0; MOST_NUMBERS];
-    let n = words_of(site, &mut words);
-    let mut numbers = [0; MOST_NUMBERS];
-    let m = words_of(given, &mut numbers);
-    run_fronts(rt, kind, &words, n, &numbers, m)
+// What is done at a site.
+#[derive(Clone, Copy, PartialEq, Eq)]
+enum Example {
+    Price,
+    LongTable,
+    Table,
+    // The whole table, or its slots alone.
+    Check,
+    CheckSlots,
+    Gaps,
+    // Calls of the dispatcher from a fresh start on, or one in a given state.
+    Calls,
+    OneCall,
 }
 
-fn run_fronts(
-    rt: &impl Print,
-    kind: u8,
-    words: &[u32; MOST_NUMBERS],
-    n: usize,
-    numbers: &[u32; MOST_NUMBERS],
-    m: usize,
-) -> io::Result<()> {
-    let all = &words[..];
-    let given = &numbers[..];
-    if n <= all.len() && m <= given.len() {
-        run_kind(rt, kind, &all[0..n], &given[0..m])?;
+// The example that a letter stands for.
+fn example_of(letter: u8) -> Option<Example> {
+    match letter {
+        b'P' => Some(Example::Price),
+        b'L' => Some(Example::LongTable),
+        b'T' => Some(Example::Table),
+        b'C' => Some(Example::Check),
+        b'H' => Some(Example::CheckSlots),
+        b'G' => Some(Example::Gaps),
+        b'D' => Some(Example::Calls),
+        b'E' => Some(Example::OneCall),
+        _ => None,
     }
-    Ok(())
 }
 
-fn run_kind(rt: &impl Print, kind: u8, words: &[u32], given: &[u32]) -> io::Result<()> {
-    if kind == b'P' {
-        plans::price(rt, words, given)?;
+pub(crate) fn run(rt: &impl Print, letter: u8, site: &[u8], given: &[u8]) -> io::Result<()> {
+    match example_of(letter) {
+        Some(example) => run_example(rt, example, words_of(site).list(), words_of(given).list()),
+        None => Ok(()),
     }
-    if kind == b'L' {
-        plans::long_table(rt, words, given)?;
+}
+
+fn run_example(rt: &impl Print, example: Example, words: &[u32], given: &[u32]) -> io::Result<()> {
+    match example {
+        Example::Price => plans::price(rt, words, given),
+        Example::LongTable => plans::long_table(rt, words, given),
+        Example::Table => table(rt, words, given),
+        Example::Check => check(rt, words, given),
+        Example::CheckSlots => check_slots(rt, words, given),
+        Example::Gaps => gaps(rt, words, given),
+        Example::Calls => calls(rt, words, given),
+        Example::OneCall => one_call(rt, words, given),
     }
-    if 0 < given.len() {
-        if kind == b'T' {
-            plans::table(rt, words, given[0], &given[1..])?;
+}
+
+// The first number says how many after it are a plan; those after the plan are a table, reports or ticks left.
+fn plan_and_rest(given: &[u32]) -> Option<(&[u32], &[u32])> {
+    let (choices, after) = given.split_first()?;
+    after.split_at_checked(*choices as usize)
+}
+
+fn table(rt: &impl Print, words: &[u32], given: &[u32]) -> io::Result<()> {
+    match given {
+        [room, plan @ ..] => plans::table(rt, words, *room, plan),
+        [] => Ok(()),
+    }
+}
+
+fn check(rt: &impl Print, words: &[u32], given: &[u32]) -> io::Result<()> {
+    match plan_and_rest(given) {
+        Some((plan, table)) => plans::check(rt, words, plan, slots_of(table).list()),
+        None => Ok(()),
+    }
+}
+
+fn check_slots(rt: &impl Print, words: &[u32], given: &[u32]) -> io::Result<()> {
+    match plan_and_rest(given) {
+        Some((plan, table)) => plans::check_slots(rt, words, plan, slots_of(table).list()),
+        None => Ok(()),
+    }
+}
+
+// Switching energy, switching time, and how many entries each of two lists has.
+fn gaps(rt: &impl Print, words: &[u32], given: &[u32]) -> io::Result<()> {
+    let [energy, time, energies, sleeps, planned @ ..] = given else {
+        return Ok(());
+    };
+    let switching = Switching {
+        energy: *energy,
+        time: *time,
+    };
+    match plan_and_rest(planned) {
+        Some((plan, table)) => {
+            let slots = slots_of(table);
+            let rooms = (*energies as usize, *sleeps as usize);
+            sleeping::reckon(rt, words, plan, slots.list(), switching, rooms)
         }
-        if kind == b'C' || kind == b'H' {
-            run_table(rt, kind, words, &given[0..0], given[0], &given[1..])?;
+        None => Ok(()),
+    }
+}
+
+// A core.
+fn calls(rt: &impl Print, words: &[u32], given: &[u32]) -> io::Result<()> {
+    let [core, planned @ ..] = given else {
+        return Ok(());
+    };
+    match plan_and_rest(planned) {
+        Some((plan, reports)) => dispatching::calls(rt, words, *core, plan, reports),
+        None => Ok(()),
+    }
+}
+
+// A core, a report, a tick and a last task.
+fn one_call(rt: &impl Print, words: &[u32], given: &[u32]) -> io::Result<()> {
+    let [core, report, tick, last, planned @ ..] = given else {
+        return Ok(());
+    };
+    match plan_and_rest(planned) {
+        Some((plan, left)) => {
+            let state = DispatchState {
+                tick: *tick,
+                left: dispatching::left_of(left),
+                last: *last,
+            };
+            dispatching::one_call(rt, words, *core, plan, state, *report)
         }
+        None => Ok(()),
     }
-    if kind == b'G' {
-        if 5 <= given.len() {
-            run_table(rt, kind, words, &given[0..4], given[4], &given[5..])?;
-        }
-    }
-    if kind == b'D' {
-        if 2 <= given.len() {
-            run_calls(rt, words, &given[0..1], given[1], &given[2..])?;
-        }
-    }
-    if kind == b'E' {
-        if 5 <= given.len() {
-            run_calls(rt, words, &given[0..4], given[4], &given[5..])?;
-        }
-    }
-    Ok(())
-}
-
-// The first so many numbers are a plan, those after it reports or ticks left.
-fn run_calls(
-    rt: &impl Print,
-    words: &[u32],
-    front: &[u32],
-    choices: u32,
-    given: &[u32],
-) -> io::Result<()> {
-    let n = choices as usize;
-    if n <= given.len() {
-        dispatching::run(rt, words, front, &given[0..n], &given[n..])?;
-    }
-    Ok(())
-}
-
-// The first so many numbers are a plan, those after it a table.
-fn run_table(
-    rt: &impl Print,
-    kind: u8,
-    words: &[u32],
-    front: &[u32],
-    choices: u32,
-    given: &[u32],
-) -> io::Result<()> {
-    let n = choices as usize;
-    if n <= given.len() {
-        run_slots(rt, kind, words, front, &given[0..n], &given[n..])?;
-    }
-    Ok(())
-}
-
-// The table is checked, its slots alone or its jobs too, or its gaps are reckoned.
-fn run_given(
-    rt: &impl Print,
-    kind: u8,
-    words: &[u32],
-    front: &[u32],
-    plan: &[u32],
-    table: &[Slot],
-) -> io::Result<()> {
-    match kind {
-        b'H' => plans::check_slots(rt, words, plan, table),
-        b'C' => plans::check(rt, words, plan, table),
-        _ => sleeping::reckon(rt, words, front, plan, table),
-    }
-}
-
-fn run_front(
-    rt: &impl Print,
-    kind: u8,
-    words: &[u32],
-    front: &[u32],
-    plan: &[u32],
-    slots: &[Slot; MOST_NUMBERS],
-    n: usize,
-) -> io::Result<()> {
-    let all = &slots[..];
-    if n <= all.len() {
-        run_given(rt, kind, words, front, plan, &all[0..n])?;
-    }
-    Ok(())
-}
-
-fn run_slots(
-    rt: &impl Print,
-    kind: u8,
-    words: &[u32],
-    front: &[u32],
-    plan: &[u32],
-    table: &[u32],
-) -> io::Result<()> {
-    let mut slots = [0; MOST_NUMBERS];
-    let n = slots_of(table, &mut slots);
-    run_front(rt, kind, words, front, plan, &slots, n)
 }

@@ -1,96 +1,32 @@
 // Reads the examples, line by line. A line that begins with - is a heading, which is printed. One with S gives a site, which
 // its second byte names; one with another capital letter is an example at such a site, and one with a small letter an example
 // of its own. Any other line says something to the reader.
-ghost use Rattle.std.specs.Prelude.{ℕ, ◌≡◌, ◌≢◌, ◌<◌, ◌≤◌, length, slice_index};
-
 use crate::{alone, at_site};
 use std::io;
 
-// Where the words of each site begin, at the byte that names it, is kept in `sites`.
+// The text of the words of each site, at the byte that names it.
+type Sites<'a> = [&'a [u8]; 256];
+
 pub(crate) fn run(rt: &impl Print, text: &[u8]) -> io::Result<()> {
-    let mut sites = [0usize; 256];
-    let mut start = 0;
-    while start < text.len() {
-        let end = find(text, start, b'\n');
-        run_line(rt, text, &text[start..end], start, &mut sites)?;
-        if end == text.len() {
-            return Ok(());
+    let first = text.split(|byte| *byte == b'\n').next().unwrap_or(text);
+    let mut sites = [first; 256];
+    for line in text.split(|byte| *byte == b'\n') {
+        run_line(rt, line, &mut sites)?;
+    }
+    Ok(())
+}
+
+fn run_line<'a>(rt: &impl Print, line: &'a [u8], sites: &mut Sites<'a>) -> io::Result<()> {
+    match line {
+        [b'-', ..] => printing::print_line(rt, line),
+        [b'S', name, words @ ..] => {
+            sites[usize::from(*name)] = words;
+            Ok(())
         }
-        start = end + 1;
-    }
-    Ok(())
-}
-
-// The place of the first such byte from `start` on, or the length of the text where there is none.
-fn find(text: &[u8], start: usize, byte: u8) -> usize
-    requires { start ≤ length text.now }
-    ensures low { start ≤ result }
-    ensures high { result ≤ length text.now }
-    ensures none_before { (i : ℕ) → start ≤ i → i < result → slice_index text.now i ≢ byte }
-    ensures found { result < length text.now → slice_index text.now result ≡ byte }
-{
-    let mut i = start;
-    while i < text.len() {
-        if text[i] == byte {
-            return i;
+        [letter @ b'A'..=b'Z', name, given @ ..] => {
+            at_site::run(rt, *letter, sites[usize::from(*name)], given)
         }
-        i += 1;
+        [] | [b'A'..=b'Z'] => Ok(()),
+        [letter, given @ ..] => alone::run(rt, *letter, given),
     }
-    i
-}
-
-fn run_line(
-    rt: &impl Print,
-    text: &[u8],
-    line: &[u8],
-    start: usize,
-    sites: &mut [usize; 256],
-) -> io::Result<()> {
-    if line.len() == 0 {
-        return Ok(());
-    }
-    match line[0] {
-        b'-' => printing::print_line(rt, line),
-        b'A'..=b'Z' => run_capital(rt, text, line, start, sites),
-        _ => alone::run(rt, line[0], &line[1..]),
-    }
-}
-
-fn run_capital(
-    rt: &impl Print,
-    text: &[u8],
-    line: &[u8],
-    start: usize,
-    sites: &mut [usize; 256],
-) -> io::Result<()> {
-    if 2 <= line.len() {
-        run_named(rt, text, line[0], line[1], &line[2..], start, sites)?;
-    }
-    Ok(())
-}
-
-// A line with a site's name in it, which begins with this kind.
-fn run_named(
-    rt: &impl Print,
-    text: &[u8],
-    kind: u8,
-    name: u8,
-    given: &[u8],
-    start: usize,
-    sites: &mut [usize; 256],
-) -> io::Result<()> {
-    if kind == b'S' {
-        sites[name as usize] = std::num::wrapping_add_usize(start, 2);
-    } else {
-        run_at(rt, text, sites[name as usize], kind, given)?;
-    }
-    Ok(())
-}
-
-fn run_at(rt: &impl Print, text: &[u8], start: usize, kind: u8, given: &[u8]) -> io::Result<()> {
-    if start < text.len() {
-        let end = find(text, start, b'\n');
-        at_site::run(rt, kind, &text[start..end], given)?;
-    }
-    Ok(())
 }

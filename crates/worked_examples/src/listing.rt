@@ -1,14 +1,12 @@
 // Prints the listing of a text, and what became of a lent array.
 use listings::{MOST_LISTING, list_site};
-use printing::{print, print_filled, print_line};
 use std::io;
 
 fn print_front(rt: &impl Print, bytes: &[u8; MOST_LISTING], n: usize) -> io::Result<()> {
-    let whole: &[u8] = bytes;
-    if n <= whole.len() {
-        print(rt, &whole[..n])?;
+    match bytes.get(..n) {
+        Some(front) => rt.write_all(front),
+        None => Ok(()),
     }
-    Ok(())
 }
 
 pub(crate) fn listing(rt: &impl Print, text: &[u8]) -> io::Result<()> {
@@ -21,9 +19,9 @@ pub(crate) fn listing(rt: &impl Print, text: &[u8]) -> io::Result<()> {
 // array of dots, and as many of its bytes then as are asked for.
 pub(crate) fn over_dots(rt: &impl Print, shown: usize) -> io::Result<()> {
     let mut out = [b'.'; MOST_LISTING];
-    let numbers = [list_site(b"", &mut out) as u64];
-    print_filled(rt, b"# bytes\n", &numbers)?;
-    print(rt, b"[")?;
+    let n = list_site(b"", &mut out);
+    println!(rt; "{n} bytes")?;
+    rt.print("[")?;
     print_front(rt, &out, shown)?;
-    print_line(rt, b"]")
+    rt.println("]")
 }

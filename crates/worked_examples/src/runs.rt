@@ -1,41 +1,31 @@
 // Long texts, of runs of equal bytes.
 use crate::texts;
+use crate::texts::Shown;
 use std::io;
 
-// Puts a byte at a place and all after it.
-fn fill(text: &mut [u8; 5000], from: u32, byte: u32) {
-    let mut at = from as usize;
-    while at < 5000 {
-        text[at] = (byte % 256) as u8;
-        at += 1;
-    }
-}
+// More bytes than a text may have.
+const MOST_BYTES: usize = 5000;
 
 // Each byte and its count, in turn; answers the place after them all.
-fn fill_all(text: &mut [u8; 5000], runs: &[u32]) -> u32 {
-    let mut end = 0;
-    let mut i = 0;
-    while i < runs.len() {
-        if i % 2 == 0 {
-            fill(text, end, runs[i]);
-        } else {
-            end = std::num::wrapping_add_u32(end, runs[i]);
+fn fill_all(text: &mut [u8; MOST_BYTES], runs: &[u32]) -> u32 {
+    let mut end: u32 = 0;
+    for run in runs.chunks_exact(2) {
+        let [byte, count] = run else {
+            return end;
+        };
+        if let Some(rest) = text.get_mut(end as usize..) {
+            rest.fill((*byte % 256) as u8);
         }
-        i += 1;
+        end = end.wrapping_add(*count);
     }
     end
 }
 
-fn show_front(rt: &impl Print, kind: u8, text: &[u8; 5000], n: usize) -> io::Result<()> {
-    let all = &text[..];
-    if n <= all.len() {
-        texts::show(rt, kind, &all[0..n])?;
+pub(crate) fn show(rt: &impl Print, shown: Shown, runs: &[u32]) -> io::Result<()> {
+    let mut text = [0u8; MOST_BYTES];
+    let end = fill_all(&mut text, runs) as usize;
+    match text.get(..end) {
+        Some(front) => texts::show(rt, shown, front),
+        None => Ok(()),
     }
-    Ok(())
-}
-
-pub(crate) fn show(rt: &impl Print, kind: u8, runs: &[u32]) -> io::Result<()> {
-    let mut text = [0u8; 5000];
-    let end = fill_all(&mut text, runs);
-    show_front(rt, kind, &text, end as usize)
 }

@@ -1,4 +1,0 @@
-use Rattle.exhaustive.proofs.every.step.Given as goal
-
-abbrev pub decreases-loop-i : goal.decreases-loop-i
-decreases-loop-i l = l.i
