@@ -15,7 +15,7 @@ ghost use Rattle.timed_sets.specs.SearchBounds.{BoundsHold};
 ghost use Rattle.timed_sets.specs.Found.{SmallWorth, FoundUpTo, CostUpTo};
 
 use given::worth_along;
-use lagrangian::cheapest_key;
+use lagrangian::TimedCore;
 pub use partners::has_sooner_partner;
 use partners::partners_in;
 use search::Search;
@@ -53,7 +53,12 @@ pub fn least_up_to<'a>(
     };
     let timed = bounded.timed;
     let relaxed = bounded.relaxed;
-    let key = cheapest_key(timed, set, relaxed.prices, timings, cost);
+    let core = TimedCore {
+        timed,
+        timings,
+        cost,
+    };
+    let key = core.cheapest_key(set, &relaxed.prices);
     let best = most.min(worth_along(timed, start, key, timings, cost));
     let mut rows = [0; ROW_WORDS];
     fill_rows(timed, relaxed.ticks, timings, &mut rows);

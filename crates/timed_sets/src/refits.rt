@@ -6,7 +6,7 @@ ghost use Rattle.lagrangian.specs.Lagrangians.{Relaxes};
 ghost use Rattle.lagrangian.specs.TimedItems.{TimedReady};
 ghost use Rattle.timed_parts.specs.Nodes.{Stands};
 
-use lagrangian::{FEW_ITEMS, Lagrangian, Part, Timed, has_few_items, relaxation_from};
+use lagrangian::{FEW_ITEMS, Lagrangian, Part, Timed, TimedCore, has_few_items};
 use timed_parts::{Bounded, Node};
 
 // Whether the weights are to be fitted to the node: once for all levels of the next item, and not where few items are open.
@@ -39,11 +39,16 @@ pub(crate) fn refitted(
     ensures relaxes { Relaxes timed timings.now cost.now result }
     ensures fixed_value { result.fixed ≡ node.item }
 {
+    let core = TimedCore {
+        timed,
+        timings,
+        cost,
+    };
     let ticks = node.ticks;
     let part = Part {
         fixed: node.item,
         open: node.rest,
         ticks,
     };
-    relaxation_from(timed, relaxed, part, timings, cost)
+    core.relaxation_from(&relaxed, &part)
 }
