@@ -3,15 +3,10 @@ use Rattle.raising.specs.SiteLaws.{lower_for_sets}
 use Rattle.raising.specs.TriedLaws.{set_tried}
 use Rattle.raising.proofs.table.Table.search_up_to.Goals as goal
 
-pub least_up_to-found-requires : goal.least_up_to-found-requires
-least_up_to-found-requires c =
+pub least_up_to-found-requires-clause-bounds_hold : goal.least_up_to-found-requires-clause-bounds_hold
+least_up_to-found-requires-clause-bounds_hold c =
     let pre = c.requires in
-    let ready = c.args.offer.now.ready in
-    let limit = pre.limit_of in
-    rw c.timed.ensures (record { timed_ready = ready.timed; bounds_hold = record { table = lower_for_sets ready pre.raised; relaxation = pre.relaxes }; set_bound = pre.set_bound; small_worth = record { at_most_none = limit.at_most_none; real = λ real. (limit.cost real).1; digits = limit.digits } })
-
-pub left_after-requires : goal.left_after-requires
-left_after-requires c = record { left_nonzero = c.requires.nonzero; lt_left = c.requires.limit_of.not_last; lt_left_2 = λ unkeyed. (c.wants_key-keyed.ensures unkeyed).0 }
+    rw c.timed.ensures (record { table = lower_for_sets c.args.offer.now.ready pre.raised; relaxation = pre.relaxes })
 
 pub returns : goal.returns
 returns c =
