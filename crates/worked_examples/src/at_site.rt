@@ -3,6 +3,7 @@ use crate::numbers::{slots_of, words_of};
 use crate::sleeping::Switching;
 use crate::{dispatching, plans, sleeping};
 use dispatcher::DispatchState;
+use ranges::Slot;
 use std::io;
 
 // What is done at a site.
@@ -47,8 +48,11 @@ fn run_example(rt: &impl Print, example: Example, words: &[u32], given: &[u32]) 
         Example::Price => plans::price(rt, words, given),
         Example::LongTable => plans::long_table(rt, words, given),
         Example::Table => table(rt, words, given),
-        Example::Check => check(rt, words, given),
-        Example::CheckSlots => check_slots(rt, words, given),
+        Example::Check => with_table(given, |plan, table| plans::check(rt, words, plan, table)),
+        Example::CheckSlots => with_table(
+            given,
+            |plan, table| plans::check_slots(rt, words, plan, table),
+        ),
         Example::Gaps => gaps(rt, words, given),
         Example::Calls => calls(rt, words, given),
         Example::OneCall => one_call(rt, words, given),
@@ -68,16 +72,15 @@ fn table(rt: &impl Print, words: &[u32], given: &[u32]) -> io::Result<()> {
     }
 }
 
-fn check(rt: &impl Print, words: &[u32], given: &[u32]) -> io::Result<()> {
+// Shows what comes of a plan and the table after it.
+fn with_table<F: FnOnce(&[u32], &[Slot]) -> io::Result<()>>(
+    given: &[u32],
+    show: F,
+) -> io::Result<()>
+    requires { F.IsAlwaysCallable show }
+{
     match plan_and_rest(given) {
-        Some((plan, table)) => plans::check(rt, words, plan, slots_of(table).list()),
-        None => Ok(()),
-    }
-}
-
-fn check_slots(rt: &impl Print, words: &[u32], given: &[u32]) -> io::Result<()> {
-    match plan_and_rest(given) {
-        Some((plan, table)) => plans::check_slots(rt, words, plan, slots_of(table).list()),
+        Some((plan, table)) => show(plan, slots_of(table).list()),
         None => Ok(()),
     }
 }
@@ -91,14 +94,10 @@ fn gaps(rt: &impl Print, words: &[u32], given: &[u32]) -> io::Result<()> {
         energy: *energy,
         time: *time,
     };
-    match plan_and_rest(planned) {
-        Some((plan, table)) => {
-            let slots = slots_of(table);
-            let rooms = (*energies as usize, *sleeps as usize);
-            sleeping::reckon(rt, words, plan, slots.list(), switching, rooms)
-        }
-        None => Ok(()),
-    }
+    let rooms = (*energies as usize, *sleeps as usize);
+    with_table(planned, |plan, table| {
+        sleeping::reckon(rt, words, plan, table, switching, rooms)
+    })
 }
 
 // A core.
