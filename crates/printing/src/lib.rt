@@ -7,7 +7,7 @@ use std::fmt::Display;
 use std::io;
 use std::io::Read;
 
-// Reads until the text is full or the input ends; answers how many bytes were read.
+// Reads until the text is full or the input ends, since one read may give less; answers how many bytes were read.
 pub fn read_text(input: &mut impl Read, text: &mut [u8]) -> io::Result<usize>
     ensures { IfOk result (λ n. n ≤ length text.new) }
 {
