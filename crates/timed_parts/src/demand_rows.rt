@@ -65,7 +65,8 @@ fn lowest_column(timed: Timed, node: Node, rows: &[u32]) -> [u32; MOST_ITEMS]
     column
 }
 
-// What is due by a row's tick with these ticks of a job of each item.
+// What is due by a row's tick with these ticks of a job of each item. The sum of `priced_front` has wider factors, and each has a bound of
+// its own that keeps it within 64 bits.
 fn due_by(items: usize, row: usize, column: &[u32], rows: &[u32]) -> u64
     requires le_most_items { (items ≤ most_items) × (row < most_ticks) × (length column.now ≡ most_items) × (length rows.now ≡ row_words) }
     requires by_index { (i : ℕ) → i < items → row_entry rows.now row i ≤ most_span }

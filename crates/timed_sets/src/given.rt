@@ -19,7 +19,8 @@ pub(crate) fn choice_at(key: u64, place: usize) -> usize
     (key / keys_of(place) % KEY_BASE) as usize
 }
 
-// What the pattern that a key stands for is worth, where it goes on from the node and the core admits it; else none.
+// What the pattern that a key stands for is worth, where it goes on from the node and the core admits it; else none, as a
+// table has it: the lesser of that and of another worth is the other.
 pub(crate) fn worth_along(
     timed: Timed,
     node: Node,

@@ -30,7 +30,8 @@ pub(crate) fn with_whole(timed: Timed, node: Node, best: Worth, timings: &[u32])
 }
 
 // What a search of one set reads: the timings and costs of the items, what leaves parts of patterns out, which are a relaxation, a table
-// of lower values and rows of due jobs, and the partner of each item.
+// of lower values and rows of due jobs, and the partner of each item. Its facts are a clause of its methods and no ghost field, since that
+// a value comes no later than another may have several proofs.
 #[derive(Clone, Copy)]
 pub(crate) struct Search<'a> {
     pub(crate) bounded: Bounded,
