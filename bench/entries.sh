@@ -20,14 +20,13 @@ cat >"$room/crates/timed/src/lib.rt" <<'END'
 // Tabling for a program in C that times it.
 #![tactic(auto)]
 
-use refusals::Verdict;
 use tables::tabulate;
 
 #[unsafe(no_mangle)]
 pub extern "C" fn timed_tabulate(words: &[u32], plan: &[u32], table: &mut [u8]) -> u64 {
     match tabulate(words, plan, table) {
-        Verdict::Accepted => 0,
-        Verdict::Refused(_) => 1,
+        Ok(()) => 0,
+        Err(_) => 1,
     }
 }
 END

@@ -1,12 +1,10 @@
 -- The numbers that the calls of a program in C return: those of the paper, for what each call answers.
-use Rattle.std.specs.Prelude.{ℕ}
-use Rattle.refusals.specs.Refusals.{Reading, refused, accepted, number_of, place_of}
-use Rattle.refusals.specs.declared.Verdict.{Verdict}
-use Rattle.refusals.specs.declared.Verdict.TheVariants.{Accepted, Refused}
+use Rattle.refusals.specs.declared.Refusal.{Refusal}
+use Rattle.std.specs.Prelude.{ℕ, Result, Ok, Err}
+use Rattle.refusals.specs.Refusals.{Reading, number_of, place_of, Verdict}
 use Rattle.instance.specs.Node.{Problem, level_count, task_count, span}
-use Rattle.calendar.specs.declared.PlanAt.{PlanAt}
-use Rattle.prices.specs.declared.amounts.Priced.{Priced}
-use Rattle.listing_lines.specs.declared.PlanListed.{PlanListed}
+use Rattle.calendar.specs.declared.PlanDays.{PlanDays}
+use Rattle.prices.specs.declared.amounts.Price.{Price}
 use Rattle.answers.specs.declared.Checked.{Checked}
 use Rattle.answers.specs.declared.Listed.{Listed}
 use Rattle.answers.specs.declared.Planned.{Planned}
@@ -16,31 +14,31 @@ use Rattle.answers.specs.declared.TaskToRun.{TaskToRun}
 
 -- a refusal's number and place, or 0 and 0 with how large the instance is
 abbrev pub site_of : Reading Problem → Site
-site_of (refused r) = record { refusal = number_of r; place = place_of r; tasks = 0; levels = 0; cores = 0; span = 0 }
-site_of (accepted p) =
+site_of (Err r) = record { refusal = number_of r; place = place_of r; tasks = 0; levels = 0; cores = 0; span = 0 }
+site_of (Ok p) =
     record { refusal = 0; place = 0; tasks = task_count p; levels = level_count p; cores = p.cores; span = span p }
 
 -- "returns energy, penalty and cost"
-abbrev pub planned_of : Priced → Planned
-planned_of (Priced.Cost price) =
+abbrev pub planned_of : Result Price Refusal → Planned
+planned_of (Ok price) =
     record { refusal = 0; place = 0; energy = price.energy; penalty = price.penalty; cost = price.cost }
-planned_of (Priced.Refused r) = record { refusal = number_of r; place = place_of r; energy = 0; penalty = 0; cost = 0 }
+planned_of (Err r) = record { refusal = number_of r; place = place_of r; energy = 0; penalty = 0; cost = 0 }
 
 abbrev pub checked_of : Verdict → Checked
-checked_of Accepted = record { refusal = 0; place = 0 }
-checked_of (Refused r) = record { refusal = number_of r; place = place_of r }
+checked_of (Ok tt) = record { refusal = 0; place = 0 }
+checked_of (Err r) = record { refusal = number_of r; place = place_of r }
 
 -- how many bytes the listing has
-abbrev pub listed_of : PlanListed → Listed
-listed_of (PlanListed.Bytes n) = record { refusal = 0; place = 0; length = n }
-listed_of (PlanListed.Refused r) = record { refusal = number_of r; place = place_of r; length = 0 }
+abbrev pub listed_of : Result ℕ Refusal → Listed
+listed_of (Ok n) = record { refusal = 0; place = 0; length = n }
+listed_of (Err r) = record { refusal = number_of r; place = place_of r; length = 0 }
 
 -- the task to run, 0 where the call is refused
 abbrev pub task_to_run_of : Verdict → ℕ → TaskToRun
-task_to_run_of Accepted task = record { refusal = 0; place = 0; task = task }
-task_to_run_of (Refused r) task = record { refusal = number_of r; place = place_of r; task = task }
+task_to_run_of (Ok tt) task = record { refusal = 0; place = 0; task = task }
+task_to_run_of (Err r) task = record { refusal = number_of r; place = place_of r; task = task }
 
 -- "Answer the plan .. and the days to the first entry of a later date"
-abbrev pub ruled_of : PlanAt → Ruled
-ruled_of (PlanAt.Plan ruling) = record { refusal = 0; place = 0; plan = ruling.plan; days = ruling.days }
-ruled_of (PlanAt.Refused r) = record { refusal = number_of r; place = place_of r; plan = 0; days = 0 }
+abbrev pub ruled_of : Result PlanDays Refusal → Ruled
+ruled_of (Ok ruling) = record { refusal = 0; place = 0; plan = ruling.plan; days = ruling.days }
+ruled_of (Err r) = record { refusal = number_of r; place = place_of r; plan = 0; days = 0 }

@@ -1,20 +1,18 @@
 // What the calls of a program in C return: the paper's numbers.
 #![tactic(auto)]
 
-ghost use Rattle.std.specs.Prelude.{◌≡◌};
+ghost use Rattle.std.specs.Prelude.{◌≡◌, Ok, Err};
 ghost use Rattle.instance.specs.Held.{Sound, problem_in};
-ghost use Rattle.refusals.specs.Refusals.{refused, accepted};
 ghost use Rattle.answers.specs.Answers.{site_of, planned_of, checked_of, listed_of, task_to_run_of, ruled_of};
 
-use calendar::PlanAt;
+use calendar::PlanDays;
 use instance::Instance;
-use listing_lines::PlanListed;
-use prices::Priced;
-use refusals::{Refusal, Verdict, refusal_number, refusal_place};
+use prices::Price;
+use refusals::{Refusal, Verdict};
 
 // Reading: the refusal's number and place, both 0 where the text is an instance; and how large that is, all 0 where it is none.
 #[repr(C)]
-#[derive(Clone, Copy)]
+#[derive(Clone, Copy, Default)]
 pub struct Site {
     pub refusal: u64,
     pub place: u64,
@@ -26,7 +24,7 @@ pub struct Site {
 
 // Planning: the refusal's number and place, both 0 where there is a plan; and what the plan comes to, all 0 where there is none.
 #[repr(C)]
-#[derive(Clone, Copy)]
+#[derive(Clone, Copy, Default)]
 pub struct Planned {
     pub refusal: u64,
     pub place: u64,
@@ -37,7 +35,7 @@ pub struct Planned {
 
 // Checking: the refusal's number and place, both 0 where the table passes.
 #[repr(C)]
-#[derive(Clone, Copy)]
+#[derive(Clone, Copy, Default)]
 pub struct Checked {
     pub refusal: u64,
     pub place: u64,
@@ -45,7 +43,7 @@ pub struct Checked {
 
 // Listing: the refusal's number and place, both 0 where there is a listing; and how many bytes it has, 0 where there is none.
 #[repr(C)]
-#[derive(Clone, Copy)]
+#[derive(Clone, Copy, Default)]
 pub struct Listed {
     pub refusal: u64,
     pub place: u64,
@@ -54,7 +52,7 @@ pub struct Listed {
 
 // Dispatching: the refusal's number and place, both 0 where the call is accepted; and the task to run, 0 for none.
 #[repr(C)]
-#[derive(Clone, Copy)]
+#[derive(Clone, Copy, Default)]
 pub struct TaskToRun {
     pub refusal: u64,
     pub place: u64,
@@ -64,7 +62,7 @@ pub struct TaskToRun {
 // Asking a calendar: the refusal's number and place, both 0 where it is answered; and the plan that holds, 0 for none, with the days
 // to the next entry, 0 where none follows; both 0 where it is refused.
 #[repr(C)]
-#[derive(Clone, Copy)]
+#[derive(Clone, Copy, Default)]
 pub struct Ruled {
     pub refusal: u64,
     pub place: u64,
@@ -73,49 +71,42 @@ pub struct Ruled {
 }
 
 pub fn no_site(refusal: Refusal) -> Site
-    ensures { result ≡ site_of (refused refusal) }
+    ensures { result ≡ site_of (Err refusal) }
 {
     Site {
-        refusal: refusal_number(refusal),
-        place: refusal_place(refusal),
-        tasks: 0,
-        levels: 0,
-        cores: 0,
-        span: 0,
+        refusal: refusal.number(),
+        place: refusal.place(),
+        ..Site::default()
     }
 }
 
 pub fn site_of(inst: Instance) -> Site
     requires { Sound inst }
-    ensures { result ≡ site_of (accepted (problem_in inst)) }
+    ensures { result ≡ site_of (Ok (problem_in inst)) }
 {
     Site {
-        refusal: 0,
-        place: 0,
         tasks: inst.taskcount as u64,
         levels: inst.levelcount as u64,
         cores: inst.cores as u64,
         span: inst.span as u64,
+        ..Site::default()
     }
 }
 
-pub fn planned_of(priced: Priced) -> Planned
+pub fn planned_of(priced: Result<Price, Refusal>) -> Planned
     ensures { result ≡ planned_of priced }
 {
     match priced {
-        Priced::Cost(price) => Planned {
-            refusal: 0,
-            place: 0,
+        Ok(price) => Planned {
             energy: price.energy,
             penalty: price.penalty,
             cost: price.cost,
+            ..Planned::default()
         },
-        Priced::Refused(refusal) => Planned {
-            refusal: refusal_number(refusal),
-            place: refusal_place(refusal),
-            energy: 0,
-            penalty: 0,
-            cost: 0,
+        Err(refusal) => Planned {
+            refusal: refusal.number(),
+            place: refusal.place(),
+            ..Planned::default()
         },
     }
 }
@@ -124,30 +115,26 @@ pub fn checked_of(verdict: Verdict) -> Checked
     ensures { result ≡ checked_of verdict }
 {
     match verdict {
-        Verdict::Accepted => Checked {
-            refusal: 0,
-            place: 0,
-        },
-        Verdict::Refused(refusal) => Checked {
-            refusal: refusal_number(refusal),
-            place: refusal_place(refusal),
+        Ok(()) => Checked::default(),
+        Err(refusal) => Checked {
+            refusal: refusal.number(),
+            place: refusal.place(),
         },
     }
 }
 
-pub fn listed_of(listed: PlanListed) -> Listed
+pub fn listed_of(listed: Result<usize, Refusal>) -> Listed
     ensures { result ≡ listed_of listed }
 {
     match listed {
-        PlanListed::Bytes(n) => Listed {
-            refusal: 0,
-            place: 0,
+        Ok(n) => Listed {
             length: n as u64,
+            ..Listed::default()
         },
-        PlanListed::Refused(refusal) => Listed {
-            refusal: refusal_number(refusal),
-            place: refusal_place(refusal),
-            length: 0,
+        Err(refusal) => Listed {
+            refusal: refusal.number(),
+            place: refusal.place(),
+            ..Listed::default()
         },
     }
 }
@@ -155,35 +142,27 @@ pub fn listed_of(listed: PlanListed) -> Listed
 pub fn task_to_run(verdict: Verdict, task: u32) -> TaskToRun
     ensures { result ≡ task_to_run_of verdict task }
 {
-    match verdict {
-        Verdict::Accepted => TaskToRun {
-            refusal: 0,
-            place: 0,
-            task: task as u64,
-        },
-        Verdict::Refused(refusal) => TaskToRun {
-            refusal: refusal_number(refusal),
-            place: refusal_place(refusal),
-            task: task as u64,
-        },
+    let Checked { refusal, place } = checked_of(verdict);
+    TaskToRun {
+        refusal,
+        place,
+        task: task as u64,
     }
 }
 
-pub fn ruled_of(answer: PlanAt) -> Ruled
+pub fn ruled_of(answer: Result<PlanDays, Refusal>) -> Ruled
     ensures { result ≡ ruled_of answer }
 {
     match answer {
-        PlanAt::Plan(ruling) => Ruled {
-            refusal: 0,
-            place: 0,
+        Ok(ruling) => Ruled {
             plan: ruling.plan as u64,
             days: ruling.days as u64,
+            ..Ruled::default()
         },
-        PlanAt::Refused(refusal) => Ruled {
-            refusal: refusal_number(refusal),
-            place: refusal_place(refusal),
-            plan: 0,
-            days: 0,
+        Err(refusal) => Ruled {
+            refusal: refusal.number(),
+            place: refusal.place(),
+            ..Ruled::default()
         },
     }
 }

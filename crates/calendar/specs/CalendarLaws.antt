@@ -1,9 +1,8 @@
 -- Reading accepts exactly the words that write valid calendars, each as the calendar that it writes.
-use Rattle.std.specs.Prelude.{ℕ, zero, suc, ◌≤◌, ◌<◌, true, List, [], ◌∷◌, ◌++◌, ◌≡◌, refl, leb, length}
+use Rattle.std.specs.Prelude.{ℕ, zero, suc, ◌≤◌, ◌<◌, true, List, [], ◌∷◌, ◌++◌, ◌≡◌, refl, leb, length, Ok}
 use Rattle.std.proofs.Common.{append-nil, le_of_suc-le-suc, arith, leb-true, le-leb}
 use Rattle.laws.specs.Truth.{and_is_true}
 use Rattle.ranges.specs.Limits
-use Rattle.refusals.specs.Refusals.{accepted}
 use Rattle.formats.specs.ReadingLaws.{read_is_written, written_is_read}
 use Rattle.formats.specs.Taking.{between}
 use Rattle.formats.specs.TimesLaws.{Many, times_written, many_written}
@@ -159,14 +158,14 @@ calendar_writes {es} v =
     then (then (Written.word _ (between_passes _ _ _ (omega arith) v.count)) (rw append-nil at (many_written each_entry dated)))
     (then Written.EndWrites.ended nothing)
 
-pub read_calendar_is_valid : (words : List ℕ) {es : List Entry} → calendar_of words ≡ accepted es → ValidCalendar es
+pub read_calendar_is_valid : (words : List ℕ) {es : List Entry} → calendar_of words ≡ Ok es → ValidCalendar es
 unfolding calendar_of
 read_calendar_is_valid words e = (calendar_read _ (read_is_written calendar words e).1).0
 
-pub read_calendar_is_written : (words : List ℕ) {es : List Entry} → calendar_of words ≡ accepted es → words ≡ words_of_calendar es
+pub read_calendar_is_written : (words : List ℕ) {es : List Entry} → calendar_of words ≡ Ok es → words ≡ words_of_calendar es
 unfolding calendar_of
 read_calendar_is_written words e = (calendar_read _ (read_is_written calendar words e).1).1
 
-pub valid_calendar_is_read : {es : List Entry} → ValidCalendar es → calendar_of (words_of_calendar es) ≡ accepted es
+pub valid_calendar_is_read : {es : List Entry} → ValidCalendar es → calendar_of (words_of_calendar es) ≡ Ok es
 unfolding calendar_of
 valid_calendar_is_read v = written_is_read calendar (calendar_writes v)

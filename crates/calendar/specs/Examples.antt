@@ -1,19 +1,20 @@
 -- The examples of document 02 (m)'s request, computed.
-use Rattle.std.specs.Prelude.{ℕ, List, [], ◌∷◌, ◌≡◌, refl}
+use Rattle.refusals.specs.declared.Refusal.{Refusal}
+use Rattle.std.specs.Prelude.{ℕ, List, [], ◌∷◌, ◌≡◌, refl, Result, Ok, Err}
 use Rattle.refusals.specs.declared.Refusal.TheVariants.{WordCount, WordRange, CalendarDate, NoSuchQuestion}
 use Rattle.formats.specs.Formats.{times}
 use Rattle.formats.specs.Taking.{between, take_word, take_tested, take_end}
 use Rattle.calendar.specs.Calendars.{date_words, hours_words, free_after, may_follow, entry, entries, calendar, calendar_of}
 use Rattle.calendar.specs.Dates.{date, is_leap, month_length, month_index, length_of_month, first_day, day_number}
 use Rattle.calendar.specs.Hours.{ruling, plan_of, days_to_later, in_century, is_question, plan_at_outcome}
-use Rattle.calendar.specs.declared.PlanAt.{PlanAt}
+use Rattle.calendar.specs.declared.PlanDays.{PlanDays}
 
 -- from 28 February 2024 plan 7 from 8 to 18 o'clock, from 1 March plan 9 all day
 abbrev leap_week : List ℕ
 leap_week = 2 ∷ 2024 ∷ 2 ∷ 28 ∷ 480 ∷ 1080 ∷ 7 ∷ 2024 ∷ 3 ∷ 1 ∷ 0 ∷ 1440 ∷ 9 ∷ []
 
-abbrev ruled : ℕ → ℕ → PlanAt
-ruled plan days = PlanAt.Plan (record { plan = plan; days = days })
+abbrev ruled : ℕ → ℕ → Result PlanDays Refusal
+ruled plan days = Ok (record { plan = plan; days = days })
 
 pub examples :
     plan_at_outcome leap_week (date 2024 2 28) 480 ∷ plan_at_outcome leap_week (date 2024 2 29) 1079 ∷ plan_at_outcome leap_week (date 2024 2 29) 1080
@@ -31,12 +32,12 @@ pub examples :
     ∷ plan_at_outcome (1 ∷ 2023 ∷ 2 ∷ 29 ∷ 480 ∷ 1080 ∷ 256 ∷ []) (date 2024 2 28) 480 ∷ []
     ≡ ruled 7 2 ∷ ruled 7 1 ∷ ruled 0 1
     ∷ ruled 0 1 ∷ ruled 9 0 ∷ ruled 0 0
-    ∷ PlanAt.Refused NoSuchQuestion
-    ∷ PlanAt.Refused (CalendarDate 1)
-    ∷ PlanAt.Refused (CalendarDate 7)
-    ∷ PlanAt.Refused (WordRange 5)
-    ∷ PlanAt.Refused (WordRange 5)
-    ∷ PlanAt.Refused (WordRange 0) ∷ PlanAt.Refused (WordCount 1)
-    ∷ PlanAt.Refused (WordRange 6) ∷ []
+    ∷ Err NoSuchQuestion
+    ∷ Err (CalendarDate 1)
+    ∷ Err (CalendarDate 7)
+    ∷ Err (WordRange 5)
+    ∷ Err (WordRange 5)
+    ∷ Err (WordRange 0) ∷ Err (WordCount 1)
+    ∷ Err (WordRange 6) ∷ []
 unfolding between take_word take_tested take_end times date_words hours_words free_after may_follow entry entries calendar calendar_of is_leap month_length month_index length_of_month first_day day_number ruling plan_of days_to_later in_century is_question plan_at_outcome
 examples = refl

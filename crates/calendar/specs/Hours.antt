@@ -1,18 +1,16 @@
 -- Document 02 (m): which plan a calendar has for a day and a minute, and how far the next entry is.
-use Rattle.std.specs.Prelude.{ℕ, ◌-◌, ◌<◌, Bool, cond, ◌&&◌, List, [], ◌∷◌, leb, ltb}
+use Rattle.refusals.specs.declared.Refusal.{Refusal}
+use Rattle.std.specs.Prelude.{ℕ, ◌-◌, ◌<◌, Bool, cond, ◌&&◌, List, [], ◌∷◌, leb, ltb, Result, Ok, Err}
 use Rattle.ranges.specs.Limits
 use Rattle.refusals.specs.Endings.{Ends, read_then}
-use Rattle.refusals.specs.Refusals.{Reading, refused, accepted}
+use Rattle.refusals.specs.Refusals.{Reading, accepted, verdict_of}
 use Rattle.refusals.specs.declared.Refusal.TheVariants.{NoSuchQuestion}
-use Rattle.refusals.specs.declared.Verdict.{Verdict}
-use Rattle.refusals.specs.declared.Verdict.TheVariants.{Accepted, Refused}
 use Rattle.formats.specs.Taking.{between}
 use Rattle.calendar.specs.Calendars.{calendar_of}
 use Rattle.calendar.specs.Dates.{IsDate, month_length, day_number}
 use Rattle.calendar.specs.ValidCalendars.{no_entry}
 use Rattle.calendar.specs.declared.Date.{Date}
 use Rattle.calendar.specs.declared.Entry.{Entry}
-use Rattle.calendar.specs.declared.PlanAt.{PlanAt}
 use Rattle.calendar.specs.declared.PlanDays.{PlanDays}
 
 -- "An entry rules from its date until the day before the next one": the last whose date is not after the day, or `before`
@@ -46,24 +44,20 @@ pub record IsQuestion (d : Date) (minute : ℕ) : Type 0 where
   pub dated : IsDate d
   pub minute_of_day : minute < Limits.day_minutes
 
-abbrev pub plan_at_of : Reading (List Entry) → Date → ℕ → PlanAt
-plan_at_of (refused r) d minute = PlanAt.Refused r
-plan_at_of (accepted es) d minute =
-    cond (is_question d minute) (PlanAt.Plan (ruled_at es (day_number d) minute)) (PlanAt.Refused NoSuchQuestion)
+abbrev pub plan_at_of : Reading (List Entry) → Date → ℕ → Result PlanDays Refusal
+plan_at_of (Err r) d minute = Err r
+plan_at_of (Ok es) d minute =
+    cond (is_question d minute) (Ok (ruled_at es (day_number d) minute)) (Err NoSuchQuestion)
 
 -- the whole outcome, for every list of words and every question
-unfoldable pub plan_at_outcome : List ℕ → Date → ℕ → PlanAt
+unfoldable pub plan_at_outcome : List ℕ → Date → ℕ → Result PlanDays Refusal
 plan_at_outcome words d minute = plan_at_of (calendar_of words) d minute
 
-abbrev pub plan_at_verdict : PlanAt → Verdict
-plan_at_verdict (PlanAt.Plan r) = Accepted
-plan_at_verdict (PlanAt.Refused r) = Refused r
-
 -- "2 and 3 apply .. word by word. Turned away: 17 ..; then 18"
-abbrev pub AskingEnds : List ℕ → Date → ℕ → PlanAt → Type 0
+abbrev pub AskingEnds : List ℕ → Date → ℕ → Result PlanDays Refusal → Type 0
 AskingEnds words d minute answer =
     Ends
-    (read_then (calendar_of words) (λ es. cond (is_question d minute) Accepted (Refused NoSuchQuestion)))
+    (read_then (calendar_of words) (λ es. cond (is_question d minute) accepted (Err NoSuchQuestion)))
     (2 ∷ 3 ∷ 17 ∷ 18 ∷ [])
     []
-    (plan_at_verdict answer)
+    (verdict_of answer)

@@ -1,33 +1,34 @@
 -- What rules with one entry more, and how asking ends.
-use Rattle.std.specs.Prelude.{ℕ, ◌-◌, ◌≤◌, ◌<◌, Bool, ◌&&◌, ◌⊎◌, ◌↔◌, ◌≡◌, leb, eqb}
+use Rattle.refusals.specs.declared.Refusal.{Refusal}
+use Rattle.std.specs.Prelude.{ℕ, ◌-◌, ◌≤◌, ◌<◌, Bool, ◌&&◌, ◌⊎◌, ◌↔◌, ◌≡◌, leb, eqb, Result, Ok, Err}
 use Rattle.std.proofs.Math.Bool.{true, false, cond, and-false}
 use mathlib.Core.List.Memᴰ
 use mathlib.Core.List.{List, [], ◌∷◌, ◌++◌}
 use Rattle.std.proofs.Common.{inl, inr, arith}
 use Rattle.std.proofs.Math.Path.{refl}
 use Rattle.std.proofs.Math.Dec.{ltb}
-use borrow.Author.Tests.{ltb-true, le-leb, lt-leb, lt-ltb, le-ltb, leb-true, ne_eqb}
+use Rattle.std.specs.Ordering.{as_partial_cmp, nat_cmp, partial_le, partial_lt}
+use borrow.Author.Tests.{ltb-true, le-leb, lt-leb, lt-ltb, le-ltb, leb-true, eq-eqb, ne_eqb}
 use Rattle.laws.specs.Below.{lt_or_le}
 use Rattle.laws.specs.Truth.{and_is_true}
 use Rattle.ranges.specs.Limits
 use Rattle.refusals.specs.EndingLaws.{serves, turns_down}
 use Rattle.refusals.specs.Endings.{Ends, read_then}
 use Rattle.refusals.specs.RefusalNumbers.{UnreadOnly, read, unread}
-use Rattle.refusals.specs.Refusals.{Reading}
+use Rattle.refusals.specs.Refusals.{Reading, accepted, verdict_of}
 use Rattle.refusals.specs.declared.Refusal.TheVariants.{NoSuchQuestion}
-use Rattle.refusals.specs.declared.Verdict.TheVariants.{Accepted, Refused}
 use Rattle.formats.specs.Taking.{between}
 use Rattle.formats.specs.WordLaws.{between_passes}
 use Rattle.formats.specs.ReadingLaws.{reading_refuses_2_3_fault}
 use Rattle.calendar.specs.Calendars.{calendar, calendar_of}
 use Rattle.calendar.specs.CalendarLaws.{within}
 use Rattle.calendar.specs.Dates.{InCentury, month_length, day_number}
-use Rattle.calendar.specs.Hours.{ruling, plan_of, days_to_later, ruled_at, in_century, is_question, IsQuestion, plan_at_of, plan_at_outcome, plan_at_verdict, AskingEnds}
+use Rattle.calendar.specs.Hours.{ruling, plan_of, days_to_later, ruled_at, in_century, is_question, IsQuestion, plan_at_of, plan_at_outcome, AskingEnds}
 use Rattle.calendar.specs.Sections.{days_or_to, ruled_with}
 use Rattle.calendar.specs.ValidCalendars.{no_entry}
 use Rattle.calendar.specs.declared.Date.{Date}
 use Rattle.calendar.specs.declared.Entry.{Entry}
-use Rattle.calendar.specs.declared.PlanAt.{PlanAt}
+use Rattle.calendar.specs.declared.PlanDays.{PlanDays}
 
 ruling_more : (day : ℕ) (before : Entry) (es : List Entry) (e : Entry) →
     ruling day before (es ++ (e ∷ [])) ≡ cond (leb (day_number e.date) day) e (ruling day before es)
@@ -101,6 +102,22 @@ unfolding in_century
 says_in_century d c =
     rw (between_passes _ _ _ c.from_year c.to_year, between_passes _ _ _ c.from_month c.to_month, between_passes _ _ _ c.from_day c.to_day)
 
+-- what `<=` says of two words, and what a range `low..=high` says of one that it is asked about
+le_is_leb : (a b : ℕ) → partial_le (as_partial_cmp nat_cmp) a b ≡ leb a b
+le_is_leb a b = go (lt_or_le a b) (lt_or_le b a)
+  where
+    go : (a < b) ⊎ (b ≤ a) → (b < a) ⊎ (a ≤ b) → partial_le (as_partial_cmp nat_cmp) a b ≡ leb a b
+    go (inl less) other = rw (lt-ltb a b less, le-leb a b (omega arith))
+    go (inr most) (inl more) = rw (le-ltb a b most, ne_eqb a b (λ same. omega arith), lt-leb a b more)
+    go (inr most) (inr least) = rw (le-ltb a b most, eq-eqb a b (omega arith), le-leb a b least)
+
+pub contains_is_between : (low high w : ℕ) {start end : ℕ} {exhausted contains : Bool} → start ≡ low → end ≡ high → exhausted ≡ false →
+    contains ≡ partial_le (as_partial_cmp nat_cmp) start w
+    && cond exhausted (partial_lt (as_partial_cmp nat_cmp) w end) (partial_le (as_partial_cmp nat_cmp) w end) →
+    contains ≡ between low high w
+unfolding between
+contains_is_between low high w starts ends fresh is = rw (is, starts, ends, fresh, le_is_leb low w, le_is_leb w high)
+
 pub question_iff : (d : Date) (minute : ℕ) → (is_question d minute ≡ true) ↔ IsQuestion d minute
 unfolding is_question
 question_iff d minute = (there, back)
@@ -123,18 +140,18 @@ unfolding plan_at_outcome calendar_of
 asking_ends words d minute = go (reading_refuses_2_3_fault calendar words)
   where
     asked : (es : List Entry) (t : Bool) →
-        Ends (cond t Accepted (Refused NoSuchQuestion)) (2 ∷ 3 ∷ 17 ∷ 18 ∷ []) []
-        (plan_at_verdict (cond t (PlanAt.Plan (ruled_at es (day_number d) minute)) (PlanAt.Refused NoSuchQuestion)))
+        Ends (cond t accepted (Err NoSuchQuestion)) (2 ∷ 3 ∷ 17 ∷ 18 ∷ []) []
+        (verdict_of (cond t (Ok (ruled_at es (day_number d) minute)) (Err NoSuchQuestion)))
     asked es true = serves tt
     asked es false = turns_down (Memᴰ.append_right (2 ∷ 3 ∷ 17 ∷ []) (Memᴰ.head refl)) tt
 
     go : {reading : Reading (List Entry)} → UnreadOnly (2 ∷ 3 ∷ 17 ∷ []) reading →
-        Ends (read_then reading (λ es. cond (is_question d minute) Accepted (Refused NoSuchQuestion))) (2 ∷ 3 ∷ 17 ∷ 18 ∷ []) []
-        (plan_at_verdict (plan_at_of reading d minute))
+        Ends (read_then reading (λ es. cond (is_question d minute) accepted (Err NoSuchQuestion))) (2 ∷ 3 ∷ 17 ∷ 18 ∷ []) []
+        (verdict_of (plan_at_of reading d minute))
     go (read es) = asked es (is_question d minute)
     go (unread m) = turns_down (Memᴰ.append_left (18 ∷ []) m) tt
 
 -- what the contract says of an answer
-pub answer_is_promised : (words : List ℕ) (d : Date) (minute : ℕ) (answer : PlanAt) → answer ≡ plan_at_outcome words d minute →
+pub answer_is_promised : (words : List ℕ) (d : Date) (minute : ℕ) (answer : Result PlanDays Refusal) → answer ≡ plan_at_outcome words d minute →
     (answer ≡ plan_at_outcome words d minute) × AskingEnds words d minute answer
 answer_is_promised words d minute answer e = (e, rw e (asking_ends words d minute))

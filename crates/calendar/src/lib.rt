@@ -8,7 +8,6 @@ mod first_days;
 mod hours;
 
 pub use asking::plan_at;
-use refusals::Refusal;
 
 #[derive(Clone, Copy)]
 pub struct Date {
@@ -31,10 +30,4 @@ pub struct Entry {
 pub struct PlanDays {
     pub plan: u32,
     pub days: u32,
-}
-
-#[derive(Clone, Copy)]
-pub enum PlanAt {
-    Plan(PlanDays),
-    Refused(Refusal),
 }

@@ -1,6 +1,6 @@
 -- What the tests for the refusals 9 and 10 say when they accept, and the two checks.
 use Prim.Native.Nat.{ℕ, zero, suc, ◌+◌, ◌*◌, ◌/◌, ◌%◌, ◌<◌}
-use Rattle.std.specs.Prelude.{true, false, not, List, ◌↔◌, ◌⊎◌, ◌≡◌, get_or}
+use Rattle.std.specs.Prelude.{true, false, not, List, ◌↔◌, ◌⊎◌, ◌≡◌, get_or, Ok, Err}
 use Rattle.std.proofs.Math.Logic.{inl, inr}
 use mathlib.Core.Logic.Iff
 use Rattle.std.proofs.Math.Path.{refl}
@@ -11,9 +11,7 @@ use Rattle.std.proofs.lemmas.Bool.{eqb-false, not-false}
 use Rattle.laws.specs.SearchFacts.{every_iff}
 use Rattle.laws.specs.Truth.{and_is_true, or_is_true}
 use Rattle.instance.specs.Node.{Problem, task_count, span}
-use Rattle.refusals.specs.Refusals.{◌and_then◌}
-use Rattle.refusals.specs.declared.Verdict.{Verdict}
-use Rattle.refusals.specs.declared.Verdict.TheVariants.{Accepted, Refused}
+use Rattle.refusals.specs.Refusals.{◌and_then◌, Verdict, accepted}
 use Rattle.checks.specs.NamedSlots.{KeptSlot, NamedSlots}
 use Rattle.checks.specs.Checks.{slot_check, check, stray_value, stray_slot, slots_pass, job_slots, late_slots, is_served, jobs_pass}
 use Rattle.plan_rules.specs.AllowedPlans.{AllowedPlan}
@@ -40,7 +38,7 @@ module _ (p : Problem) (plan : List ℕ) (k : ℕ) where
       rw (r.its_number, eqb-suc-zero, (keeps_iff p plan k r.task).1 (r.kept, r.on_its_core))
 
 pub slots_pass-iff : (p : Problem) → Periodic p → (plan table : List ℕ) →
-    (slots_pass p plan table ≡ Accepted) ↔ NamedSlots p plan table
+    (slots_pass p plan table ≡ accepted) ↔ NamedSlots p plan table
 unfolding slots_pass stray_slot slot_at
 slots_pass-iff p periodic plan table = (
   λ e.
@@ -82,7 +80,7 @@ task_is_served p plan table i = (
       (and_is_true _ _).1 (eq-eqb _ _ job.in_window, eq-eqb _ _ job.none_late))),
 )
 
-pub jobs_pass-iff : (p : Problem) (plan table : List ℕ) → (jobs_pass p plan table ≡ Accepted) ↔ ServedJobs p plan table
+pub jobs_pass-iff : (p : Problem) (plan table : List ℕ) → (jobs_pass p plan table ≡ accepted) ↔ ServedJobs p plan table
 unfolding jobs_pass
 jobs_pass-iff p plan table = (
   λ e i j h kept l. (task_is_served p plan table i).0 (not-false _ ((none_refused _ _ _).0 e i h)) kept j l,
@@ -91,7 +89,7 @@ jobs_pass-iff p plan table = (
 )
 
 pub slot_check_accepts : (p : Problem) → Periodic p → (plan table : List ℕ) →
-    (slot_check p plan table ≡ Accepted) ↔ (AllowedPlan p plan × NamedSlots p plan table)
+    (slot_check p plan table ≡ accepted) ↔ (AllowedPlan p plan × NamedSlots p plan table)
 unfolding slot_check
 slot_check_accepts p periodic plan table = (
   λ e.
@@ -103,12 +101,12 @@ slot_check_accepts p periodic plan table = (
 
 -- for a plan that 7 lets pass, the first check passes exactly the tables whose slots name the right tasks
 pub slot_check_accepts_exactly_named_slots : (p : Problem) → Periodic p → (plan table : List ℕ) →
-    choices_pass p plan ≡ Accepted → (slot_check p plan table ≡ Accepted) ↔ NamedSlots p plan table
+    choices_pass p plan ≡ accepted → (slot_check p plan table ≡ accepted) ↔ NamedSlots p plan table
 slot_check_accepts_exactly_named_slots p periodic plan table passes =
     Iff.trans (slot_check_accepts p periodic plan table) (λ both. both.1, λ named. ((choices_pass-iff p plan).0 passes, named))
 
 pub check_accepts : (p : Problem) → Periodic p → (plan table : List ℕ) →
-    (check p plan table ≡ Accepted) ↔ (AllowedPlan p plan × NamedSlots p plan table × ServedJobs p plan table)
+    (check p plan table ≡ accepted) ↔ (AllowedPlan p plan × NamedSlots p plan table × ServedJobs p plan table)
 unfolding check
 check_accepts p periodic plan table = (
   λ e.
@@ -131,5 +129,5 @@ check_in_order p plan table = go (choices_pass p plan)
     go : (choices : Verdict) →
         (choices and_then slots_pass p plan table) and_then jobs_pass p plan table
         ≡ choices and_then slots_pass p plan table and_then jobs_pass p plan table
-    go Accepted = refl
-    go (Refused r) = refl
+    go (Ok tt) = refl
+    go (Err r) = refl

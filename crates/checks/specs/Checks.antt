@@ -1,11 +1,9 @@
 -- The two checks of a given table: the refusals 9 and 10, after 7 and without 8.
-use Rattle.std.specs.Prelude.{ℕ, suc, pred, min, ◌+◌, ◌-◌, ◌/◌, Bool, cond, not, ◌&&◌, ◌||◌, List, ltb, eqb, length, get_or}
+use Rattle.std.specs.Prelude.{ℕ, suc, pred, min, ◌+◌, ◌-◌, ◌/◌, Bool, cond, not, ◌&&◌, ◌||◌, List, ltb, eqb, length, get_or, Err}
 use Rattle.laws.specs.Search.{first, every, count}
 use Rattle.instance.specs.Node.{Problem, task_count, task_at, span}
-use Rattle.refusals.specs.Refusals.{◌and_then◌}
+use Rattle.refusals.specs.Refusals.{◌and_then◌, Verdict, accepted}
 use Rattle.refusals.specs.declared.Refusal.TheVariants.{GivenTable, JobSlots}
-use Rattle.refusals.specs.declared.Verdict.{Verdict}
-use Rattle.refusals.specs.declared.Verdict.TheVariants.{Accepted, Refused}
 use Rattle.plan_rules.specs.Plans.{choices_pass}
 use Rattle.plan_rules.specs.Quantities.{is_refused, core_of, keeps, jobs, job_ticks}
 use Rattle.plan_rules.specs.Windows.{release_of, due_of, window}
@@ -24,8 +22,8 @@ slots_pass p plan table =
     let n = table_size p in
     let x = first (stray_slot p plan table) n in
     cond (eqb (length table) n)
-    (cond (ltb x n) (Refused (GivenTable x)) Accepted)
-    (Refused (GivenTable (min (length table) n)))
+    (cond (ltb x n) (Err (GivenTable x)) accepted)
+    (Err (GivenTable (min (length table) n)))
 
 -- the slots that job j of task i has between its release and its due tick
 unfoldable pub job_slots : Problem → List ℕ → List ℕ → ℕ → ℕ → ℕ
@@ -48,7 +46,7 @@ unfoldable pub jobs_pass : Problem → List ℕ → List ℕ → Verdict
 jobs_pass p plan table =
     let n = task_count p in
     let i = first (λ i. not (is_served p plan table i)) n in
-    cond (ltb i n) (Refused (JobSlots (suc i))) Accepted
+    cond (ltb i n) (Err (JobSlots (suc i))) accepted
 
 -- (d) "one part tests length and slots (9) .. both test 7 first"
 unfoldable pub slot_check : Problem → List ℕ → List ℕ → Verdict

@@ -5,10 +5,9 @@ use Rattle.refusals.specs.EndingLaws.{turns_down, ends_as_tested}
 use Rattle.refusals.specs.Endings.{Ends, read_then}
 use Rattle.instance.specs.Node.{Problem}
 use Rattle.refusals.specs.RefusalNumbers.{RefusesOnly, UnreadOnly, read, unread}
-use Rattle.refusals.specs.Refusals.{Reading}
+use Rattle.refusals.specs.Refusals.{Reading, Verdict}
 use Rattle.instance.specs.SiteFile.{problem_of}
 use Rattle.instance.specs.SiteFileRefusals.{reading_refuses_2_3_4}
-use Rattle.refusals.specs.declared.Verdict.{Verdict}
 use Rattle.checks.specs.Checks.{slot_check, check}
 use Rattle.checks.specs.CheckLaws.{check_in_order}
 use Rattle.checks.specs.Outcomes.{slot_check_outcome, SlotCheckingEnds, check_outcome, CheckingEnds}

@@ -1,5 +1,5 @@
 -- The test of a table's slots by numbers: of a slot, and along the rows.
-use Rattle.std.specs.Prelude.{ℕ, pred, ◌+◌, ◌*◌, ◌-◌, ◌/◌, ◌≤◌, ◌<◌, Bool, true, false, cond, not, ◌&&◌, List, ◌≡◌, ltb, eqb, length, get_or}
+use Rattle.std.specs.Prelude.{ℕ, pred, ◌+◌, ◌*◌, ◌-◌, ◌/◌, ◌≤◌, ◌<◌, Bool, true, false, cond, not, ◌&&◌, List, ◌≡◌, ltb, eqb, length, get_or, Err}
 use Rattle.std.proofs.Math.Path.{refl}
 use Rattle.std.proofs.Common.{sym, le-mul_of_pos_right, arith}
 use Rattle.std.proofs.Math.Numerals.{sub-one}
@@ -9,8 +9,7 @@ use borrow.Author.Tests.{eq-eqb, ne_eqb}
 use Rattle.laws.specs.Search.{first}
 use Rattle.instance.specs.Node.{Problem, level_count, span}
 use Rattle.refusals.specs.declared.Refusal.TheVariants.{GivenTable}
-use Rattle.refusals.specs.declared.Verdict.{Verdict}
-use Rattle.refusals.specs.declared.Verdict.TheVariants.{Accepted, Refused}
+use Rattle.refusals.specs.Refusals.{Verdict, accepted}
 use Rattle.checks.specs.Checks.{stray_value, stray_slot, slots_pass}
 use Rattle.plan_rules.specs.Quantities.{choice_at, is_refused, keeps}
 use Rattle.tables.specs.Tables.{table_size}
@@ -23,7 +22,7 @@ is_stray plan levels k slot = not (eqb slot 0) && not (not (is_refused plan (pre
 unfoldable pub slots_named : List ℕ → (levels w : ℕ) → List ℕ → Verdict
 slots_named plan levels w table =
     let x = first (λ x. is_stray plan levels (x / w) (get_or table x 0)) (length table) in
-    cond (ltb x (length table)) (Refused (GivenTable x)) Accepted
+    cond (ltb x (length table)) (Err (GivenTable x)) accepted
 
 pub slots_named_is_slots_pass : (p : Problem) (plan table : List ℕ) (levels w : ℕ) → levels ≡ level_count p → w ≡ span p → length table ≡ table_size p →
     slots_named plan levels w table ≡ slots_pass p plan table

@@ -2,9 +2,8 @@
 use Rattle.std.specs.Prelude.{ℕ, List, [], ◌∷◌}
 use Rattle.refusals.specs.Endings.{Ends, read_then}
 use Rattle.instance.specs.Node.{Problem}
-use Rattle.refusals.specs.Refusals.{Reading, ◌and_then◌}
+use Rattle.refusals.specs.Refusals.{Reading, ◌and_then◌, Verdict}
 use Rattle.instance.specs.SiteFile.{problem_of}
-use Rattle.refusals.specs.declared.Verdict.{Verdict}
 use Rattle.checks.specs.Checks.{slots_pass, jobs_pass, slot_check, check}
 use Rattle.plan_rules.specs.Plans.{choices_pass}
 

@@ -15,10 +15,7 @@ pub fn table_passes(inst: Instance, plan: &[u32], table: &[Slot]) -> Verdict
     requires { Sound inst }
     ensures { result ≡ check (problem_in inst) plan.now table.now }
 {
-    let slots = slot_check(inst, plan, table);
-    let Verdict::Accepted = slots else {
-        return slots;
-    };
+    slot_check(inst, plan, table)?;
     jobs_pass(inst, plan, table)
 }
 
@@ -28,10 +25,5 @@ pub fn check_table(instance: &[u32], plan: &[u32], table: &[Slot]) -> Verdict
     ensures value { result ≡ check_outcome instance.now plan.now table.now }
     ensures promise { CheckingEnds instance.now plan.now table.now result }
 {
-    let read = read_instance(instance);
-    let words = read.verdict;
-    let Verdict::Accepted = words else {
-        return words;
-    };
-    table_passes(read.instance, plan, table)
+    table_passes(read_instance(instance)?, plan, table)
 }

@@ -27,8 +27,7 @@ fn jobs_served(
     requires period_in_bounds { from + jobs * period ≤ length table.now }
     ensures { result ≡ jobs_served table.now from number period window jobs ticks }
 {
-    let mut j = 0;
-    while j < jobs {
+    for j in 0..jobs {
         let release = from + j * period;
         let next = release + period;
         let counted = count_job(&table[release..next], number, window, ticks);
@@ -36,7 +35,6 @@ fn jobs_served(
         let CountKind::Right = kind else {
             return false;
         };
-        j += 1;
     }
     true
 }
@@ -74,17 +72,15 @@ pub(crate) fn jobs_pass(inst: Instance, plan: &[u32], table: &[Slot]) -> Verdict
 {
     let levels = inst.levelcount;
     let span = inst.span;
-    let mut i = 0;
-    while i < inst.taskcount {
+    for i in 0..inst.taskcount {
         let number = i + 1;
         let choice = plan[i];
         let task = inst.tasks[i];
         let level = inst.levels[level_of(choice, levels)];
         let ticks = ticks_of(inst.start, task.cycles, level.speed) as usize;
         if !is_served(table, span, levels, number as Slot, choice, task, ticks) {
-            return Verdict::Refused(Refusal::JobSlots(number));
+            return Err(Refusal::JobSlots(number));
         }
-        i += 1;
     }
-    Verdict::Accepted
+    Ok(())
 }

@@ -7,7 +7,7 @@ ghost use Rattle.checks.specs.HeldSlots.{is_stray, slots_named};
 
 use dispatch::Slot;
 use instance::{Instance, read_instance};
-use plan_rules::{choices_pass, core_of, smaller};
+use plan_rules::{choices_pass, core_of};
 use refusals::{Refusal, Verdict};
 use tables::table_size;
 
@@ -36,19 +36,17 @@ fn slots_named(plan: &[u32], levels: usize, span: usize, table: &[Slot]) -> Verd
 {
     let mut k = 0;
     let mut left = span;
-    let mut x = 0;
-    while x < table.len() {
+    for x in 0..table.len() {
         if left == 0 {
             k += 1;
             left = span;
         }
         if is_stray(plan, levels, k, table[x]) {
-            return Verdict::Refused(Refusal::GivenTable(x));
+            return Err(Refusal::GivenTable(x));
         }
         left -= 1;
-        x += 1;
     }
-    Verdict::Accepted
+    Ok(())
 }
 
 fn slots_pass(inst: Instance, plan: &[u32], table: &[Slot]) -> Verdict
@@ -59,7 +57,7 @@ fn slots_pass(inst: Instance, plan: &[u32], table: &[Slot]) -> Verdict
     if table.len() == size {
         return slots_named(plan, inst.levelcount, inst.span as usize, table);
     }
-    Verdict::Refused(Refusal::GivenTable(smaller(table.len(), size)))
+    Err(Refusal::GivenTable(table.len().min(size)))
 }
 
 // The first check of a table, for an instance that was read.
@@ -67,10 +65,7 @@ pub(crate) fn slot_check(inst: Instance, plan: &[u32], table: &[Slot]) -> Verdic
     requires { Sound inst }
     ensures { result ≡ slot_check (problem_in inst) plan.now table.now }
 {
-    let choices = choices_pass(inst, plan);
-    let Verdict::Accepted = choices else {
-        return choices;
-    };
+    choices_pass(inst, plan)?;
     slots_pass(inst, plan, table)
 }
 
@@ -80,10 +75,5 @@ pub fn check_slots(instance: &[u32], plan: &[u32], table: &[Slot]) -> Verdict
     ensures value { result ≡ slot_check_outcome instance.now plan.now table.now }
     ensures promise { SlotCheckingEnds instance.now plan.now table.now result }
 {
-    let read = read_instance(instance);
-    let words = read.verdict;
-    let Verdict::Accepted = words else {
-        return words;
-    };
-    slot_check(read.instance, plan, table)
+    slot_check(read_instance(instance)?, plan, table)
 }

@@ -4,9 +4,9 @@ ghost use Rattle.std.specs.Prelude.{◌≤◌};
 use exhaustive::{Site, Tried};
 use generator::tally::{Counts, Faults};
 use generator::{Choices, Generator, PLAN_ROOM, TABLE_ROOM, Table, draw_room};
-use prices::{Price, Priced};
+use prices::Price;
 use ranges::Slot;
-use refusals::{Refusal, refusal_number, refusal_place};
+use refusals::Refusal;
 
 pub(crate) type Answer = Result<Price, Refusal>;
 
@@ -66,10 +66,7 @@ fn plan_into<A, F: FnOnce(&[u32], &mut [u32], &mut [Slot]) -> A>(
 }
 
 fn search(words: &[u32], plan: &mut [u32], table: &mut [Slot]) -> Answer {
-    match planner::plan(words, plan, table) {
-        Priced::Cost(price) => Ok(price),
-        Priced::Refused(why) => Err(why),
-    }
+    planner::plan(words, plan, table)
 }
 
 // By the planner that is compared.
@@ -89,7 +86,7 @@ fn count_tried(tried: Tried, counts: &mut Counts) {
 fn numbers_of(answer: Answer) -> [u64; 5] {
     match answer {
         Ok(price) => [0, 0, price.energy, price.penalty, price.cost],
-        Err(why) => [refusal_number(why), refusal_place(why), 0, 0, 0],
+        Err(why) => [why.number(), why.place(), 0, 0, 0],
     }
 }
 

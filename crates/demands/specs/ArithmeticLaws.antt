@@ -1,15 +1,14 @@
 -- What demand 2 needs: ticks round up, a price is the papers' sums, and the check and planning answer for an instance that
 -- was read what the definitions say of it.
-use Rattle.std.specs.Prelude.{ℕ, suc, ◌+◌, ◌-◌, ◌*◌, ◌/◌, ◌≤◌, ◌<◌, cond, List, ◌↔◌, ◌≡◌, length}
+use Rattle.std.specs.Prelude.{ℕ, suc, ◌+◌, ◌-◌, ◌*◌, ◌/◌, ◌≤◌, ◌<◌, cond, List, ◌↔◌, ◌≡◌, length, Ok}
 use Rattle.std.proofs.Math.Option.{Option, some}
 use Rattle.std.proofs.Math.Path.{refl, ap}
 use Rattle.std.proofs.Common.{◌∙◌, div-lt_iff_lt-mul, arith}
 use Rattle.laws.specs.Sums.{sum}
-use Rattle.instance.specs.Node.{Problem, task_count, level_at, task_at}
 use Rattle.refusals.specs.Refusals.{accepted}
+use Rattle.instance.specs.Node.{Problem, task_count, level_at, task_at}
 use Rattle.refusals.specs.RoomLaws.{enough_room}
 use Rattle.instance.specs.SiteFile.{problem_of}
-use Rattle.refusals.specs.declared.Verdict.TheVariants.{Accepted}
 use Rattle.plan_rules.specs.AllowedPlanLaws.{choices_pass-iff}
 use Rattle.checks.specs.Checks.{slot_check, check}
 use Rattle.checks.specs.Outcomes.{slot_check_outcome, slot_check_outcome_of, check_outcome, check_outcome_of}
@@ -32,7 +31,7 @@ ticks_round_up start cycles speed n above =
     )
 
 module _ (p : Problem) (plan : List ℕ) where
-  pub priced_energy : choices_pass p plan ≡ Accepted →
+  pub priced_energy : choices_pass p plan ≡ accepted →
       (price_of p plan).energy
       ≡ sum (λ i. cond (is_refused plan i) 0 (jobs p i * job_ticks p plan i * (level_at p (level_of p plan i)).power)) (task_count p)
       + p.idle * sum (idle_ticks p plan) p.cores
@@ -47,7 +46,7 @@ module _ (p : Problem) (plan : List ℕ) where
   unfolding price_of cost
   priced_cost = refl
 
-module _ (words : List ℕ) (p : Problem) (read : problem_of words ≡ accepted p) where
+module _ (words : List ℕ) (p : Problem) (read : problem_of words ≡ Ok p) where
   pub slots_checked_as_defined : (plan table : List ℕ) → slot_check_outcome words plan table ≡ slot_check p plan table
   unfolding slot_check_outcome
   slots_checked_as_defined plan table = ap (λ r. slot_check_outcome_of r plan table) read
@@ -59,5 +58,5 @@ module _ (words : List ℕ) (p : Problem) (read : problem_of words ≡ accepted 
   pub best_plan_is_written : (best plan table : List ℕ) → best_plan p ≡ some best → task_count p ≤ length plan →
       table_size p ≤ length table → plan_outcome words plan table ≡ plan_answered p (some best) plan table
   best_plan_is_written best plan table e plan_room table_room =
-      where_room words plan table p read Accepted (rw (enough_room (task_count p) plan plan_room, enough_room (table_size p) table table_room))
+      where_room words plan table p read accepted (rw (enough_room (task_count p) plan plan_room, enough_room (table_size p) table table_room))
       ∙ ap (λ (found : Option (List ℕ)). plan_answered p found plan table) e

@@ -1,10 +1,9 @@
 -- Document 02 (m), "Opening hours": what is promised of the plan and the days that a calendar answers. Dates, calendars and the
 -- answer are defined in crate `calendar`.
-use Rattle.std.specs.Prelude.{ℕ, suc, ◌+◌, ◌≤◌, ◌<◌, List, ◌⊎◌, ◌↔◌, ◌≡◌, length}
+use Rattle.std.specs.Prelude.{ℕ, suc, ◌+◌, ◌≤◌, ◌<◌, List, ◌⊎◌, ◌↔◌, ◌≡◌, length, Ok, Err}
 use Rattle.std.proofs.Common.{inl, inr, ap, arith}
 use Rattle.laws.specs.Below.{lt_or_le}
 use Rattle.laws.specs.Truth.{not_true_is_false}
-use Rattle.refusals.specs.Refusals.{accepted}
 use Rattle.refusals.specs.declared.Refusal.TheVariants.{NoSuchQuestion}
 use Rattle.calendar.specs.CalendarLaws.{Dated, valid_dated, read_calendar_is_valid}
 use Rattle.calendar.specs.Calendars.{calendar_of}
@@ -17,7 +16,6 @@ use Rattle.calendar.specs.RulingLaws.{RulesDay, none_begun, last_begun, one_rule
 use Rattle.calendar.specs.ValidCalendars.{ValidCalendar, no_entry, nth_entry}
 use Rattle.calendar.specs.declared.Date.{Date}
 use Rattle.calendar.specs.declared.Entry.{Entry}
-use Rattle.calendar.specs.declared.PlanAt.TheVariants as PlanAt
 use Rattle.calendar.specs.declared.PlanDays.{PlanDays}
 use Rattle.text.specs.Text.{words_of}
 use Rattle.towhepamu.specs.CallOutcomes.{text_plan_at_outcome}
@@ -73,11 +71,11 @@ pub record AnswersQuestion (es : List Entry) (d : Date) (minute : ℕ) (answer :
 -- of every calendar that is read, and every question
 pub record CalendarAnswers (words : List ℕ) (es : List Entry) : Type 0 where
   pub answered : (d : Date) (minute : ℕ) → IsQuestion d minute →
-      (answer : PlanDays) × (plan_at_outcome words d minute ≡ PlanAt.Plan answer) × AnswersQuestion es d minute answer
+      (answer : PlanDays) × (plan_at_outcome words d minute ≡ Ok answer) × AnswersQuestion es d minute answer
   -- 18 exactly for what is no question
-  pub no_question : (d : Date) (minute : ℕ) → (IsQuestion d minute → ⊥) → plan_at_outcome words d minute ≡ PlanAt.Refused NoSuchQuestion
+  pub no_question : (d : Date) (minute : ℕ) → (IsQuestion d minute → ⊥) → plan_at_outcome words d minute ≡ Err NoSuchQuestion
   -- the call from C for a text of these words answers the same
-  pub from_text : (text : List ℕ) → words_of text ≡ accepted words → (d : Date) (minute : ℕ) →
+  pub from_text : (text : List ℕ) → words_of text ≡ Ok words → (d : Date) (minute : ℕ) →
       text_plan_at_outcome text d minute ≡ plan_at_outcome words d minute
 
 module _ (es : List Entry) (valid : ValidCalendar es) (d : Date) (dated : IsDate d) where
@@ -140,7 +138,7 @@ module _ (es : List Entry) (valid : ValidCalendar es) (d : Date) (dated : IsDate
       go (inl early) = inl (λ some. date_before 0 some (early some))
       go (inr (i, rules)) = inr (i, by_date i rules)
 
-pub calendar_answers : (words : List ℕ) (es : List Entry) → calendar_of words ≡ accepted es → CalendarAnswers words es
+pub calendar_answers : (words : List ℕ) (es : List Entry) → calendar_of words ≡ Ok es → CalendarAnswers words es
 unfolding plan_at_outcome text_plan_at_outcome
 calendar_answers words es read =
     record {

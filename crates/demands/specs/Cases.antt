@@ -1,9 +1,9 @@
 -- Document 01's section 'K1 to K13, to be proved', with the examples of document 02 (a) and (c): one table of cases, and one
 -- statement about the definitions.
-use Rattle.std.specs.Prelude.{ℕ, ◌≡◌, refl, List, [], ◌∷◌, ◌++◌, map, replicate}
+use Rattle.std.specs.Prelude.{ℕ, ◌≡◌, refl, List, [], ◌∷◌, ◌++◌, map, replicate, Result, Ok, Err}
 use Rattle.ranges.specs.Limits.{may_not_be_refused}
 use Rattle.instance.specs.Node.{Problem, task_count, span, span_from}
-use Rattle.refusals.specs.Refusals.{Reading, refused, accepted, number_of, place_of, room}
+use Rattle.refusals.specs.Refusals.{Reading, number_of, place_of, room}
 use Rattle.formats.specs.Formats.{times}
 use Rattle.formats.specs.Taking.{between, take_word, take_tested, take_unless_ended, take_end}
 use Rattle.instance.specs.SiteFile.{problem_of, site_file, setting_from, settings, level, last_after, levels, period, is_penalty, task, tasks}
@@ -22,7 +22,6 @@ use Rattle.dispatch.specs.Rows.{due_at, after_release, earliest, chosen, after_r
 use Rattle.plan_rules.specs.CoreOfPlan.{core_tasks}
 use Rattle.tables.specs.Tables.{table_size, table_of}
 use Rattle.prices.specs.declared.amounts.Price.{Price}
-use Rattle.prices.specs.declared.amounts.Priced.{Priced}
 use Rattle.planner.specs.Outcomes.{PlanOutcome, plan_outcome}
 use Rattle.planner.specs.Planning.{choice_lists, is_allowed, better, first_cheapest, best_plan}
 
@@ -43,17 +42,17 @@ abbrev refusal_of : Refusal → Claim
 refusal_of r = refusal (number_of r) (place_of r)
 
 -- the claim of the same form that holds of an outcome
-abbrev of_outcome : Priced → (Price → Claim) → Claim
-of_outcome (Priced.Cost amounts) form = form amounts
-of_outcome (Priced.Refused r) form = refusal_of r
+abbrev of_outcome : Result Price Refusal → (Price → Claim) → Claim
+of_outcome (Ok amounts) form = form amounts
+of_outcome (Err r) form = refusal_of r
 
 abbrev of_text : List ℕ → Reading (List ℕ) → Claim
-of_text bytes (refused r) = refusal_of r
-of_text bytes (accepted words) = text bytes words
+of_text bytes (Err r) = refusal_of r
+of_text bytes (Ok words) = text bytes words
 
 abbrev of_instance : Reading Problem → (Problem → Claim) → Claim
-of_instance (refused r) form = refusal_of r
-of_instance (accepted p) form = form p
+of_instance (Err r) form = refusal_of r
+of_instance (Ok p) form = form p
 
 -- planned into buffers that are just long enough
 abbrev outcome_of : List ℕ → Problem → PlanOutcome

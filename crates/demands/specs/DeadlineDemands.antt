@@ -1,12 +1,11 @@
 -- Document 02 (c), "Deadlines before the period's end": what is promised of due ticks, of cores that fit, and of slots after a due
 -- tick. Which words write deadlines is a part of demand 1, and what a job is given before its due tick of demands 2 and 3.
-use Rattle.std.specs.Prelude.{ℕ, ◌+◌, ◌/◌, ◌≤◌, ◌<◌, true, List, ◌↔◌, ◌≡◌, refl}
+use Rattle.std.specs.Prelude.{ℕ, ◌+◌, ◌/◌, ◌≤◌, ◌<◌, true, List, ◌↔◌, ◌≡◌, refl, Ok}
+use Rattle.refusals.specs.Refusals.{accepted}
 use Rattle.instance.specs.Node.{Problem, task_count, task_at, span}
 use Rattle.instance.specs.SiteFile.{problem_of}
 use Rattle.instance.specs.SiteFileLaws.{accepted_is_valid}
 use Rattle.instance.specs.Valid.{DueAtPeriodEnd}
-use Rattle.refusals.specs.Refusals.{accepted}
-use Rattle.refusals.specs.declared.Verdict.TheVariants.{Accepted}
 use Rattle.dispatch.specs.Rows.{due_at}
 use Rattle.plan_rules.specs.CoreOfPlan.{core_tasks}
 use Rattle.plan_rules.specs.FitLaws.{fits_iff_load}
@@ -31,10 +30,10 @@ pub record DeadlinesKept (p : Problem) : Type 0 where
   -- where "deadline equals period", document 01's "A core fits when its kept tasks' jobs × ticks add up to at most L"
   pub core_fits_by_load : DueAtPeriodEnd p.tasks → (plan : List ℕ) (k : ℕ) → (fits p plan k ≡ true) ↔ (core_load p plan k ≤ span p)
   -- "A task's slot between a due tick and its next release counts as one too many under 10": no table with one passes that test
-  pub no_late_slot_passes : (plan table : List ℕ) → jobs_pass p plan table ≡ Accepted →
+  pub no_late_slot_passes : (plan table : List ℕ) → jobs_pass p plan table ≡ accepted →
       (i j : ℕ) → i < task_count p → (choice_at plan i ≡ 0 → ⊥) → j < jobs p i → NoneLate p (slot_at p table (core_of p plan i)) i j
 
-pub deadlines_are_kept : (words : List ℕ) (p : Problem) → problem_of words ≡ accepted p → DeadlinesKept p
+pub deadlines_are_kept : (words : List ℕ) (p : Problem) → problem_of words ≡ Ok p → DeadlinesKept p
 unfolding due_at core_tasks
 deadlines_are_kept words p read =
     let valid = accepted_is_valid words read in

@@ -2,7 +2,7 @@
 -- quotation marks. What the theorems speak of is defined in document 01's words in the crates below, and in `Endings` and
 -- `Planned`. What (b), (c), (e), (f), (h) and (m) of document 02 ask beside stands in `SleepDemands`, `DeadlineDemands`,
 -- `CountDemands`, `DispatchDemands`, `PenaltyDemands` and `CalendarDemands`.
-use Rattle.std.specs.Prelude.{ℕ, ◌+◌, ◌-◌, ◌*◌, ◌≤◌, ◌<◌, Bool, true, false, cond, ◌↔◌, ◌≡◌, length, take}
+use Rattle.std.specs.Prelude.{ℕ, ◌+◌, ◌-◌, ◌*◌, ◌≤◌, ◌<◌, Bool, true, false, cond, ◌↔◌, ◌≡◌, length, take, Result, Ok, Err}
 use Rattle.std.specs.Int.{◌∣◌}
 use mathlib.Core.List.{List, [], ◌∷◌, map, Memᴰ}
 use Rattle.std.proofs.Math.Option.{none, some}
@@ -31,10 +31,9 @@ use Rattle.instance.specs.SpanLaws.{period_divides_span, span_divides_common_mul
 use Rattle.text.specs.SpelledLaws.{AllWords, spelled_is_read_back}
 use Rattle.text.specs.Text.{words_of}
 use Rattle.instance.specs.Valid.{Valid, Writes}
+use Rattle.instance.specs.declared.Instance.{Instance}
 use Rattle.refusals.specs.declared.Refusal.{Refusal}
 use Rattle.refusals.specs.declared.Refusal.TheVariants.{Text, WordCount, WordRange, SpanTooLong, NoPlan, ShortBuffer, GivenPlan, CoreOverloaded, GivenTable, JobSlots, SwitchingWord, CoreOrState, EarlyEnd, CalendarDate, NoSuchQuestion}
-use Rattle.refusals.specs.declared.Verdict.TheVariants.{Accepted, Refused}
-use Rattle.text.specs.declared.TextRead.TheVariants as TextRead
 use Rattle.drawings.specs.CheckTheorem.{check_accepts_exactly_drawings, check_accepts_exactly_drawn_tables}
 use Rattle.drawings.specs.Drawings.{DrawnTable, Drawing}
 use Rattle.prices.specs.EndingLaws.{pricing_ends}
@@ -55,7 +54,6 @@ use Rattle.prices.specs.IdleLaws.{idle_ticks_of_awake_core, no_idle_ticks_of_off
 use Rattle.tables.specs.Tables.{table_of, table_size}
 use Rattle.drawings.specs.WorkedOut.{WorkedOut}
 use Rattle.drawings.specs.WorkedOutLaws.{worked_out_is_table}
-use Rattle.prices.specs.declared.amounts.Priced.TheVariants as Priced
 use Rattle.demands.specs.ArithmeticLaws.{ticks_round_up, priced_energy, priced_penalty, priced_cost, slots_checked_as_defined, checked_as_defined, best_plan_is_written}
 use Rattle.planner.specs.BestDrawingLaws.{no_plan_iff_no_drawing, answered_is_best_drawing}
 use Rattle.planner.specs.EndingLaws.{planning_ends}
@@ -70,7 +68,6 @@ use Rattle.dispatcher.specs.EndingLaws.{dispatching_ends, preparing_ends, core_t
 use Rattle.dispatcher.specs.Outcomes.{dispatch_outcome, DispatchingEnds}
 use Rattle.dispatcher.specs.Preparing.{Prepares, PreparingEnds, CoreTickEnds, core_outcome}
 use Rattle.dispatcher.specs.declared.DispatchState.{DispatchState}
-use Rattle.dispatcher.specs.declared.preparing.Prepared.{Prepared}
 use Rattle.dispatcher.specs.declared.preparing.PreparedCore.{PreparedCore}
 
 -- Demand 1. Every call comes to an end, whatever text, words, plan or table it is given. It does its work, or it returns the
@@ -81,7 +78,7 @@ use Rattle.dispatcher.specs.declared.preparing.PreparedCore.{PreparedCore}
 pub record RefusalsExact : Type 0 where
   -- 'Refused input', row by row: "Returned" and "Place returned with it" of every refusal
   pub numbers_and_places : (place : ℕ) →
-      map (λ (r : Refusal). answer_of (Refused r))
+      map (λ (r : Refusal). answer_of (Err r))
       (Text place ∷ WordCount place ∷ WordRange place ∷ SpanTooLong place ∷ NoPlan
       ∷ ShortBuffer place ∷ GivenPlan place ∷ CoreOverloaded place ∷ GivenTable place ∷ JobSlots place
       ∷ SwitchingWord place ∷ CoreOrState ∷ EarlyEnd ∷ CalendarDate place ∷ NoSuchQuestion ∷ [])
@@ -92,7 +89,7 @@ pub record RefusalsExact : Type 0 where
   -- "Turning text into words: 1, then 6."
   pub text : (text words : List ℕ) → let o = words_outcome text words in TextEnds text words o.answer o.words
   -- "words are taken from the front, each tested for 2, 3, 4"
-  pub reading : (words : List ℕ) → ReadingEnds words (instance_outcome words).verdict
+  pub reading : (words : List ℕ) → ReadingEnds words (instance_outcome words)
   -- 2, 3, 4, and: "Pricing and tabling test 7 and 8."
   pub pricing : (words plan : List ℕ) → PricingEnds words plan (price_outcome words plan)
   -- 2, 3, 4; "then 6; then 7 (length before choices); then 8"
@@ -113,26 +110,27 @@ pub record RefusalsExact : Type 0 where
   pub dispatching : (words plan : List ℕ) (core : ℕ) (s : DispatchState) (ended : Bool) →
       DispatchingEnds words plan core s ended (dispatch_outcome words plan core s ended)
   -- the same in two: a core that is prepared once, 2, 3, 4, 7, 8, then 12 of the core; and a tick over it, 12, "then 13"
-  pub preparing : (words plan : List ℕ) (core : ℕ) (prepared : Prepared) → Prepares words plan core prepared → PreparingEnds words plan core prepared
+  pub preparing : (words plan : List ℕ) (core : ℕ) (prepared : Result PreparedCore Refusal) →
+      Prepares words plan core prepared → PreparingEnds words plan core prepared
   pub ticking : (core : PreparedCore) (s : DispatchState) (ended : Bool) → CoreTickEnds core s ended (core_outcome core s ended)
   -- document 02 (m): 2 and 3 "word by word", 17 "once its entry's words have passed 2 and 3"; "then 18"
   pub asking : (calendar : List ℕ) (d : Date) (minute : ℕ) → AskingEnds calendar d minute (plan_at_outcome calendar d minute)
   -- none is turned down without need: words written out in base ten are taken from the text as they are, ..
   pub written_words_are_taken : (words : List ℕ) → AllWords words → length (spelled words) ≤ most_text_bytes →
-      words_of (spelled words) ≡ accepted words
+      words_of (spelled words) ≡ Ok words
   -- .. and the words that are read are those that write the instances within document 01's ranges
-  pub valid_instances_are_read : (p : Problem) (words : List ℕ) → Valid p → Writes p words → problem_of words ≡ accepted p
-  pub no_others_are_read : (words : List ℕ) (p : Problem) → problem_of words ≡ accepted p → Valid p × Writes p words
+  pub valid_instances_are_read : (p : Problem) (words : List ℕ) → Valid p → Writes p words → problem_of words ≡ Ok p
+  pub no_others_are_read : (words : List ℕ) (p : Problem) → problem_of words ≡ Ok p → Valid p × Writes p words
   -- the calendars that are read are the valid ones, each from the one list of words that writes it
-  pub valid_calendars_are_read : (es : List Entry) → ValidCalendar es → calendar_of (words_of_calendar es) ≡ accepted es
-  pub no_other_calendars_are_read : (words : List ℕ) (es : List Entry) → calendar_of words ≡ accepted es →
+  pub valid_calendars_are_read : (es : List Entry) → ValidCalendar es → calendar_of (words_of_calendar es) ≡ Ok es
+  pub no_other_calendars_are_read : (words : List ℕ) (es : List Entry) → calendar_of words ≡ Ok es →
       ValidCalendar es × (words ≡ words_of_calendar es)
   -- what was read is handed over: the words of the text at the buffer's front, with their count, ..
-  pub words_handed_over : (text words buffer : List ℕ) → words_of text ≡ accepted words → length words ≤ length buffer →
-      words_outcome text buffer ≡ record { answer = TextRead.Words (length words); words = onto words buffer }
+  pub words_handed_over : (text words buffer : List ℕ) → words_of text ≡ Ok words → length words ≤ length buffer →
+      words_outcome text buffer ≡ record { answer = Ok (length words); words = onto words buffer }
   -- .. and the instance that the words are
-  pub instance_handed_over : (words : List ℕ) (p : Problem) → problem_of words ≡ accepted p →
-      let o = instance_outcome words in (o.verdict ≡ Accepted) × HoldsProblem p o.instance
+  pub instance_handed_over : (words : List ℕ) (p : Problem) → problem_of words ≡ Ok p →
+      (inst : Instance) × (instance_outcome words ≡ Ok inst) × HoldsProblem p inst
 
 pub demand_1 : RefusalsExact
 demand_1 =
@@ -173,7 +171,7 @@ pub record QuantitiesExact (words : List ℕ) (p : Problem) : Type 0 where
   pub span_is_least : (m : ℕ) → ((i : ℕ) → i < task_count p → (task_at p i).period ∣ m) → span p ∣ m
   -- "Energy of a kept task: jobs × ticks × P.", and (a) "A core with a kept task pays idle power for each idle tick of the
   -- span. A core without one is off and pays nothing.": of a plan that 7 lets pass
-  pub energy_of_kept_tasks_and_idle_ticks : (plan : List ℕ) → choices_pass p plan ≡ Accepted →
+  pub energy_of_kept_tasks_and_idle_ticks : (plan : List ℕ) → choices_pass p plan ≡ accepted →
       (price_of p plan).energy
       ≡ sum (λ i. cond (is_refused plan i) 0 (jobs p i * job_ticks p plan i * (level_at p (level_of p plan i)).power)) (task_count p)
       + p.idle * sum (idle_ticks p plan) p.cores
@@ -189,23 +187,23 @@ pub record QuantitiesExact (words : List ℕ) (p : Problem) : Type 0 where
       (price_of p plan).cost ≡ p.weights.energy * (price_of p plan).energy + p.weights.penalty * (price_of p plan).penalty
   -- "among jobs released and not finished, the earliest due runs; of equal ones, the lower task number": of a plan that 7
   -- and 8 let pass; of another no table is made
-  pub slot_table : (plan table : List ℕ) → plan_passes p plan ≡ Accepted → WorkedOut p plan table ↔ (table ≡ table_of p plan)
-  pub price_returned : (plan : List ℕ) → plan_passes p plan ≡ Accepted → price_outcome words plan ≡ Priced.Cost (price_of p plan)
-  pub table_written : (plan table : List ℕ) → plan_passes p plan ≡ Accepted → table_size p ≤ length table →
-      table_outcome words plan table ≡ record { answer = Accepted; table = onto (table_of p plan) table }
+  pub slot_table : (plan table : List ℕ) → plan_passes p plan ≡ accepted → WorkedOut p plan table ↔ (table ≡ table_of p plan)
+  pub price_returned : (plan : List ℕ) → plan_passes p plan ≡ accepted → price_outcome words plan ≡ Ok (price_of p plan)
+  pub table_written : (plan table : List ℕ) → plan_passes p plan ≡ accepted → table_size p ≤ length table →
+      table_outcome words plan table ≡ record { answer = accepted; table = onto (table_of p plan) table }
   -- "Planning writes that plan and its table, and returns energy, penalty and cost."
   pub plan_written : (best plan table : List ℕ) → best_plan p ≡ some best → task_count p ≤ length plan → table_size p ≤ length table →
       plan_outcome words plan table
-      ≡ record { answer = Priced.Cost (price_of p best); plan = onto best plan; table = onto (table_of p best) table }
+      ≡ record { answer = Ok (price_of p best); plan = onto best plan; table = onto (table_of p best) table }
   -- document 02 (d): of a plan that 7 lets pass, the first check passes exactly the tables of the right length in which each slot
   -- is 0 or names a task that the plan keeps on that slot's core
-  pub slot_check_passes : (plan table : List ℕ) → choices_pass p plan ≡ Accepted →
-      (slot_check_outcome words plan table ≡ Accepted) ↔ NamedSlots p plan table
+  pub slot_check_passes : (plan table : List ℕ) → choices_pass p plan ≡ accepted →
+      (slot_check_outcome words plan table ≡ accepted) ↔ NamedSlots p plan table
   -- of a plan that 7 lets pass
-  pub check_passes : (plan table : List ℕ) → choices_pass p plan ≡ Accepted →
-      (check_outcome words plan table ≡ Accepted) ↔ DrawnTable p plan table
+  pub check_passes : (plan table : List ℕ) → choices_pass p plan ≡ accepted →
+      (check_outcome words plan table ≡ accepted) ↔ DrawnTable p plan table
 
-pub demand_2 : (words : List ℕ) (p : Problem) → problem_of words ≡ accepted p → QuantitiesExact words p
+pub demand_2 : (words : List ℕ) (p : Problem) → problem_of words ≡ Ok p → QuantitiesExact words p
 demand_2 words p read =
     let valid = accepted_is_valid words read in
     record {
@@ -240,9 +238,9 @@ pub record PlanningOptimal (words : List ℕ) (p : Problem) : Type 0 where
       let o = plan_outcome words plan table in
       Optimal p o.answer (take (task_count p) o.plan) (take (table_size p) o.table)
   -- "These are the choices and tables that pass the check."
-  pub drawings_pass_the_check : (plan table : List ℕ) → (check_outcome words plan table ≡ Accepted) ↔ Drawing p plan table
+  pub drawings_pass_the_check : (plan table : List ℕ) → (check_outcome words plan table ≡ accepted) ↔ Drawing p plan table
 
-pub demand_3 : (words : List ℕ) (p : Problem) → problem_of words ≡ accepted p → PlanningOptimal words p
+pub demand_3 : (words : List ℕ) (p : Problem) → problem_of words ≡ Ok p → PlanningOptimal words p
 demand_3 words p read =
     let periodic = valid_is_periodic (accepted_is_valid words read) in
     record {

@@ -1,13 +1,15 @@
 -- Document 02 (f), "A dispatcher on the node": what is promised of calls one after another, for a core of a plan that 7 and 8 let
 -- pass. How a single call ends is a part of demand 1. What it answers, and the next state, is `dispatch_outcome` of crate `dispatcher`:
 -- the step that rows are made of, with the early end before it and the wrap after it.
-use Rattle.std.specs.Prelude.{ℕ, suc, pred, ◌+◌, ◌-◌, ◌/◌, ◌%◌, ◌≤◌, ◌<◌, Bool, true, false, cond, ◌&&◌, List, ◌⊎◌, ◌≡◌, refl, eqb, get_or}
+use Rattle.std.specs.Prelude.{ℕ, suc, pred, ◌+◌, ◌-◌, ◌/◌, ◌%◌, ◌≤◌, ◌<◌, Bool, true, false, cond, ◌&&◌, List, ◌⊎◌, ◌≡◌, refl, eqb, get_or, Result, Ok}
 use Rattle.std.proofs.Math.Logic.{inl, inr}
 use Rattle.std.proofs.Common.{ap, ◌∙◌, lt_of_lt_of_le}
 use native.Mathlib.Omega.{arith}
 use Rattle.laws.specs.JoinedLaws.{get_d-list_of}
 use Rattle.laws.specs.Search.{count}
 use Rattle.ranges.specs.Limits.{most_tasks}
+use Rattle.refusals.specs.Refusals.{accepted}
+use Rattle.refusals.specs.declared.Refusal.{Refusal}
 use Rattle.dispatch.specs.CallLaws.{ready_for, call_answers_choice, call_leaves}
 use Rattle.dispatch.specs.Calls.{after_end, call, ended_early, wrapped}
 use Rattle.dispatch.specs.Earliest.{Choice}
@@ -15,8 +17,6 @@ use Rattle.dispatch.specs.Rows.{after_release, after_run, due_at, step}
 use Rattle.instance.specs.Node.{Problem, task_count, task_at, span}
 use Rattle.instance.specs.SiteFile.{problem_of}
 use Rattle.instance.specs.SiteFileLaws.{accepted_is_valid}
-use Rattle.refusals.specs.Refusals.{accepted}
-use Rattle.refusals.specs.declared.Verdict.TheVariants.{Accepted}
 use Rattle.text.specs.Text.{words_of}
 use Rattle.plan_rules.specs.CoreOfPlan.{core_tasks}
 use Rattle.plan_rules.specs.Plans.{plan_passes}
@@ -35,7 +35,7 @@ use Rattle.dispatcher.specs.ReportTheorems.{full_job_unaffected, report_has_no_e
 use Rattle.dispatcher.specs.States.{as_dispatch, state_passes}
 use Rattle.dispatcher.specs.declared.DispatchState.{DispatchState}
 use Rattle.dispatcher.specs.declared.Dispatched.{Dispatched}
-use Rattle.dispatcher.specs.declared.preparing.Prepared.{Prepared}
+use Rattle.dispatcher.specs.declared.preparing.PreparedCore.{PreparedCore}
 use Rattle.towhepamu.specs.CallOutcomes.{text_dispatch_outcome}
 
 -- in how many ticks of its window the calls answer job j of task i
@@ -88,7 +88,7 @@ pub record CallAnswers (p : Problem) (plan : List ℕ) (k : ℕ) (s : DispatchSt
 pub record DispatchesCore (words : List ℕ) (p : Problem) (plan : List ℕ) (core : ℕ) : Type 0 where
   -- "From a fresh start .. without such reports it answers slot after slot of the row, for ever": call n, counted from 0
   pub answers_the_row : (reports : ℕ → Bool) → ((n : ℕ) → reports n ≡ false) → (n : ℕ) →
-      ((call_at words plan core reports n).verdict ≡ Accepted)
+      ((call_at words plan core reports n).verdict ≡ accepted)
       × ((call_at words plan core reports n).task ≡ slot_at p (table_of p plan) (pred core) (n % span p))
   -- "From that start, with any accepted reports, every job is still finished by its deadline", however late its release
   pub every_job_is_finished : (reports : ℕ → Bool) → AllAccepted words plan core reports → (i j : ℕ) → i < task_count p →
@@ -100,24 +100,24 @@ pub record DispatchesCore (words : List ℕ) (p : Problem) (plan : List ℕ) (co
       let s = state_before words plan core reports (suc (release_of p i j + x)) in
       dispatch_outcome words plan core s true ≡ dispatch_outcome words plan core s false
   -- .. and from any state in which the task that ran has nothing left
-  pub report_without_effect : (s : DispatchState) → (dispatch_outcome words plan core s true).verdict ≡ Accepted →
+  pub report_without_effect : (s : DispatchState) → (dispatch_outcome words plan core s true).verdict ≡ accepted →
       get_or s.left (pred s.last) 0 ≡ 0 → dispatch_outcome words plan core s true ≡ dispatch_outcome words plan core s false
   -- from any state that is accepted the call answers the earliest due of the tasks with ticks left
-  pub call_answers : (s : DispatchState) (ended : Bool) → (dispatch_outcome words plan core s ended).verdict ≡ Accepted →
+  pub call_answers : (s : DispatchState) (ended : Bool) → (dispatch_outcome words plan core s ended).verdict ≡ accepted →
       CallAnswers p plan (pred core) s ended (dispatch_outcome words plan core s ended)
   -- from any state that is accepted the next one passes the tests of 12 again, and a call without a report is accepted
-  pub next_state_is_accepted : (s : DispatchState) (ended : Bool) → (dispatch_outcome words plan core s ended).verdict ≡ Accepted →
+  pub next_state_is_accepted : (s : DispatchState) (ended : Bool) → (dispatch_outcome words plan core s ended).verdict ≡ accepted →
       let next = (dispatch_outcome words plan core s ended).state in
-      (state_passes (core_tasks p plan (pred core)) (span p) next ≡ Accepted) × ((dispatch_outcome words plan core next false).verdict ≡ Accepted)
+      (state_passes (core_tasks p plan (pred core)) (span p) next ≡ accepted) × ((dispatch_outcome words plan core next false).verdict ≡ accepted)
 
 pub record DispatcherExact (words : List ℕ) (p : Problem) : Type 0 where
   -- "For one core of an accepted, fitting plan"
-  pub each_core : (plan : List ℕ) (core : ℕ) → plan_passes p plan ≡ Accepted → core_passes p core ≡ Accepted → DispatchesCore words p plan core
+  pub each_core : (plan : List ℕ) (core : ℕ) → plan_passes p plan ≡ accepted → core_passes p core ≡ accepted → DispatchesCore words p plan core
   -- the call is the core prepared once, and a tick over it
-  pub prepared_once : (plan : List ℕ) (core : ℕ) (prepared : Prepared) → Prepares words plan core prepared →
+  pub prepared_once : (plan : List ℕ) (core : ℕ) (prepared : Result PreparedCore Refusal) → Prepares words plan core prepared →
       (s : DispatchState) (ended : Bool) → dispatch_outcome words plan core s ended ≡ prepared_outcome prepared s ended
   -- all of this holds of the call from C for a text of these words
-  pub from_text : (text : List ℕ) → words_of text ≡ accepted words → (plan : List ℕ) (core : ℕ) (s : DispatchState) (ended : Bool) →
+  pub from_text : (text : List ℕ) → words_of text ≡ Ok words → (plan : List ℕ) (core : ℕ) (s : DispatchState) (ended : Bool) →
       text_dispatch_outcome text plan core s ended ≡ dispatch_outcome words plan core s ended
 
 module _ (p : Problem) (plan : List ℕ) (k : ℕ) (answers : ℕ → ℕ) (reports : ℕ → Bool) (i j : ℕ) where
@@ -144,8 +144,8 @@ module _ (p : Problem) (plan : List ℕ) (k : ℕ) (answers : ℕ → ℕ) (repo
             (later - release_of p i j) (omega arith) (omega arith) (ap answers there ∙ runs);
       }
 
-module _ (words : List ℕ) (p : Problem) (read : problem_of words ≡ accepted p) (plan : List ℕ) (core : ℕ) (s : DispatchState) (ended : Bool) where
-  accepted_call_answers : (dispatch_outcome words plan core s ended).verdict ≡ Accepted →
+module _ (words : List ℕ) (p : Problem) (read : problem_of words ≡ Ok p) (plan : List ℕ) (core : ℕ) (s : DispatchState) (ended : Bool) where
+  accepted_call_answers : (dispatch_outcome words plan core s ended).verdict ≡ accepted →
       CallAnswers p plan (pred core) s ended (dispatch_outcome words plan core s ended)
   unfolding call wrapped step ended_early ready_for after_release after_end after_run due_at core_tasks
   accepted_call_answers accepts =
@@ -159,7 +159,7 @@ module _ (words : List ℕ) (p : Problem) (read : problem_of words ≡ accepted 
         last_task = refl;
       })
 
-pub dispatcher_is_exact : (words : List ℕ) (p : Problem) → problem_of words ≡ accepted p → DispatcherExact words p
+pub dispatcher_is_exact : (words : List ℕ) (p : Problem) → problem_of words ≡ Ok p → DispatcherExact words p
 unfolding text_dispatch_outcome core_tasks
 dispatcher_is_exact words p read =
     record {

@@ -1,11 +1,11 @@
 -- Examples of document 02 (h): two penalties of one task, what planning answers with each, and the bound. And why it is the bound:
 -- without the jobs, without the weight, or smaller by 1 it is refuted by one of them.
-use Rattle.std.specs.Prelude.{ℕ, ◌+◌, ◌-◌, ◌*◌, ◌≤◌, ◌<◌, List, [], ◌∷◌, map, ◌≡◌, refl}
+use Rattle.std.specs.Prelude.{ℕ, ◌+◌, ◌-◌, ◌*◌, ◌≤◌, ◌<◌, List, [], ◌∷◌, map, ◌≡◌, refl, Ok, Err}
 use Rattle.std.proofs.Math.Option.{some}
 use Rattle.std.proofs.Common.{arith}
 use Rattle.ranges.specs.Limits.{most_penalty}
 use Rattle.instance.specs.Node.{Problem, task_count, span, span_from}
-use Rattle.refusals.specs.Refusals.{Reading, refused, accepted, room}
+use Rattle.refusals.specs.Refusals.{Reading, room}
 use Rattle.formats.specs.Formats.{times}
 use Rattle.formats.specs.Taking.{between, take_word, take_tested, take_unless_ended, take_end}
 use Rattle.instance.specs.SiteFile.{problem_of, site_file, setting_from, settings, level, last_after, levels, period, is_penalty, task, tasks}
@@ -73,8 +73,8 @@ cases =
 
 -- the problem that was read; where words are refused, one without anything
 abbrev problem_read : Reading Problem → Problem
-problem_read (accepted p) = p
-problem_read (refused r) =
+problem_read (Ok p) = p
+problem_read (Err r) =
     record { weights = record { energy = 0; penalty = 0 }; cores = 0; idle = 0; start = 0; levels = []; tasks = [] }
 
 abbrev low_problem : PenaltyCase → Problem
@@ -97,7 +97,7 @@ in_case : (bound : Problem → ℕ → ℕ → ℕ → ℕ) → BoundsOnePenalty
     let low = repriced p c.task c.low in
     let high = repriced p c.task c.high in
     (c.task < task_count p) × (1 ≤ c.low) × (c.low ≤ c.high) × (c.high ≤ most_penalty) →
-    problem_of (c.words c.low) ≡ accepted low → problem_of (c.words c.high) ≡ accepted high →
+    problem_of (c.words c.low) ≡ Ok low → problem_of (c.words c.high) ≡ Ok high →
     (best best₂ : List ℕ) → best_plan low ≡ some best → best_plan high ≡ some best₂ →
     cost high best₂ ≤ cost low best + bound p c.task c.low c.high
 in_case bound bounds c (is_task, at_least, no_lower, most) low_read high_read best best₂ low_best high_best =
@@ -109,7 +109,7 @@ in_case bound bounds c (is_task, at_least, no_lower, most) low_read high_read be
 pub record PenaltiesWorked : Type 0 where
   pub figures : map worked cases ≡ cases
   -- the words with the high penalty are read as the problem of those with the low one, but for that penalty
-  pub alike : map (λ c. problem_of (c.words c.high)) cases ≡ map (λ c. accepted (repriced (low_problem c) c.task c.high)) cases
+  pub alike : map (λ c. problem_of (c.words c.high)) cases ≡ map (λ c. Ok (repriced (low_problem c) c.task c.high)) cases
   -- without the jobs it is no bound, ..
   pub jobs_count : BoundsOnePenalty (λ p i x y. p.weights.penalty * (y - x)) → ⊥
   -- .. nor without the weight, ..

@@ -1,13 +1,12 @@
 -- Document 02 (h), "How far one penalty can move the bill": "For two accepted instances that differ in one task's penalty, both
 -- between 1 and 1,000,000, show: either both have no plan, or the higher penalty's least cost is no smaller, and larger by at most
 -- penalty weight × that task's jobs × the difference." Its words are defined in `Penalties` of crate `penalties`.
-use Rattle.std.specs.Prelude.{ℕ, ◌-◌, ◌*◌, ◌≤◌, ◌<◌, List, ◌≡◌, length}
+use Rattle.std.specs.Prelude.{ℕ, ◌-◌, ◌*◌, ◌≤◌, ◌<◌, List, ◌≡◌, length, Ok}
 use Rattle.ranges.specs.Limits.{most_penalty}
 use Rattle.instance.specs.Node.{Problem, task_count}
 use Rattle.instance.specs.SiteFile.{problem_of}
 use Rattle.instance.specs.SiteFileLaws.{accepted_is_valid}
 use Rattle.instance.specs.Valid.{InRange}
-use Rattle.refusals.specs.Refusals.{accepted}
 use Rattle.plan_rules.specs.Quantities.{jobs}
 use Rattle.tables.specs.Periods.{valid_is_periodic}
 use Rattle.tables.specs.Tables.{table_size}
@@ -29,7 +28,7 @@ pub record BillRises (low_words high_words : List ℕ) (low high : Problem) (mos
   -- anyone's drawings
   pub drawings : DrawingsRise low high most
 
-bill_rises : (low_words high_words : List ℕ) (low high : Problem) → problem_of low_words ≡ accepted low → problem_of high_words ≡ accepted high →
+bill_rises : (low_words high_words : List ℕ) (low high : Problem) → problem_of low_words ≡ Ok low → problem_of high_words ≡ Ok high →
     (most : ℕ) → PlansRise low high most (best_plan low) (best_plan high) → BillRises low_words high_words low high most
 bill_rises low_words high_words low high low_read high_read most rise =
     record {
@@ -46,7 +45,7 @@ bill_rises low_words high_words low high low_read high_read most rise =
 abbrev pub BoundsOnePenalty : (Problem → ℕ → ℕ → ℕ → ℕ) → Type 0
 BoundsOnePenalty bound =
     (p : Problem) (i x y : ℕ) → i < task_count p → InRange 1 most_penalty x → InRange 1 most_penalty y → x ≤ y →
-    (low_words high_words : List ℕ) → problem_of low_words ≡ accepted (repriced p i x) → problem_of high_words ≡ accepted (repriced p i y) →
+    (low_words high_words : List ℕ) → problem_of low_words ≡ Ok (repriced p i x) → problem_of high_words ≡ Ok (repriced p i y) →
     BillRises low_words high_words (repriced p i x) (repriced p i y) (bound p i x y)
 
 -- "penalty weight × that task's jobs × the difference"
@@ -57,7 +56,7 @@ one_penalty_moves_the_bill p i x y is_task low_range high_range no_lower low_wor
 
 -- for several tasks: where the same tasks may not be refused and no penalty falls, by at most the sum of what each may add
 pub several_penalties_move_the_bill : (low_words high_words : List ℕ) (low high : Problem) →
-    problem_of low_words ≡ accepted low → problem_of high_words ≡ accepted high →
+    problem_of low_words ≡ Ok low → problem_of high_words ≡ Ok high →
     PenaltiesRaised low high → BillRises low_words high_words low high (all_rises low high)
 several_penalties_move_the_bill low_words high_words low high low_read high_read raised =
     bill_rises low_words high_words low high low_read high_read (all_rises low high) (least_cost_rises raised)

@@ -1,14 +1,13 @@
 -- Document 02 (b), "Sleeping through gaps": what is promised of the two numbers that a core answers, for a table that passes the
 -- check. Gaps and choices of gaps are defined in crate `gaps`, the rows in crate `sleep`.
-use Rattle.std.specs.Prelude.{ℕ, ◌+◌, ◌*◌, ◌≤◌, ◌<◌, Bool, true, false, List, ◌↔◌, ◌≡◌, refl, get_or}
+use Rattle.std.specs.Prelude.{ℕ, ◌+◌, ◌*◌, ◌≤◌, ◌<◌, Bool, true, false, List, ◌↔◌, ◌≡◌, refl, get_or, Ok}
 use Rattle.std.proofs.Common.{arith}
 use Rattle.laws.specs.Sums.{sum}
+use Rattle.refusals.specs.Refusals.{accepted}
 use Rattle.instance.specs.Node.{Problem, span}
 use Rattle.instance.specs.SiteFile.{problem_of}
 use Rattle.instance.specs.SiteFileLaws.{accepted_is_valid}
 use Rattle.instance.specs.Valid.{Valid}
-use Rattle.refusals.specs.Refusals.{accepted}
-use Rattle.refusals.specs.declared.Verdict.TheVariants.{Accepted}
 use Rattle.checks.specs.Checks.{check}
 use Rattle.plan_rules.specs.Quantities.{core_load}
 use Rattle.prices.specs.Prices.{is_awake, idle_ticks}
@@ -64,13 +63,13 @@ pub record LeastSleep (p : Problem) (plan table : List ℕ) (costs : SleepCosts)
 pub record SleepsLeast (words : List ℕ) (p : Problem) : Type 0 where
   pub each_core : (plan table : List ℕ) (energy time : ℕ) (energies sleeps : List ℕ) →
       let o = sleep_outcome words plan table energy time energies sleeps in
-      o.answer ≡ Accepted → (k : ℕ) → k < p.cores →
+      o.answer ≡ accepted → (k : ℕ) → k < p.cores →
       LeastSleep p plan table (costs_of p energy time) k (get_or o.energies k 0) (get_or o.sleeps k 0)
   -- the call from C for a text of these words answers this verdict and writes these two lists
-  pub from_text : (text : List ℕ) → words_of text ≡ accepted words → (plan table : List ℕ) (energy time : ℕ) (energies sleeps : List ℕ) →
+  pub from_text : (text : List ℕ) → words_of text ≡ Ok words → (plan table : List ℕ) (energy time : ℕ) (energies sleeps : List ℕ) →
       text_sleep_outcome text plan table energy time energies sleeps ≡ sleep_outcome words plan table energy time energies sleeps
 
-module _ (p : Problem) (valid : Valid p) (plan table : List ℕ) (passes : check p plan table ≡ Accepted) (k : ℕ) (h : k < p.cores) where
+module _ (p : Problem) (valid : Valid p) (plan table : List ℕ) (passes : check p plan table ≡ accepted) (k : ℕ) (h : k < p.cores) where
   gaps_of_core : is_awake p plan k ≡ true → GapsOfRow (busy_at p table k) (span p) (core_load p plan k)
   gaps_of_core awake =
       let repeats = table_row_repeats p table k in
@@ -102,7 +101,7 @@ module _ (p : Problem) (valid : Valid p) (plan table : List ℕ) (passes : check
         gaps_of_awake_core = gaps_of_core;
       }
 
-pub sleep_is_least : (words : List ℕ) (p : Problem) → problem_of words ≡ accepted p → SleepsLeast words p
+pub sleep_is_least : (words : List ℕ) (p : Problem) → problem_of words ≡ Ok p → SleepsLeast words p
 unfolding text_sleep_outcome
 sleep_is_least words p read =
     record {

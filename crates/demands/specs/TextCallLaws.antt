@@ -1,6 +1,6 @@
 -- The calls that are given text end as those that are given its words, with 1 before all the rest; and the listing prints a
 -- refusal's line or the best plan.
-use Rattle.std.specs.Prelude.{ℕ, Bool, List, [], ◌∷◌, ◌↔◌, ◌≡◌}
+use Rattle.std.specs.Prelude.{ℕ, Bool, List, [], ◌∷◌, ◌↔◌, ◌≡◌, Result, Ok, Err}
 use mathlib.Core.List.Memᴰ
 use Rattle.std.proofs.Math.Option.{Option, none, some}
 use Rattle.std.proofs.Math.Path.{refl, ap}
@@ -9,23 +9,20 @@ use Rattle.refusals.specs.EndingLaws.{unchanged, turns_down}
 use Rattle.refusals.specs.Endings.{Lent, lent, ServedOrRefused, served, refused, Ends, read_then, needed_for}
 use Rattle.instance.specs.Node.{Problem, task_count}
 use Rattle.refusals.specs.RefusalNumbers.{UnreadOnly, read, unread, number_above_zero}
-use Rattle.refusals.specs.Refusals.{Answer, number_of, answer_of, Reading, room, ◌and_then◌}
+use Rattle.refusals.specs.Refusals.{Answer, number_of, answer_of, Reading, room, ◌and_then◌, Verdict, accepted, verdict_of}
 use Rattle.instance.specs.SiteFile.{problem_of}
 use Rattle.instance.specs.SiteFileLaws.{accepted_is_valid}
 use Rattle.refusals.specs.declared.Refusal.{Refusal}
 use Rattle.refusals.specs.declared.Refusal.TheVariants.{Text, WordCount, WordRange, SpanTooLong, NoPlan, ShortBuffer, GivenPlan, CoreOverloaded, GivenTable, JobSlots, SwitchingWord, CoreOrState, EarlyEnd, CalendarDate, NoSuchQuestion}
-use Rattle.refusals.specs.declared.Verdict.{Verdict}
-use Rattle.refusals.specs.declared.Verdict.TheVariants.{Accepted, Refused}
 use Rattle.text.specs.OutcomeLaws.{text_refuses_1}
 use Rattle.text.specs.Text.{words_of}
 use Rattle.checks.specs.Checks.{slots_pass, jobs_pass}
 use Rattle.checks.specs.EndingLaws.{slot_checking_ends, checking_ends}
-use Rattle.prices.specs.Outcomes.{price_verdict}
 use Rattle.checks.specs.Outcomes.{check_outcome}
 use Rattle.tables.specs.Periods.{valid_is_periodic}
 use Rattle.plan_rules.specs.Plans.{choices_pass}
+use Rattle.prices.specs.declared.amounts.Price.{Price}
 use Rattle.tables.specs.Tables.{table_size}
-use Rattle.prices.specs.declared.amounts.Priced.{Priced}
 use Rattle.planner.specs.BestDrawingLaws.{answered_is_best_drawing}
 use Rattle.planner.specs.EndingLaws.{planning_ends}
 use Rattle.planner.specs.Endings.{plan_found}
@@ -71,7 +68,7 @@ text_planning_ends text plan table = go (text_refuses_1 text)
         (read_then reading (λ words. read_then (problem_of words) tests))
         (1 ∷ 2 ∷ 3 ∷ 4 ∷ 6 ∷ 5 ∷ [])
         (lent (sized task_count reading) plan o.plan ∷ lent (sized table_size reading) table o.table ∷ [])
-        (price_verdict o.answer)
+        (verdict_of o.answer)
     go (read words) = may_return (planning_ends words plan table)
     go (unread m) = turns_down (Memᴰ.append_left (2 ∷ 3 ∷ 4 ∷ 6 ∷ 5 ∷ []) m) (unchanged, (unchanged, tt))
 
@@ -148,25 +145,25 @@ text_dispatching_ends text plan core s ended = go (text_refuses_1 text)
 
 -- the numbers that the C entries return are those of the verdict
 
-pub planning_returns : (given : Priced) → answer_planned (planned_of given) ≡ answer_of (price_verdict given)
-planning_returns (Priced.Cost price) = refl
-planning_returns (Priced.Refused r) = refl
+pub planning_returns : (given : Result Price Refusal) → answer_planned (planned_of given) ≡ answer_of (verdict_of given)
+planning_returns (Ok price) = refl
+planning_returns (Err r) = refl
 
 pub checking_returns : (verdict : Verdict) → answer_checked (checked_of verdict) ≡ answer_of verdict
-checking_returns Accepted = refl
-checking_returns (Refused r) = refl
+checking_returns (Ok tt) = refl
+checking_returns (Err r) = refl
 
 pub dispatching_returns : (verdict : Verdict) (task : ℕ) → answer_task (task_to_run_of verdict task) ≡ answer_of verdict
-dispatching_returns Accepted task = refl
-dispatching_returns (Refused r) task = refl
+dispatching_returns (Ok tt) task = refl
+dispatching_returns (Err r) task = refl
 
 pub dispatching_hands_over : (d : Dispatched) → task_to_run_of d.verdict d.task ≡ dispatched_numbers d
 dispatching_hands_over d = go d.verdict d.task
   where
     go : (verdict : Verdict) (task : ℕ) →
         task_to_run_of verdict task ≡ record { refusal = (answer_of verdict).number; place = (answer_of verdict).place; task = task }
-    go Accepted task = refl
-    go (Refused r) task = refl
+    go (Ok tt) task = refl
+    go (Err r) task = refl
 
 -- no other refusal has the number of "no plan"
 number_5_is_no_plan : (r : Refusal) → number_of r ≡ 5 → r ≡ NoPlan
@@ -186,11 +183,11 @@ number_5_is_no_plan EarlyEnd e = absurd (omega arith)
 number_5_is_no_plan (CalendarDate place) e = absurd (omega arith)
 number_5_is_no_plan NoSuchQuestion e = absurd (omega arith)
 
-returns_5 : (given : Priced) → (planned_of given).refusal ≡ 5 → given ≡ Priced.Refused NoPlan
-returns_5 (Priced.Cost price) e = absurd (omega arith)
-returns_5 (Priced.Refused r) e = ap Priced.Refused (number_5_is_no_plan r e)
+returns_5 : (given : Result Price Refusal) → (planned_of given).refusal ≡ 5 → given ≡ Err NoPlan
+returns_5 (Ok price) e = absurd (omega arith)
+returns_5 (Err r) e = ap Err (number_5_is_no_plan r e)
 
-pub optimal_numbers : (p : Problem) (given : Priced) (plan table : List ℕ) → Optimal p given plan table →
+pub optimal_numbers : (p : Problem) (given : Result Price Refusal) (plan table : List ℕ) → Optimal p given plan table →
     OptimalNumbers p (planned_of given) plan table
 optimal_numbers p given plan table optimal =
     record {
@@ -201,7 +198,7 @@ optimal_numbers p given plan table optimal =
 
 -- what is printed, from what reading the text answers
 module _ (text : List ℕ) where
-  plan_printed : (words : List ℕ) → words_of text ≡ Reading.accepted words → (p : Problem) → problem_of words ≡ Reading.accepted p →
+  plan_printed : (words : List ℕ) → words_of text ≡ Ok words → (p : Problem) → problem_of words ≡ Ok p →
       Prints text (listing_of_plan p (best_plan p))
   plan_printed words of_text p of_words = go (best_plan p) refl
     where
@@ -212,24 +209,24 @@ module _ (text : List ℕ) where
           (record { words = words; words_of_text = of_text; problem_of_words = of_words })
           (answered_is_best_drawing p (valid_is_periodic (accepted_is_valid words of_words)) best e)
 
-  words_printed : (words : List ℕ) → words_of text ≡ Reading.accepted words → Prints text (listing_of_problem (problem_of words))
+  words_printed : (words : List ℕ) → words_of text ≡ Ok words → Prints text (listing_of_problem (problem_of words))
   words_printed words of_text = go (problem_of words) refl
     where
       go : (reading : Reading Problem) → problem_of words ≡ reading → Prints text (listing_of_problem reading)
-      go (Reading.refused r) e = Prints.refusal r (rw (of_text, e) refl)
-      go (Reading.accepted p) e = plan_printed words of_text p e
+      go (Err r) e = Prints.refusal r (rw (of_text, e) refl)
+      go (Ok p) e = plan_printed words of_text p e
 
   pub listing_prints : Prints text (listing_of text)
   unfolding listing_of
   listing_prints = go (words_of text) refl
     where
       go : (reading : Reading (List ℕ)) → words_of text ≡ reading → Prints text (listing_of_words reading)
-      go (Reading.refused r) e = Prints.refusal r (rw e refl)
-      go (Reading.accepted words) e = words_printed words e
+      go (Err r) e = Prints.refusal r (rw e refl)
+      go (Ok words) e = words_printed words e
 
 -- of a text of an instance the C entries have the outcomes of its words
 
-pub read_as_words : (text : List ℕ) (p : Problem) → WritesProblem text p → text_read_outcome text ≡ Reading.accepted p
+pub read_as_words : (text : List ℕ) (p : Problem) → WritesProblem text p → text_read_outcome text ≡ Ok p
 unfolding text_read_outcome
 read_as_words text p writes = ap text_read_outcome_of writes.words_of_text ∙ writes.problem_of_words
 
@@ -242,13 +239,13 @@ module _ (text : List ℕ) (p : Problem) (writes : WritesProblem text p) (plan t
   unfolding text_check_outcome
   checked_as_words = ap (λ reading. text_check_outcome_of reading plan table) writes.words_of_text
 
-accepted_returns_0 : (verdict : Verdict) → ((checked_of verdict).refusal ≡ 0) ↔ (verdict ≡ Accepted)
-accepted_returns_0 Accepted = (λ e. refl, λ e. refl)
-accepted_returns_0 (Refused r) = (
+accepted_returns_0 : (verdict : Verdict) → ((checked_of verdict).refusal ≡ 0) ↔ (verdict ≡ accepted)
+accepted_returns_0 (Ok tt) = (λ e. refl, λ e. refl)
+accepted_returns_0 (Err r) = (
   λ e. absurd (omega (arith, number_above_zero r)),
   λ e. let z : ◌≡◌ {A = ℕ} 0 1 = cc in absurd (omega arith),
 )
 
-pub passes_iff : {A : Type 0} (verdict : Verdict) → (verdict ≡ Accepted) ↔ A → ((checked_of verdict).refusal ≡ 0) ↔ A
+pub passes_iff : {A : Type 0} (verdict : Verdict) → (verdict ≡ accepted) ↔ A → ((checked_of verdict).refusal ≡ 0) ↔ A
 passes_iff verdict iff =
     let returned = accepted_returns_0 verdict in (λ e. iff.0 (returned.0 e), λ a. returned.1 (iff.1 a))

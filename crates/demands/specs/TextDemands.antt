@@ -2,19 +2,15 @@
 -- `towhepamu_sleep`, `towhepamu_dispatch`, `towhepamu_prepare`, `towhepamu_list` and `towhepamu_calendar`, which a program in C calls; of `towhepamu_tick`, which
 -- goes on from what was prepared; and of `list_site`, whose bytes the listing program prints. Their contracts equate what they return
 -- and write with the outcomes named here.
-use Rattle.std.specs.Prelude.{ℕ, ◌≤◌, Bool, List, ◌↔◌, ◌≡◌, refl, length, take}
+use Rattle.std.specs.Prelude.{ℕ, ◌≤◌, Bool, List, ◌↔◌, ◌≡◌, refl, length, take, Ok}
 use Rattle.std.proofs.Common.{ap}
 use Rattle.laws.specs.Lists.{onto}
 use Rattle.instance.specs.Node.{Problem, level_count, task_count, span}
-use Rattle.refusals.specs.Refusals.{answer_of}
+use Rattle.refusals.specs.Refusals.{answer_of, accepted, verdict_of}
 use Rattle.refusals.specs.declared.Refusal.{Refusal}
-use Rattle.refusals.specs.declared.Verdict.TheVariants.{Accepted}
-use Rattle.calendar.specs.Hours.{plan_at_verdict}
 use Rattle.calendar.specs.declared.Date.{Date}
-use Rattle.calendar.specs.declared.PlanAt.TheVariants as PlanAt
 use Rattle.calendar.specs.declared.PlanDays.{PlanDays}
 use Rattle.drawings.specs.Drawings.{Drawing}
-use Rattle.prices.specs.Outcomes.{price_verdict}
 use Rattle.tables.specs.Tables.{table_size}
 use Rattle.demands.specs.Demands.{demand_3}
 use Rattle.dispatcher.specs.declared.DispatchState.{DispatchState}
@@ -26,19 +22,19 @@ use Rattle.towhepamu.specs.CallOutcomes.{text_dispatch_outcome, text_plan_at_out
 use Rattle.towhepamu.specs.PreparedNodes.{PreparesNode, NodeTicks}
 use Rattle.towhepamu.specs.declared.nodes.PreparedNode.{PreparedNode}
 use Rattle.listings.specs.Listing.{listing_of}
-use Rattle.listings.specs.Outcomes.{list_outcome, list_verdict}
+use Rattle.listings.specs.Outcomes.{list_outcome}
 use Rattle.demands.specs.NodeLaws.{preparing_node_ends, ticking_node_ends}
 use Rattle.demands.specs.TextCallLaws.{text_planning_ends, text_slot_checking_ends, text_checking_ends, text_sleeping_ends, text_dispatching_ends, planning_returns, checking_returns, dispatching_returns, dispatching_hands_over, optimal_numbers, listing_prints, read_as_words, planned_as_words, checked_as_words, passes_iff}
-use Rattle.demands.specs.TextCalls.{WritesProblem, read_verdict, TextReadingEnds, TextPlanningEnds, TextSlotCheckingEnds, TextCheckingEnds, TextSleepingEnds, TextDispatchingEnds, NodePreparingEnds, NodeTickingEnds, TextListingEnds, TextAskingEnds, answer_site, answer_planned, answer_checked, answer_task, dispatched_numbers, answer_listed, answer_ruled, RefusedWithZeros, OptimalNumbers, Prints}
+use Rattle.demands.specs.TextCalls.{WritesProblem, TextReadingEnds, TextPlanningEnds, TextSlotCheckingEnds, TextCheckingEnds, TextSleepingEnds, TextDispatchingEnds, NodePreparingEnds, NodeTickingEnds, TextListingEnds, TextAskingEnds, answer_site, answer_planned, answer_checked, answer_task, dispatched_numbers, answer_listed, answer_ruled, RefusedWithZeros, OptimalNumbers, Prints}
 use Rattle.demands.specs.TextEndingLaws.{text_reading_ends, text_listing_ends, reading_returns, listing_returns, text_listing_hands_over, text_asking_ends, asking_returns}
 
 -- Demand 1. Whatever text, plan and table it is given, each of these calls does its work or returns the number and place of
 -- the first refusal that the papers have for that input, 1 before all the rest; and then every lent buffer is as before.
 pub record TextRefusalsExact : Type 0 where
   -- reading from C: 1; 2, 3, 4
-  pub reading : (text : List ℕ) → TextReadingEnds text (read_verdict (text_read_outcome text))
+  pub reading : (text : List ℕ) → TextReadingEnds text (verdict_of (text_read_outcome text))
   pub reading_numbers : (text : List ℕ) →
-      let reading = text_read_outcome text in answer_site (site_of reading) ≡ answer_of (read_verdict reading)
+      let reading = text_read_outcome text in answer_site (site_of reading) ≡ answer_of (verdict_of reading)
   -- .. and of an instance how large it is
   pub reading_hands_over : (text : List ℕ) (p : Problem) → WritesProblem text p →
       site_of (text_read_outcome text)
@@ -48,7 +44,7 @@ pub record TextRefusalsExact : Type 0 where
       let o = text_plan_outcome text plan table in TextPlanningEnds text plan table o.answer o.plan o.table
   -- number and place in the struct that it returns are the verdict's, 0 and 0 where there is a plan
   pub planning_numbers : (text plan table : List ℕ) →
-      let o = text_plan_outcome text plan table in answer_planned (planned_of o.answer) ≡ answer_of (price_verdict o.answer)
+      let o = text_plan_outcome text plan table in answer_planned (planned_of o.answer) ≡ answer_of (verdict_of o.answer)
   -- the check of the slots from C: 1; 2, 3, 4; 7; 9
   pub slot_checking : (text plan table : List ℕ) → TextSlotCheckingEnds text plan table (text_slot_check_outcome text plan table)
   pub slot_checking_numbers : (text plan table : List ℕ) →
@@ -80,17 +76,17 @@ pub record TextRefusalsExact : Type 0 where
   -- the listing from C: 1; 2, 3, 4; 6; 5
   pub listing : (text out : List ℕ) → let o = list_outcome text out in TextListingEnds text out o.answer o.out
   pub listing_numbers : (text out : List ℕ) →
-      let o = list_outcome text out in answer_listed (listed_of o.answer) ≡ answer_of (list_verdict o.answer)
+      let o = list_outcome text out in answer_listed (listed_of o.answer) ≡ answer_of (verdict_of o.answer)
   -- .. and where it is not refused the lines that are printed, with their length
-  pub listing_hands_over : (text out : List ℕ) → let o = list_outcome text out in list_verdict o.answer ≡ Accepted →
+  pub listing_hands_over : (text out : List ℕ) → let o = list_outcome text out in verdict_of o.answer ≡ accepted →
       (listed_of o.answer ≡ record { refusal = 0; place = 0; length = length (listing_of text) }) × (o.out ≡ onto (listing_of text) out)
   -- asking a calendar from C: 1; 2, 3, 17; 18
   pub asking : (text : List ℕ) (d : Date) (minute : ℕ) → TextAskingEnds text d minute (text_plan_at_outcome text d minute)
   pub asking_numbers : (text : List ℕ) (d : Date) (minute : ℕ) →
-      let given = text_plan_at_outcome text d minute in answer_ruled (ruled_of given) ≡ answer_of (plan_at_verdict given)
+      let given = text_plan_at_outcome text d minute in answer_ruled (ruled_of given) ≡ answer_of (verdict_of given)
   -- .. and the plan in force with the days, as `CalendarDemands` has them
   pub asking_hands_over : (answer : PlanDays) →
-      ruled_of (PlanAt.Plan answer) ≡ record { refusal = 0; place = 0; plan = answer.plan; days = answer.days }
+      ruled_of (Ok answer) ≡ record { refusal = 0; place = 0; plan = answer.plan; days = answer.days }
   -- a refusal is returned alone
   pub refused_with_zeros : (r : Refusal) → RefusedWithZeros r
   -- what is printed for every text: 1; 2, 3, 4; 5; else the best plan

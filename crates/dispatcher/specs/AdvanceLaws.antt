@@ -1,4 +1,5 @@
 -- What one tick over columns comes to is a call for the core whose tasks they are.
+use Rattle.refusals.specs.Refusals.{accepted}
 use Prim.Native.Nat.{ℕ, suc, ◌-◌, ◌≤◌, ◌<◌}
 use Rattle.std.specs.Prelude.{Bool, cond, List, IfSome, ◌⊎◌, ◌≡◌, eqb}
 use Rattle.std.proofs.Common.{inl, inr, ◌∙◌}
@@ -25,7 +26,6 @@ use Rattle.dispatcher.specs.States.{as_dispatch, dispatched_where}
 use Rattle.dispatcher.specs.Ticks.{ChosenColumn, ready_in}
 use Rattle.dispatcher.specs.declared.DispatchState.{DispatchState}
 use Rattle.dispatcher.specs.declared.ticks.Chosen.{Chosen}
-use Rattle.refusals.specs.declared.Verdict.TheVariants.{Accepted}
 
 module _ (numbers periods windows ticks : List ℕ) (columns : CoreColumns numbers periods windows ticks) where
   abbrev core : CoreTasks
@@ -137,8 +137,8 @@ module _ (numbers periods windows ticks : List ℕ) (columns : CoreColumns numbe
         -- what is then handed over is what the call answers
         pub advanced : (tick : ℕ) (left : List ℕ) → tick ≡ cond (eqb (suc s.tick) span) 0 (suc s.tick) →
             left ≡ list_of (λ i. after_run task i (get_or chosen.left i 0)) most_tasks →
-            record { verdict = Accepted; task = task; state = record { tick = tick; left = left; last = task } }
-            ≡ dispatched_where Accepted core span s ended
+            record { verdict = accepted; task = task; state = record { tick = tick; left = left; last = task } }
+            ≡ dispatched_where accepted core span s ended
         unfolding numbered_tasks call wrapped step ended_early
         advanced tick left next ran =
             let same_left : left ≡ list_of (λ i. get_or (call core span ended (as_dispatch s)).left i 0) most_tasks =
@@ -146,4 +146,4 @@ module _ (numbers periods windows ticks : List ℕ) (columns : CoreColumns numbe
             ∙ list_of-same _ _ most_tasks (λ i l.
             ap₂ (λ (number before : ℕ). after_run number i before) is_answer (ready_at i l)
             ∙ sym (call_leaves core span ended (as_dispatch s) i l)) in
-            λ i. record { verdict = Accepted; task = is_answer i; state = record { tick = next i; left = same_left i; last = is_answer i } }
+            λ i. record { verdict = accepted; task = is_answer i; state = record { tick = next i; left = same_left i; last = is_answer i } }

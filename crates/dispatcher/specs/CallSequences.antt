@@ -1,6 +1,6 @@
 -- Calls one after another from a fresh start, each handed the state that the call before it answered.
+use Rattle.refusals.specs.Refusals.{accepted}
 use Rattle.std.specs.Prelude.{ℕ, zero, suc, Bool, List, ◌≡◌}
-use Rattle.refusals.specs.declared.Verdict.TheVariants.{Accepted}
 use Rattle.dispatcher.specs.Outcomes.{dispatch_outcome}
 use Rattle.dispatcher.specs.States.{fresh_state}
 use Rattle.dispatcher.specs.declared.DispatchState.{DispatchState}
@@ -20,4 +20,4 @@ answers_of words plan core reports n = (call_at words plan core reports n).task
 
 -- "with any accepted reports": no call is refused
 abbrev pub AllAccepted : (words plan : List ℕ) → ℕ → (reports : ℕ → Bool) → Type 0
-AllAccepted words plan core reports = (n : ℕ) → (call_at words plan core reports n).verdict ≡ Accepted
+AllAccepted words plan core reports = (n : ℕ) → (call_at words plan core reports n).verdict ≡ accepted

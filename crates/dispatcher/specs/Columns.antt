@@ -1,12 +1,10 @@
 -- A core that is prepared for the node's own loop: its kept tasks in columns, and what one tick over these answers, whatever they hold.
-use Rattle.std.specs.Prelude.{ℕ, zero, suc, Bool, cond, ◌&&◌, List, leb, ltb, eqb, length, get_or}
+use Rattle.std.specs.Prelude.{ℕ, zero, suc, Bool, cond, ◌&&◌, List, leb, ltb, eqb, length, get_or, Err}
 use Rattle.laws.specs.Search.{every, first}
 use Rattle.ranges.specs.Limits.{most_tasks}
 use Rattle.dispatch.specs.Rows.{CoreTasks}
-use Rattle.refusals.specs.Refusals.{◌and_then◌}
+use Rattle.refusals.specs.Refusals.{◌and_then◌, Verdict, accepted}
 use Rattle.refusals.specs.declared.Refusal.TheVariants.{CoreOrState}
-use Rattle.refusals.specs.declared.Verdict.{Verdict}
-use Rattle.refusals.specs.declared.Verdict.TheVariants.{Accepted, Refused}
 use Rattle.dispatcher.specs.States.{call_passes, dispatched_where}
 use Rattle.dispatcher.specs.declared.DispatchState.{DispatchState}
 use Rattle.dispatcher.specs.declared.Dispatched.{Dispatched}
@@ -41,7 +39,7 @@ columns_fit numbers periods windows ticks =
 
 -- 12, of the core
 unfoldable pub columns_pass : (numbers periods windows ticks : List ℕ) → Verdict
-columns_pass numbers periods windows ticks = cond (columns_fit numbers periods windows ticks) Accepted (Refused CoreOrState)
+columns_pass numbers periods windows ticks = cond (columns_fit numbers periods windows ticks) accepted (Err CoreOrState)
 
 unfoldable pub tick_outcome : (numbers periods windows ticks : List ℕ) → ℕ → DispatchState → Bool → Dispatched
 tick_outcome numbers periods windows ticks span s ended =

@@ -1,5 +1,6 @@
 -- Document 02 (f) as theorems about what the calls answer, for a core of a plan that 7 and 8 let pass.
-use Rattle.std.specs.Prelude.{ℕ, pred, ◌%◌, ◌≤◌, ◌<◌, Bool, false, List, ◌≡◌}
+use Rattle.refusals.specs.Refusals.{accepted}
+use Rattle.std.specs.Prelude.{ℕ, pred, ◌%◌, ◌≤◌, ◌<◌, Bool, false, List, ◌≡◌, Ok}
 use Rattle.std.proofs.Common.{sym, ap, ◌∙◌, mod-lt}
 use Rattle.instance.specs.Node.{Problem, span, task_count}
 use Rattle.instance.specs.SiteFile.{problem_of}
@@ -10,8 +11,6 @@ use Rattle.edf.specs.Demand.{NoSlotAfterDue, slots_of_job}
 use Rattle.edf.specs.FinishedJobs.{Finished, NoneAfterReport}
 use Rattle.plan_rules.specs.CoreOfPlan.{core_tasks}
 use Rattle.plan_rules.specs.Plans.{plan_passes}
-use Rattle.refusals.specs.Refusals.{accepted}
-use Rattle.refusals.specs.declared.Verdict.TheVariants.{Accepted}
 use Rattle.drawings.specs.FitLaws.{passing_core_meets_demand, periods_whole, windows_well_formed}
 use Rattle.tables.specs.Periods.{Periodic, valid_is_periodic}
 use Rattle.tables.specs.TableLaws.{slot_at-table_of}
@@ -30,8 +29,8 @@ pub record JobServed (tasks : CoreTasks) (answers : ℕ → ℕ) (reports : ℕ 
   pub none_after_due : NoSlotAfterDue answers tasks i j
   pub none_after_report : NoneAfterReport tasks answers reports i j
 
-module _ (words plan : List ℕ) (core : ℕ) (p : Problem) (read : problem_of words ≡ accepted p) (passes : plan_passes p plan ≡ Accepted)
-    (inside : core_passes p core ≡ Accepted) where
+module _ (words plan : List ℕ) (core : ℕ) (p : Problem) (read : problem_of words ≡ Ok p) (passes : plan_passes p plan ≡ accepted)
+    (inside : core_passes p core ≡ accepted) where
   abbrev tasks : CoreTasks
   tasks = core_tasks p plan (pred core)
 
@@ -40,7 +39,7 @@ module _ (words plan : List ℕ) (core : ℕ) (p : Problem) (read : problem_of w
 
   -- "From a fresh start .. without such reports it answers slot after slot of the row, for ever."
   pub answers_are_the_row : (reports : ℕ → Bool) → ((n : ℕ) → reports n ≡ false) → (n : ℕ) →
-      ((call_at words plan core reports n).verdict ≡ Accepted)
+      ((call_at words plan core reports n).verdict ≡ accepted)
       × ((call_at words plan core reports n).task ≡ slot_at p (table_of p plan) (pred core) (n % span p))
   answers_are_the_row reports none n =
       let all = unreported_are_accepted words plan core p read reports passes inside none in (
@@ -67,9 +66,9 @@ module _ (words plan : List ℕ) (core : ℕ) (p : Problem) (read : problem_of w
       })
 
   -- from any accepted state the next state passes the tests of 12 again, and so the next call without a report is accepted
-  pub next_state_is_accepted : (s : DispatchState) (ended : Bool) → (dispatch_outcome words plan core s ended).verdict ≡ Accepted →
+  pub next_state_is_accepted : (s : DispatchState) (ended : Bool) → (dispatch_outcome words plan core s ended).verdict ≡ accepted →
       let next = (dispatch_outcome words plan core s ended).state in
-      (state_passes tasks (span p) next ≡ Accepted) × ((dispatch_outcome words plan core next false).verdict ≡ Accepted)
+      (state_passes tasks (span p) next ≡ accepted) × ((dispatch_outcome words plan core next false).verdict ≡ accepted)
   next_state_is_accepted s ended accepts =
       let passes_12 = next_state_passes words plan core p read s ended accepts in
       (passes_12, unreported_call_accepts words plan core p read passes inside (dispatch_outcome words plan core s ended).state passes_12)

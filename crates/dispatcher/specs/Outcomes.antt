@@ -1,13 +1,11 @@
 -- The whole outcome of dispatching, for every list of words: the verdict, the task to run and the next state; and how a call ends.
-use Rattle.std.specs.Prelude.{ℕ, pred, Bool, cond, ◌&&◌, List, [], ◌∷◌, ◌≡◌, leb, ltb}
+use Rattle.std.specs.Prelude.{ℕ, pred, Bool, cond, ◌&&◌, List, [], ◌∷◌, ◌≡◌, leb, ltb, Ok, Err}
 use Rattle.refusals.specs.Endings.{Ends, read_then}
 use Rattle.instance.specs.Node.{Problem, span}
-use Rattle.refusals.specs.Refusals.{Reading, refused, accepted, ◌and_then◌}
+use Rattle.refusals.specs.Refusals.{Reading, ◌and_then◌, Verdict, accepted}
 use Rattle.instance.specs.SiteFile.{problem_of}
 use Rattle.refusals.specs.declared.Refusal.{Refusal}
 use Rattle.refusals.specs.declared.Refusal.TheVariants.{CoreOrState}
-use Rattle.refusals.specs.declared.Verdict.{Verdict}
-use Rattle.refusals.specs.declared.Verdict.TheVariants.{Accepted, Refused}
 use Rattle.plan_rules.specs.CoreOfPlan.{core_tasks}
 use Rattle.plan_rules.specs.Plans.{plan_passes}
 use Rattle.dispatcher.specs.States.{call_passes, dispatched_where}
@@ -16,7 +14,7 @@ use Rattle.dispatcher.specs.declared.Dispatched.{Dispatched}
 
 -- 12: "a core out of range"; the cores have the numbers 1 to M
 unfoldable pub core_passes : Problem → ℕ → Verdict
-core_passes p core = cond (ltb 0 core && leb core p.cores) Accepted (Refused CoreOrState)
+core_passes p core = cond (ltb 0 core && leb core p.cores) accepted (Err CoreOrState)
 
 -- "For one core of an accepted, fitting plan": 7 and 8, then 12 of the core
 abbrev pub preparing_tests : Problem → List ℕ → ℕ → Verdict
@@ -28,8 +26,8 @@ dispatch_tests p plan core s ended =
     plan_passes p plan and_then core_passes p core and_then call_passes (core_tasks p plan (pred core)) (span p) s ended
 
 abbrev pub dispatch_outcome_of : Reading Problem → List ℕ → ℕ → DispatchState → Bool → Dispatched
-dispatch_outcome_of (refused r) plan core s ended = record { verdict = Refused r; task = 0; state = s }
-dispatch_outcome_of (accepted p) plan core s ended =
+dispatch_outcome_of (Err r) plan core s ended = record { verdict = Err r; task = 0; state = s }
+dispatch_outcome_of (Ok p) plan core s ended =
     dispatched_where (dispatch_tests p plan core s ended) (core_tasks p plan (pred core)) (span p) s ended
 
 unfoldable pub dispatch_outcome : (words plan : List ℕ) → ℕ → DispatchState → Bool → Dispatched
@@ -39,7 +37,7 @@ dispatch_outcome words plan core s ended = dispatch_outcome_of (problem_of words
 -- state as handed in.
 pub record DispatchEnds (tests : Verdict) (numbers : List ℕ) (s : DispatchState) (d : Dispatched) : Type 0 where
   pub as_tested : Ends tests numbers [] d.verdict
-  pub refused_as_handed_in : (r : Refusal) → d.verdict ≡ Refused r → (d.task ≡ 0) × (d.state ≡ s)
+  pub refused_as_handed_in : (r : Refusal) → d.verdict ≡ Err r → (d.task ≡ 0) × (d.state ≡ s)
 
 -- 2, 3, 4; 7, 8; 12; 13
 abbrev pub DispatchingEnds : (words plan : List ℕ) → ℕ → DispatchState → Bool → Dispatched → Type 0

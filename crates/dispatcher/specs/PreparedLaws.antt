@@ -1,5 +1,6 @@
 -- Preparing a core and a tick over it are the dispatcher's call.
-use Rattle.std.specs.Prelude.{ℕ, pred, ◌-◌, ◌≤◌, ◌<◌, Bool, List, ◌≡◌, length, get_or, take}
+use Rattle.refusals.specs.declared.Refusal.{Refusal}
+use Rattle.std.specs.Prelude.{ℕ, pred, ◌-◌, ◌≤◌, ◌<◌, Bool, List, ◌≡◌, length, get_or, take, Result, Ok, Err}
 use Rattle.std.proofs.Math.Bool.{true, false}
 use Rattle.std.proofs.Math.Path.{refl}
 use Rattle.std.proofs.Common.{sym, ap, ◌∙◌, arith, get_or-take, le-leb}
@@ -15,30 +16,28 @@ use Rattle.plan_rules.specs.CoreOfPlan.{core_tasks}
 use Rattle.plan_rules.specs.KeptColumns.{KeptColumns, place_of}
 use Rattle.plan_rules.specs.declared.columns.KeptTasks.{KeptTasks}
 use Rattle.plan_rules.specs.Plans.{plan_passes}
-use Rattle.refusals.specs.Refusals.{Reading, refused, accepted, ◌and_then◌}
-use Rattle.refusals.specs.declared.Verdict.{Verdict}
-use Rattle.refusals.specs.declared.Verdict.TheVariants.{Accepted, Refused}
+use Rattle.refusals.specs.Refusals.{Reading, ◌and_then◌, Verdict, accepted, verdict_of}
 use Rattle.tables.specs.KeptRowLaws.{columns_ok, kept_are_selected, length_front}
 use Rattle.dispatcher.specs.AdvanceLaws.{columns_are_selected}
 use Rattle.dispatcher.specs.ColumnLaws.{CoreColumns, core_columns_fit}
 use Rattle.dispatcher.specs.Columns.{columns_pass, numbered_tasks}
 use Rattle.dispatcher.specs.Outcomes.{core_passes, dispatch_outcome, dispatch_outcome_of, dispatch_tests, preparing_tests}
-use Rattle.dispatcher.specs.Preparing.{Prepares, core_outcome, prepared_outcome, prepared_where, core_of}
+use Rattle.dispatcher.specs.Preparing.{Prepares, core_outcome, prepared_outcome, core_of, HoldsCore}
 use Rattle.dispatcher.specs.SameCoreLaws.{SameCore, same_answer, same_next_state, same_selected_same_core, same_state_fits}
 use Rattle.dispatcher.specs.StateLaws.{FittingState, state_fits_iff}
 use Rattle.dispatcher.specs.States.{call_passes, dispatched_where, state_fits, state_passes, end_passes}
 use Rattle.dispatcher.specs.declared.DispatchState.{DispatchState}
-use Rattle.dispatcher.specs.declared.preparing.Prepared.{Prepared}
+use Rattle.dispatcher.specs.declared.preparing.PreparedCore.{PreparedCore}
 
 -- two cores that have the same tasks with ticks turn the same calls away, and answer the others alike
 module _ (core core₂ : CoreTasks) (same : SameCore core core₂) (few : core.size ≤ most_tasks) (few₂ : core₂.size ≤ most_tasks) (its_span : ℕ)
     (s : DispatchState) (ended : Bool) where
   same_call : (v : Verdict) → FittingState core its_span s → dispatched_where v core its_span s ended ≡ dispatched_where v core₂ its_span s ended
-  same_call (Refused r) fit = refl
-  same_call Accepted fit =
+  same_call (Err r) fit = refl
+  same_call (Ok tt) fit =
       let answer = same_answer core core₂ same few few₂ its_span s ended fit in
       let state = same_next_state core core₂ same few few₂ its_span s ended fit in
-      λ i. record { verdict = Accepted; task = answer i; state = state i }
+      λ i. record { verdict = accepted; task = answer i; state = state i }
 
   same_dispatched :
       dispatched_where (call_passes core its_span s ended) core its_span s ended
@@ -102,7 +101,7 @@ module _ (p : Problem) (v : Valid p) (plan : List ℕ) (k : ℕ) (kept : KeptTas
 
   pub kept_columns_dispatch : (s : DispatchState) (ended : Bool) →
       dispatched_where (call_passes (core_tasks p plan k) (span p) s ended) (core_tasks p plan k) (span p) s ended
-      ≡ prepared_where Accepted (core_of (span p) kept) s ended
+      ≡ core_outcome (core_of (span p) kept) s ended
   unfolding core_outcome columns_pass
   kept_columns_dispatch s ended =
       rw (le-leb n most_tasks (omega (arith, columns.no_more, v.task_count_bound)), core_columns_fit are_columns)
@@ -115,23 +114,27 @@ tests_in_two p plan core s ended = go (plan_passes p plan)
   where
     go : (v : Verdict) → v and_then core_passes p core and_then call_passes (core_tasks p plan (pred core)) (span p) s ended
         ≡ (v and_then core_passes p core) and_then call_passes (core_tasks p plan (pred core)) (span p) s ended
-    go Accepted = refl
-    go (Refused r) = refl
+    go (Ok tt) = refl
+    go (Err r) = refl
 
 -- the call is the two together
-module _ (words plan : List ℕ) (core : ℕ) (prepared : Prepared) (prepares : Prepares words plan core prepared) (s : DispatchState) (ended : Bool) where
+module _ (words plan : List ℕ) (core : ℕ) (prepared : Result PreparedCore Refusal) (prepares : Prepares words plan core prepared) (s : DispatchState) (ended : Bool) where
   pub call_is_preparing_and_tick : dispatch_outcome words plan core s ended ≡ prepared_outcome prepared s ended
   unfolding dispatch_outcome
   call_is_preparing_and_tick = go (problem_of words) refl
     where
-      tested : (p : Problem) → problem_of words ≡ accepted p → (v : Verdict) → preparing_tests p plan core ≡ v → prepared.verdict ≡ v →
-          dispatch_outcome_of (accepted p) plan core s ended ≡ prepared_outcome prepared s ended
-      tested p read (Refused r) tests verdict = rw (tests_in_two p plan core s ended, tests, verdict) refl
-      tested p read Accepted tests verdict =
-          let holds = prepares.holds_core p read verdict in
-          rw (tests_in_two p plan core s ended, tests, verdict, holds.is_core)
+      tested : (p : Problem) → problem_of words ≡ Ok p → (c : Result PreparedCore Refusal) → prepared ≡ c → preparing_tests p plan core ≡ verdict_of c →
+          dispatch_outcome_of (Ok p) plan core s ended ≡ prepared_outcome c s ended
+      tested p read (Err r) is tests = rw (tests_in_two p plan core s ended, tests) refl
+      tested p read (Ok c) is tests =
+          let holds : HoldsCore p plan (pred core) c = rw is at (prepares.holds_core p read) in
+          rw (tests_in_two p plan core s ended, tests, holds.is_core)
           (kept_columns_dispatch p (accepted_is_valid words read) plan (pred core) holds.kept holds.its_columns s ended)
 
+      refused : (r : Refusal) → (c : Result PreparedCore Refusal) → verdict_of c ≡ Err r → dispatch_outcome_of (Err r) plan core s ended ≡ prepared_outcome c s ended
+      refused r (Err q) same = let e : q ≡ r = cc in rw e refl
+      refused r (Ok c) same = let z : ◌≡◌ {A = ℕ} 0 1 = cc in absurd (omega arith)
+
       go : (reading : Reading Problem) → problem_of words ≡ reading → dispatch_outcome_of (problem_of words) plan core s ended ≡ prepared_outcome prepared s ended
-      go (refused r) read = let verdict = rw read at prepares.as_tested in rw (read, verdict) refl
-      go (accepted p) read = rw read (tested p read (preparing_tests p plan core) refl (rw read at prepares.as_tested))
+      go (Err r) read = rw read (refused r prepared (rw read at prepares.as_tested))
+      go (Ok p) read = rw read (tested p read prepared refl (sym (rw read at prepares.as_tested)))

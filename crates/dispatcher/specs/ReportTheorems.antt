@@ -1,6 +1,7 @@
 -- A report "has no effect if that job had its full ticks", for a core of a plan that 7 and 8 let pass.
+use Rattle.refusals.specs.Refusals.{accepted}
 use Prim.Native.Nat.{ℕ, suc, pred, ◌+◌, ◌*◌, ◌<◌}
-use Rattle.std.specs.Prelude.{Bool, true, false, List, ◌≡◌, eqb}
+use Rattle.std.specs.Prelude.{Bool, true, false, List, ◌≡◌, eqb, Ok}
 use Rattle.std.proofs.Math.Path.{sym, ap}
 use Rattle.std.proofs.Common.{◌∙◌}
 use Rattle.std.proofs.Math.ListN.{get_or}
@@ -13,8 +14,6 @@ use Rattle.dispatch.specs.Rows.{CoreTasks, Dispatch}
 use Rattle.edf.specs.CallTheorems.{full_job_has_nothing_left}
 use Rattle.plan_rules.specs.CoreOfPlan.{core_tasks}
 use Rattle.plan_rules.specs.Plans.{plan_passes}
-use Rattle.refusals.specs.Refusals.{accepted}
-use Rattle.refusals.specs.declared.Verdict.TheVariants.{Accepted}
 use Rattle.drawings.specs.FitLaws.{periods_whole}
 use Rattle.tables.specs.Periods.{valid_is_periodic}
 use Rattle.dispatcher.specs.CallSequenceLaws.{accepted_call, answers_of_tasks, call_accepts, left_before_call, next_state_passes, reported_tests, state_after_call, tested_state_passes, unreported_tests}
@@ -24,22 +23,22 @@ use Rattle.dispatcher.specs.States.{as_dispatch, as_state}
 use Rattle.dispatcher.specs.declared.DispatchState.{DispatchState}
 use Rattle.dispatcher.specs.declared.Dispatched.{Dispatched}
 
-module _ (words plan : List ℕ) (core : ℕ) (p : Problem) (read : problem_of words ≡ accepted p) (passes : plan_passes p plan ≡ Accepted)
-    (inside : core_passes p core ≡ Accepted) where
+module _ (words plan : List ℕ) (core : ℕ) (p : Problem) (read : problem_of words ≡ Ok p) (passes : plan_passes p plan ≡ accepted)
+    (inside : core_passes p core ≡ accepted) where
   abbrev tasks : CoreTasks
   tasks = core_tasks p plan (pred core)
 
-  same_outcomes : (s : DispatchState) → dispatch_tests p plan core s true ≡ Accepted → get_or s.left (pred s.last) 0 ≡ 0 →
+  same_outcomes : (s : DispatchState) → dispatch_tests p plan core s true ≡ accepted → get_or s.left (pred s.last) 0 ≡ 0 →
       dispatch_outcome words plan core s true ≡ dispatch_outcome words plan core s false
   same_outcomes s tests none =
       let unreported = unreported_tests words plan core p read passes inside s (tested_state_passes words plan core p read s true tests) in
-      let after : Dispatch → Dispatched = λ d. record { verdict = Accepted; task = d.last; state = as_state d } in
+      let after : Dispatch → Dispatched = λ d. record { verdict = accepted; task = d.last; state = as_state d } in
       accepted_call words plan core p read s true tests
       ∙ ap after (report_without_effect tasks (span p) (as_dispatch s) none)
       ∙ sym (accepted_call words plan core p read s false unreported)
 
   -- in any state in which the task that ran has nothing left
-  pub report_has_no_effect : (s : DispatchState) → (dispatch_outcome words plan core s true).verdict ≡ Accepted →
+  pub report_has_no_effect : (s : DispatchState) → (dispatch_outcome words plan core s true).verdict ≡ accepted →
       get_or s.left (pred s.last) 0 ≡ 0 → dispatch_outcome words plan core s true ≡ dispatch_outcome words plan core s false
   report_has_no_effect s accepts = same_outcomes s (call_accepts words plan core p read s true accepts)
 

@@ -1,14 +1,12 @@
 -- Document 02 (f): what a dispatcher remembers between calls, which states may be handed in, and what a call then answers.
-use Rattle.std.specs.Prelude.{ℕ, pred, Bool, cond, ◌&&◌, ◌||◌, List, leb, ltb, eqb, get_or, replicate}
+use Rattle.std.specs.Prelude.{ℕ, pred, Bool, cond, ◌&&◌, ◌||◌, List, leb, ltb, eqb, get_or, replicate, Ok, Err}
 use Rattle.laws.specs.Lists.{list_of}
 use Rattle.laws.specs.Search.{every}
 use Rattle.ranges.specs.Limits.{most_tasks}
 use Rattle.dispatch.specs.Calls.{call}
 use Rattle.dispatch.specs.Rows.{CoreTasks, Dispatch}
-use Rattle.refusals.specs.Refusals.{◌and_then◌}
+use Rattle.refusals.specs.Refusals.{◌and_then◌, Verdict, accepted}
 use Rattle.refusals.specs.declared.Refusal.TheVariants.{CoreOrState, EarlyEnd}
-use Rattle.refusals.specs.declared.Verdict.{Verdict}
-use Rattle.refusals.specs.declared.Verdict.TheVariants.{Accepted, Refused}
 use Rattle.dispatcher.specs.declared.DispatchState.{DispatchState}
 use Rattle.dispatcher.specs.declared.Dispatched.{Dispatched}
 
@@ -41,11 +39,11 @@ state_fits core span s = ltb s.tick span && left_fits core s.left && last_fits c
 
 -- 12, of the state
 unfoldable pub state_passes : CoreTasks → ℕ → DispatchState → Verdict
-state_passes core span s = cond (state_fits core span s) Accepted (Refused CoreOrState)
+state_passes core span s = cond (state_fits core span s) accepted (Err CoreOrState)
 
 -- 13: "an early end reported after an idle tick or before the first"
 unfoldable pub end_passes : DispatchState → Bool → Verdict
-end_passes s ended = cond (ended && eqb s.last 0) (Refused EarlyEnd) Accepted
+end_passes s ended = cond (ended && eqb s.last 0) (Err EarlyEnd) accepted
 
 abbrev pub call_passes : CoreTasks → ℕ → DispatchState → Bool → Verdict
 call_passes core span s ended = state_passes core span s and_then end_passes s ended
@@ -53,6 +51,6 @@ call_passes core span s ended = state_passes core span s and_then end_passes s e
 -- a call that its tests let pass answers the task to run and the next state. A refusal leaves "the state as handed in", and no task
 -- runs.
 abbrev pub dispatched_where : Verdict → CoreTasks → ℕ → DispatchState → Bool → Dispatched
-dispatched_where Accepted core span s ended =
-    let after = call core span ended (as_dispatch s) in record { verdict = Accepted; task = after.last; state = as_state after }
-dispatched_where (Refused r) core span s ended = record { verdict = Refused r; task = 0; state = s }
+dispatched_where (Ok tt) core span s ended =
+    let after = call core span ended (as_dispatch s) in record { verdict = accepted; task = after.last; state = as_state after }
+dispatched_where (Err r) core span s ended = record { verdict = Err r; task = 0; state = s }

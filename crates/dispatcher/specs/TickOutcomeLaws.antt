@@ -1,10 +1,10 @@
 -- The outcome of a tick over columns, test by test.
-use Rattle.std.specs.Prelude.{ℕ, Bool, true, false, ◌&&◌, List, ◌≡◌, eqb}
+use Rattle.refusals.specs.Refusals.{accepted}
+use Rattle.std.specs.Prelude.{ℕ, Bool, true, false, ◌&&◌, List, ◌≡◌, eqb, Err}
 use Rattle.std.proofs.Math.Path.{refl}
 use Rattle.dispatch.specs.Rows.{CoreTasks}
 use Rattle.refusals.specs.declared.Refusal.{Refusal}
 use Rattle.refusals.specs.declared.Refusal.TheVariants.{CoreOrState, EarlyEnd}
-use Rattle.refusals.specs.declared.Verdict.TheVariants.{Accepted, Refused}
 use Rattle.dispatcher.specs.Columns.{columns_fit, columns_pass, numbered_tasks, tick_outcome}
 use Rattle.dispatcher.specs.States.{dispatched_where, state_fits, state_passes, end_passes}
 use Rattle.dispatcher.specs.declared.DispatchState.{DispatchState}
@@ -15,7 +15,7 @@ module _ (numbers periods windows ticks : List ℕ) (span : ℕ) (s : DispatchSt
   core = numbered_tasks numbers periods windows ticks
 
   abbrev turned_away : Refusal → Dispatched
-  turned_away r = record { verdict = Refused r; task = 0; state = s }
+  turned_away r = record { verdict = Err r; task = 0; state = s }
 
   pub columns_are_refused : columns_fit numbers periods windows ticks ≡ false →
       turned_away CoreOrState ≡ tick_outcome numbers periods windows ticks span s ended
@@ -33,6 +33,6 @@ module _ (numbers periods windows ticks : List ℕ) (span : ℕ) (s : DispatchSt
       end_is_refused unfounded = rw (columns_fit_lem, state_fits_lem, unfounded) refl
 
       pub call_is_made : ended && eqb s.last 0 ≡ false →
-          dispatched_where Accepted core span s ended ≡ tick_outcome numbers periods windows ticks span s ended
+          dispatched_where accepted core span s ended ≡ tick_outcome numbers periods windows ticks span s ended
       unfolding tick_outcome columns_pass state_passes end_passes
       call_is_made founded = rw (columns_fit_lem, state_fits_lem, founded) refl

@@ -7,7 +7,7 @@ use crate::preparing::{PreparedCore, prepare};
 use crate::ticks::{dispatch_prepared, refused};
 use crate::{DispatchState, Dispatched};
 use ranges::MOST_TASKS;
-use refusals::{Refusal, Verdict};
+use refusals::Refusal;
 
 // One tick of a prepared core. One with more tasks than places is none: 12.
 pub fn dispatch_core(core: PreparedCore, state: DispatchState, ended: bool) -> Dispatched
@@ -17,15 +17,11 @@ pub fn dispatch_core(core: PreparedCore, state: DispatchState, ended: bool) -> D
     if (MOST_TASKS as usize) < n {
         return refused(Refusal::CoreOrState, state);
     }
-    let numbers = core.numbers;
-    let periods = core.periods;
-    let windows = core.windows;
-    let ticks = core.ticks;
     dispatch_prepared(
-        &numbers[..n],
-        &periods[..n],
-        &windows[..n],
-        &ticks[..n],
+        &core.numbers[..n],
+        &core.periods[..n],
+        &core.windows[..n],
+        &core.ticks[..n],
         core.span,
         state,
         ended,
@@ -44,10 +40,8 @@ pub fn dispatch(
     ensures value { result ≡ dispatch_outcome instance.now plan.now core state ended }
     ensures promise { DispatchingEnds instance.now plan.now core state ended result }
 {
-    let prepared = prepare(instance, plan, core);
-    let verdict = prepared.verdict;
-    match verdict {
-        Verdict::Refused(refusal) => return refused(refusal, state),
-        Verdict::Accepted => return dispatch_core(prepared.core, state, ended),
+    match prepare(instance, plan, core) {
+        Ok(prepared) => dispatch_core(prepared, state, ended),
+        Err(refusal) => refused(refusal, state),
     }
 }

@@ -9,7 +9,7 @@ mod ticks;
 
 pub use dispatching::{dispatch, dispatch_core};
 pub use in_place::{TickAnswer, tick};
-pub use preparing::{Prepared, PreparedCore, prepare, unprepared};
+pub use preparing::{PreparedCore, prepare};
 use refusals::Verdict;
 pub use ticks::dispatch_prepared;
 

@@ -2,12 +2,12 @@
 ghost use Rattle.std.specs.Prelude.{◌&&◌, ◌≡◌, leb, ltb, length};
 ghost use Rattle.instance.specs.Held.{Sound, problem_in};
 ghost use Rattle.instance.specs.Node.{task_count};
-ghost use Rattle.dispatcher.specs.Preparing.{HoldsCore, Prepares, no_core};
+ghost use Rattle.dispatcher.specs.Preparing.{HoldsCore, Prepares};
 
 use instance::{Instance, read_instance};
 use plan_rules::{kept_tasks, plan_passes};
 use ranges::{MOST_TASKS, Slot};
-use refusals::{Refusal, Verdict};
+use refusals::Refusal;
 
 // The columns of the core's kept tasks, of which the first `count` places are filled, and the span.
 #[repr(C)]
@@ -19,30 +19,6 @@ pub struct PreparedCore {
     pub periods: [u32; MOST_TASKS as usize],
     pub windows: [u32; MOST_TASKS as usize],
     pub ticks: [u32; MOST_TASKS as usize],
-}
-
-// The core, without a task and with span 0 where it is refused.
-#[derive(Clone, Copy)]
-pub struct Prepared {
-    pub verdict: Verdict,
-    pub core: PreparedCore,
-}
-
-// No core, with the verdict that refuses it.
-pub fn unprepared(verdict: Verdict) -> Prepared
-    ensures { result ≡ record { verdict = verdict; core = no_core } }
-{
-    Prepared {
-        verdict,
-        core: PreparedCore {
-            span: 0,
-            count: 0,
-            numbers: [0; MOST_TASKS as usize],
-            periods: [0; MOST_TASKS as usize],
-            windows: [0; MOST_TASKS as usize],
-            ticks: [0; MOST_TASKS as usize],
-        },
-    }
 }
 
 // Core k, counted from 0.
@@ -70,30 +46,17 @@ fn columns_of(inst: Instance, plan: &[u32], k: usize) -> PreparedCore
 fn is_core(core: u32, cores: u32) -> bool
     ensures { result ≡ (ltb 0 core && leb core cores) }
 {
-    if core == 0 {
-        return false;
-    }
-    core <= cores
+    0 < core && core <= cores
 }
 
 // Prepares a core: the columns over which `dispatch_core` runs tick by tick.
-pub fn prepare(instance: &[u32], plan: &[u32], core: u32) -> Prepared
+pub fn prepare(instance: &[u32], plan: &[u32], core: u32) -> Result<PreparedCore, Refusal>
     ensures { Prepares instance.now plan.now core result }
 {
-    let read = read_instance(instance);
-    let words = read.verdict;
-    let Verdict::Accepted = words else {
-        return unprepared(words);
-    };
-    let verdict = plan_passes(read.instance, plan);
-    let Verdict::Accepted = verdict else {
-        return unprepared(verdict);
-    };
-    if !is_core(core, read.instance.cores) {
-        return unprepared(Verdict::Refused(Refusal::CoreOrState));
+    let inst = read_instance(instance)?;
+    plan_passes(inst, plan)?;
+    if !is_core(core, inst.cores) {
+        return Err(Refusal::CoreOrState);
     }
-    Prepared {
-        verdict,
-        core: columns_of(read.instance, plan, core as usize - 1),
-    }
+    Ok(columns_of(inst, plan, core as usize - 1))
 }

@@ -1,19 +1,18 @@
 // One tick of a core whose tasks stand in columns.
-ghost use Rattle.std.specs.Prelude.{true, ◌&&◌, ◌≡◌, ◌-◌, ◌≤◌, ◌<◌, eqb, get_or};
+ghost use Rattle.refusals.specs.Refusals.{accepted};
+ghost use Rattle.std.specs.Prelude.{true, ◌&&◌, ◌≡◌, ◌-◌, ◌≤◌, ◌<◌, eqb, get_or, Err};
 ghost use Rattle.laws.specs.Lists.{list_of};
 ghost use Rattle.ranges.specs.Limits.{most_tasks};
 ghost use Rattle.dispatch.specs.Rows.{after_run};
-ghost use Rattle.refusals.specs.declared.Verdict.TheVariants.{Accepted, Refused};
-ghost use Rattle.dispatcher.specs.ColumnLaws.{CoreColumns};
 ghost use Rattle.dispatcher.specs.Columns.{numbered_tasks, tick_outcome};
 ghost use Rattle.dispatcher.specs.States.{dispatched_where, state_fits};
 ghost use Rattle.dispatcher.specs.Ticks.{ChosenColumn};
 
-use crate::columns::{columns_fit, state_fits};
+use crate::columns::{Columns, columns_fit};
 use crate::{DispatchState, Dispatched};
 use dispatch::slot_of;
 use ranges::{MOST_TASKS, Slot};
-use refusals::{Refusal, Verdict};
+use refusals::Refusal;
 use tick_steps::{Best, due_at, earlier, is_over, is_released, next_tick, ready_ticks};
 
 // The ticks left once an early end is applied and the jobs of a tick are released, and the column of the task that then runs, or none.
@@ -23,76 +22,64 @@ struct Chosen {
     column: Option<usize>,
 }
 
-// Applies an early end, releases the jobs of this tick and chooses.
-fn release_and_choose(
-    numbers: &[Slot],
-    periods: &[u32],
-    windows: &[u32],
-    ticks: &[u32],
-    state: DispatchState,
-    ended: bool,
-) -> Chosen
-    requires { CoreColumns numbers.now periods.now windows.now ticks.now }
-    ensures { ChosenColumn numbers.now periods.now windows.now ticks.now state ended result }
-{
-    let mut after = state.left;
-    let mut best: Option<Best> = None;
-    for j in 0..numbers.len() {
-        let number = numbers[j] as u32;
-        let place = number as usize - 1;
-        let released = is_released(periods[j], state.tick);
-        let over = is_over(number, state.last, ended);
-        let ready = ready_ticks(released, over, ticks[j], after[place]);
-        after[place] = ready;
-        best = earlier(best, j, ready, due_at(periods[j], windows[j], state.tick));
-    }
-    Chosen {
-        left: after,
-        column: best.map(|best| best.column),
-    }
-}
-
 // A task runs for a tick; 0 is none.
-fn run_task(left: [u32; MOST_TASKS as usize], task: u32) -> [u32; MOST_TASKS as usize]
+fn run_task(left: &mut [u32; MOST_TASKS as usize], task: u32)
     requires task_le_most_tasks { task ≤ most_tasks }
-    requires nonzero { 0 < task → 0 < get_or left (task - 1) 0 }
-    ensures { result ≡ list_of (λ i. after_run task i (get_or left i 0)) most_tasks }
+    requires nonzero { 0 < task → 0 < get_or left.old (task - 1) 0 }
+    ensures { left.new ≡ list_of (λ i. after_run task i (get_or left.old i 0)) most_tasks }
 {
-    let mut after = left;
     if task != 0 {
-        let place = task as usize - 1;
-        after[place] = after[place] - 1;
+        left[task as usize - 1] -= 1;
     }
-    after
 }
 
-// The call for columns and a state that were tested.
-fn advance(
-    numbers: &[Slot],
-    periods: &[u32],
-    windows: &[u32],
-    ticks: &[u32],
-    span: u32,
-    state: DispatchState,
-    ended: bool,
-) -> Dispatched
-    requires core_columns { CoreColumns numbers.now periods.now windows.now ticks.now }
-    requires state_value { state_fits (numbered_tasks numbers.now periods.now windows.now ticks.now) span state ≡ true }
-    ensures { result ≡ dispatched_where Accepted
-        (numbered_tasks numbers.now periods.now windows.now ticks.now) span state ended }
-{
-    let chosen = release_and_choose(numbers, periods, windows, ticks, state, ended);
-    let task = slot_of(numbers, chosen.column) as u32;
-    let ready = chosen.left;
-    let after = run_task(ready, task);
-    Dispatched {
-        verdict: Verdict::Accepted,
-        task,
-        state: DispatchState {
-            tick: next_tick(state.tick, span),
+impl Columns<'_> {
+    // Applies an early end, releases the jobs of this tick and chooses.
+    fn release_and_choose(&self, state: DispatchState, ended: bool) -> Chosen
+        ensures { ChosenColumn self.now.numbers.now self.now.periods.now self.now.windows.now self.now.ticks.now state ended result }
+    {
+        let mut after = state.left;
+        let mut best: Option<Best> = None;
+        for (j, number) in self.numbers.iter().enumerate() {
+            let number = *number as u32;
+            let place = number as usize - 1;
+            let released = is_released(self.periods[j], state.tick);
+            let over = is_over(number, state.last, ended);
+            let ready = ready_ticks(released, over, self.ticks[j], after[place]);
+            after[place] = ready;
+            best = earlier(
+                best,
+                j,
+                ready,
+                due_at(self.periods[j], self.windows[j], state.tick),
+            );
+        }
+        Chosen {
             left: after,
-            last: task,
-        },
+            column: best.map(|best| best.column),
+        }
+    }
+
+    // The call for a state that was tested.
+    fn advance(&self, span: u32, state: DispatchState, ended: bool) -> Dispatched
+        requires { state_fits (numbered_tasks self.now.numbers.now self.now.periods.now
+            self.now.windows.now self.now.ticks.now) span state ≡ true }
+        ensures { result ≡ dispatched_where accepted
+            (numbered_tasks self.now.numbers.now self.now.periods.now self.now.windows.now self.now.ticks.now) span state ended }
+    {
+        let chosen = self.release_and_choose(state, ended);
+        let task = slot_of(self.numbers, chosen.column) as u32;
+        let mut left = chosen.left;
+        run_task(&mut left, task);
+        Dispatched {
+            verdict: Ok(()),
+            task,
+            state: DispatchState {
+                tick: next_tick(state.tick, span),
+                left,
+                last: task,
+            },
+        }
     }
 }
 
@@ -100,17 +87,14 @@ fn advance(
 fn is_unfounded(last: u32, ended: bool) -> bool
     ensures { result ≡ (ended && eqb last 0) }
 {
-    if ended {
-        return last == 0;
-    }
-    false
+    ended && last == 0
 }
 
 pub(crate) fn refused(refusal: Refusal, state: DispatchState) -> Dispatched
-    ensures { result ≡ record { verdict = Refused refusal; task = 0; state = state } }
+    ensures { result ≡ record { verdict = Err refusal; task = 0; state = state } }
 {
     Dispatched {
-        verdict: Verdict::Refused(refusal),
+        verdict: Err(refusal),
         task: 0,
         state,
     }
@@ -132,11 +116,17 @@ pub fn dispatch_prepared(
     if !columns_fit(numbers, periods, windows, ticks) {
         return refused(Refusal::CoreOrState, state);
     }
-    if !state_fits(numbers, ticks, span, state) {
+    let columns = Columns {
+        numbers,
+        periods,
+        windows,
+        ticks,
+    };
+    if !columns.state_fits(span, state) {
         return refused(Refusal::CoreOrState, state);
     }
     if is_unfounded(state.last, ended) {
         return refused(Refusal::EarlyEnd, state);
     }
-    advance(numbers, periods, windows, ticks, span, state, ended)
+    columns.advance(span, state, ended)
 }

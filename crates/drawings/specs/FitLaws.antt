@@ -1,4 +1,5 @@
 -- A core fits exactly when some row serves its jobs, and a plan passes exactly when some table makes it a drawing.
+use Rattle.refusals.specs.Refusals.{accepted}
 use Rattle.std.specs.Prelude.{ℕ, ◌+◌, ◌-◌, ◌<◌, true, List, ◌↔◌, ◌≡◌}
 use Rattle.std.proofs.Math.Bool.{not}
 use Rattle.std.proofs.Math.Logic.{⊎_elim, inl, inr}
@@ -7,7 +8,6 @@ use Rattle.std.proofs.Common.{◌∙◌}
 use native.Mathlib.Omega.{arith}
 use borrow.Author.Tests.{not-false}
 use Rattle.instance.specs.Node.{Problem, span}
-use Rattle.refusals.specs.declared.Verdict.TheVariants.{Accepted}
 use Rattle.plan_rules.specs.AllowedPlanLaws.{choices_pass-iff}
 use Rattle.drawings.specs.CheckTheorem.{check_accepts_exactly_drawings, tabulated_table_passes}
 use Rattle.checks.specs.Checks.{check}
@@ -79,29 +79,29 @@ module _ (p : Problem) (periodic : Periodic p) (plan : List ℕ) (k : ℕ) where
   )
 
 module _ (p : Problem) (plan : List ℕ) where
-  cores_fit_iff : (cores_fit p plan ≡ Accepted) ↔ ((k : ℕ) → k < p.cores → fits p plan k ≡ true)
+  cores_fit_iff : (cores_fit p plan ≡ accepted) ↔ ((k : ℕ) → k < p.cores → fits p plan k ≡ true)
   unfolding cores_fit
   cores_fit_iff = (
     λ e k h. not-false _ ((none_refused _ _ _).0 e k h),
     λ fit. (none_refused _ _ _).1 (λ k h. ap not (fit k h)),
   )
 
-  passing_core_fits : plan_passes p plan ≡ Accepted → (k : ℕ) → k < p.cores → fits p plan k ≡ true
+  passing_core_fits : plan_passes p plan ≡ accepted → (k : ℕ) → k < p.cores → fits p plan k ≡ true
   unfolding plan_passes
   passing_core_fits passes = cores_fit_iff.0 ((and_then-accepts (choices_pass p plan) _).0 passes).1
 
 module _ (p : Problem) (periodic : Periodic p) (plan : List ℕ) where
-  pub passing_core_meets_demand : plan_passes p plan ≡ Accepted → (k : ℕ) → k < p.cores → Demand (core_tasks p plan k)
+  pub passing_core_meets_demand : plan_passes p plan ≡ accepted → (k : ℕ) → k < p.cores → Demand (core_tasks p plan k)
   passing_core_meets_demand passes k h = (core_fits_iff_demand_is_met p periodic plan k).0 (passing_core_fits p plan passes k h)
 
-  pub passing_table_passes : plan_passes p plan ≡ Accepted → check p plan (table_of p plan) ≡ Accepted
+  pub passing_table_passes : plan_passes p plan ≡ accepted → check p plan (table_of p plan) ≡ accepted
   passing_table_passes passes =
       tabulated_table_passes p periodic plan passes (λ k h.
       let served = (core_fits_iff_served p periodic plan k).0 (passing_core_fits p plan passes k h) in
       edf_serves_if_any_row_does p periodic plan k served.0 served.1)
 
   -- the plan of a drawing passes ..
-  pub drawn_plan_passes : {table : List ℕ} → Drawing p plan table → plan_passes p plan ≡ Accepted
+  pub drawn_plan_passes : {table : List ℕ} → Drawing p plan table → plan_passes p plan ≡ accepted
   unfolding plan_passes
   drawn_plan_passes {table} d =
       (and_then-accepts _ _).1 (
@@ -111,6 +111,6 @@ module _ (p : Problem) (periodic : Periodic p) (plan : List ℕ) where
       )
 
   -- .. and every plan that passes has a drawing: with its own table
-  pub passing_plan_is_drawn : plan_passes p plan ≡ Accepted → Drawing p plan (table_of p plan)
+  pub passing_plan_is_drawn : plan_passes p plan ≡ accepted → Drawing p plan (table_of p plan)
   passing_plan_is_drawn passes =
       (check_accepts_exactly_drawings p periodic plan (table_of p plan)).0 (passing_table_passes passes)

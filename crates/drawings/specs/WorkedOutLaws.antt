@@ -1,11 +1,11 @@
 -- The one table that is worked out by the paper's rule is the table of the plan.
+use Rattle.refusals.specs.Refusals.{accepted}
 use Prim.Native.Nat.{ℕ, zero, suc, ◌/◌, ◌%◌, ◌*◌, ◌≤◌, ◌<◌}
 use Rattle.std.specs.Prelude.{List, ◌↔◌, ◌≡◌}
 use Rattle.std.proofs.Common.{⊎_elim, sym, ◌∙◌, eq-or-lt_of_le, eq-zero-or-pos, le_refl, arith, ext_get_or}
 use Rattle.std.proofs.Math.Nat.{div-mul-le_self}
 use Rattle.laws.specs.Below.{lt_or_le}
 use Rattle.instance.specs.Node.{Problem, task_count, task_at, span}
-use Rattle.refusals.specs.declared.Verdict.TheVariants.{Accepted}
 use Rattle.dispatch.specs.DispatchLaws.{ready_at, slot_is_choice}
 use Rattle.dispatch.specs.Earliest.{Choice, choice_unique}
 use Rattle.dispatch.specs.Rows.{slot_of, due_at}
@@ -112,7 +112,7 @@ module _ (p : Problem) (periodic : Periodic p) (plan : List ℕ) (k : ℕ) (dema
   rule_of_row slots same t h =
       choice_to_rule slots t (λ u m. same u (omega arith)) (rw (same t h) (slot_is_choice (core_tasks p plan k) t))
 
-module _ (p : Problem) (periodic : Periodic p) (plan : List ℕ) (passes : plan_passes p plan ≡ Accepted) where
+module _ (p : Problem) (periodic : Periodic p) (plan : List ℕ) (passes : plan_passes p plan ≡ accepted) where
   table_is_worked_out : WorkedOut p plan (table_of p plan)
   table_is_worked_out =
       record {
@@ -139,7 +139,7 @@ module _ (p : Problem) (periodic : Periodic p) (plan : List ℕ) (passes : plan_
 -- That the plan passes is needed: on a core that does not fit, a job that is unfinished when the next of its task is
 -- released still waits under the rule, while dispatching drops it. With two ticks a job, task 1 of period 2 and task 2 of
 -- period 3, job 0 of task 2 lacks a tick when it is due at 3: the rule has the row 1 1 2 2 1 1, dispatching 1 1 2 1 1 1.
-pub worked_out_is_table : (p : Problem) → Periodic p → (plan : List ℕ) → plan_passes p plan ≡ Accepted → (table : List ℕ) →
+pub worked_out_is_table : (p : Problem) → Periodic p → (plan : List ℕ) → plan_passes p plan ≡ accepted → (table : List ℕ) →
     WorkedOut p plan table ↔ (table ≡ table_of p plan)
 worked_out_is_table p periodic plan passes table = (
   λ worked.

@@ -5,7 +5,6 @@ use crate::fits::unfit_core;
 use crate::site::{Site, site_of};
 use crate::tried::Tried;
 use instance::Instance;
-use prices::Priced;
 use ranges::Slot;
 use refusals::Refusal;
 
@@ -21,19 +20,19 @@ fn try_plan(words: &[u32], inst: &Instance, choices: &[u32], best: &mut [u32], s
     requires few { length choices.now ≤ 12 }
 {
     match prices::price(words, choices) {
-        Priced::Cost(price) => {
+        Ok(price) => {
             if unfit_core(inst, choices).is_some() {
                 so_far.count_other_fit();
             } else if so_far.count_price(price) {
                 best.copy_from_slice(choices);
             }
         }
-        Priced::Refused(Refusal::CoreOverloaded(core)) => {
+        Err(Refusal::CoreOverloaded(core)) => {
             if unfit_core(inst, choices).is_none_or(|lowest| lowest as usize != core) {
                 so_far.count_other_fit();
             }
         }
-        Priced::Refused(_) => {}
+        Err(_) => {}
     }
 }
 
@@ -92,10 +91,13 @@ pub fn plan(words: &[u32], plan: &mut [u32], table: &mut [Slot]) -> Tried {
 fn plan_site(words: &[u32], site: Site, plan: &mut [u32], table: &mut [Slot]) -> Tried
     requires { length plan.now ≤ 12 }
 {
-    let read = instance::read_instance(words);
-    let tried = try_all(words, &read.instance, site.most, plan);
+    let inst = match instance::read_instance(words) {
+        Ok(inst) => inst,
+        Err(why) => return Tried::refused(why),
+    };
+    let tried = try_all(words, &inst, site.most, plan);
     if tried.answer.is_ok() {
-        tables::tabulate(words, plan, table);
+        let _ = tables::tabulate(words, plan, table);
     }
     tried
 }

@@ -1,6 +1,6 @@
 // What an instance's words say.
 use instance::{Instance, read_instance};
-use refusals::{Refusal, Verdict};
+use refusals::Refusal;
 
 // The sizes of an instance: tasks, ticks of the span, slots of a table, and the largest choice of a plan.
 #[derive(Clone, Copy)]
@@ -25,9 +25,6 @@ fn sizes_of(inst: &Instance) -> Site {
 }
 
 pub fn site_of(words: &[u32]) -> Result<Site, Refusal> {
-    let read = read_instance(words);
-    match read.verdict {
-        Verdict::Accepted => Ok(sizes_of(&read.instance)),
-        Verdict::Refused(why) => Err(why),
-    }
+    let inst = read_instance(words)?;
+    Ok(sizes_of(&inst))
 }

@@ -4,6 +4,6 @@ pub mod Agreement
 pub mod Formats
 pub mod TimesLaws
 pub mod ReadingLaws
-pub mod Cursors
-pub mod CursorLaws
+pub mod Readers
+pub mod ReaderLaws
 pub mod WordLaws

@@ -1,6 +1,6 @@
 -- Taking words from the front of a list. Of the paper's section 'Refused input' the rows 2 and 3: "words are taken from
 -- the front, each tested".
-use Rattle.std.specs.Prelude.{ℕ, suc, Bool, cond, ◌&&◌, List, [], ◌∷◌, leb}
+use Rattle.std.specs.Prelude.{ℕ, suc, Bool, cond, ◌&&◌, List, [], ◌∷◌, leb, Ok, Err}
 use Rattle.refusals.specs.Refusals.{Reading}
 use Rattle.refusals.specs.declared.Refusal.{Refusal}
 use Rattle.refusals.specs.declared.Refusal.TheVariants.{WordCount, WordRange}
@@ -12,8 +12,8 @@ pub data Taken (A : Type 0) : Type 0 where
 
 -- the same without the words that are left
 abbrev pub reading_of : {A : Type 0} → Taken A → Reading A
-reading_of (refused r) = Reading.refused r
-reading_of (taken a at words) = Reading.accepted a
+reading_of (refused r) = Err r
+reading_of (taken a at words) = Ok a
 
 -- a way to take words: from the index of the next word, and the words from there on
 abbrev pub Take : Type 0 → Type 0

@@ -1,34 +1,21 @@
 -- Code that takes the deadlines: how it begins, goes on and ends.
-use Rattle.std.specs.Prelude.{ℕ, ◌+◌, ◌≤◌, ◌<◌, Bool, false, ◌≢◌, ◌≡◌, length, take, set, replicate, get_or, drop}
+use Rattle.std.specs.Prelude.{ℕ, zero, suc, ◌+◌, ◌-◌, ◌≤◌, ◌<◌, Bool, false, ◌≢◌, ◌≡◌, length, take, set, replicate, get_or, drop, Result, Ok, Err}
 use Rattle.std.proofs.Math.Path.{refl}
-use Rattle.std.proofs.Common.{sym, ap, ◌∙◌, add-one, arith, take-suc, eq-eqb, ne_eqb}
+use Rattle.std.proofs.Common.{take_all, sym, ap, ◌∙◌, add-one, add-zero, arith, take-suc, take-suc-set, length-set, eq-eqb, ne_eqb}
+use Rattle.std.proofs.Math.Seq.{take_at}
+use Rattle.std.proofs.lemmas.List.{get_or-drop, drop_more, drop-set-lt, take-append-drop}
 use mathlib.Core.List.{List, [], ◌∷◌, ◌++◌}
-use Rattle.laws.specs.PaddedLaws.{Filled, filled_none, filled_more, front_more, length_padded}
+use Rattle.laws.specs.Lists.{padded}
+use Rattle.laws.specs.PaddedLaws.{Filled}
 use Rattle.ranges.specs.Limits
-use Rattle.refusals.specs.declared.Refusal.TheVariants.{WordRange}
-use Rattle.formats.specs.CursorLaws.{and_then_lem, gets_done, gets_other}
-use Rattle.formats.specs.Cursors.{ends_at, Gets, GetsWord, refused_unless}
+use Rattle.refusals.specs.declared.Refusal.{Refusal}
+use Rattle.formats.specs.ReaderLaws.{first_refused, then_takes, takes_done, takes_other, present_taken}
+use Rattle.formats.specs.Readers.{Left, Takes, mapped, is_ended}
 use Rattle.formats.specs.Taking.{Taken, refused, taken, continue, take_word}
-use Rattle.formats.specs.WordLaws.{passing_gets, present_gets}
-use Rattle.formats.specs.declared.Cursor.{Cursor}
-use Rattle.formats.specs.declared.Got.{Got}
 use Rattle.instance.specs.Node.{no_task}
-use Rattle.instance.specs.RangeLaws.{in_range_between, deadline_count_in_range}
-use Rattle.instance.specs.Sections.{TasksHeld, DeadlinesSoFar}
-use Rattle.instance.specs.SiteFile.{due_within, with_deadline, with_deadlines, is_deadline_count, deadline_section, deadlines}
+use Rattle.instance.specs.Sections.{DeadlinesSoFar}
+use Rattle.instance.specs.SiteFile.{with_deadline, with_deadlines, is_deadline_count, deadline_section, deadlines}
 use Rattle.instance.specs.declared.Task.{Task}
-use Rattle.instance.specs.declared.deadlines.DeadlineGot.{DeadlineGot}
-
-pub deadline_gets : {all : List ℕ} {c : Cursor} (t : Task) {got : Got} → GetsWord all c 1 t.period got →
-    Gets all c (with_deadline t).take (due_within got.value t) got.cursor
-unfolding with_deadline
-deadline_gets t word = and_then_lem _ word.gets (gets_done _)
-
-pub deadline_count_gets : {all : List ℕ} {c after : Cursor} (n : ℕ) {got : Got} {passes : Bool} → GetsWord all c 0 n got →
-    passes ≡ is_deadline_count n got.value → after ≡ refused_unless passes (WordRange c.at) got.cursor →
-    Gets all c (take_word (is_deadline_count n)) got.value after
-deadline_count_gets n word says after_is =
-    rw (after_is, says) (passing_gets 0 n (is_deadline_count n) (λ w is. in_range_between (deadline_count_in_range is)) word)
 
 -- the deadlines of one task more
 module _ (t : Task) where
@@ -59,49 +46,106 @@ module _ (t : Task) where
       go (refused r) others = refl
       go (taken d at words) others = rw (others at words) (one_more_after d ((with_deadlines ts).take at words))
 
-pub deadlines_begin : (all : List ℕ) (array : List Task) (count : ℕ) (start : Cursor) →
-    DeadlinesSoFar all array count start start (replicate Limits.most_tasks no_task) 0
+pub deadlines_begin : (start : Left) (before : List Task) → DeadlinesSoFar start start before before 0
 unfolding with_deadlines
-deadlines_begin all array count start =
-    record { at_most = omega arith; filled = filled_none Limits.most_tasks no_task; gets = gets_done [] }
+deadlines_begin start before = record { same_length = refl; takes = takes_done []; others = refl }
 
-module _ {all : List ℕ} {array : List Task} {count : ℕ} {start c : Cursor} {due : List Task} {i : ℕ} (held : TasksHeld array count)
-    (so_far : DeadlinesSoFar all array count start c due i) where
-  pub deadlines_more : (got : DeadlineGot) → i < count → Gets all c (with_deadline (get_or array i no_task)).take got.task got.cursor →
-      DeadlinesSoFar all array count start got.cursor (set due i got.task) (i + 1)
-  deadlines_more got below gets =
-      let room : i < Limits.most_tasks = omega (arith, held.count_within) in
-      let long : length array ≡ Limits.most_tasks =
-      ap length held.filled.is_padded ∙ length_padded Limits.most_tasks no_task (take count array) in
-      let front = front_more Limits.most_tasks no_task due i got.task room so_far.filled in
-      let task = get_or array i no_task in
-      let both : Gets all start (with_deadlines (take i array ++ (task ∷ []))).take (take i due ++ (got.task ∷ [])) got.cursor =
-      gets_other _ (λ none. sym (deadlines_of_more task (take i array) start.at (drop start.at all)))
-      (and_then_lem (one_more task) so_far.gets (and_then_lem _ gets (gets_done _))) in
+-- where some are refused, all are
+front_refused : (xs ys : List Task) (r : Refusal) (at : ℕ) (words : List ℕ) →
+    (with_deadlines xs).take at words ≡ refused r → (with_deadlines (xs ++ ys)).take at words ≡ refused r
+unfolding with_deadlines
+front_refused [] ys r at words e = let z : ◌≡◌ {A = ℕ} 0 1 = cc in absurd (omega arith)
+front_refused (x ∷ xs) ys r at words e = go ((with_deadline x).take at words) (front_refused xs ys r) e
+  where
+    Others : Type 0
+    Others = (at : ℕ) (words : List ℕ) → (with_deadlines xs).take at words ≡ refused r → (with_deadlines (xs ++ ys)).take at words ≡ refused r
+
+    after_refused : (d : Task) (t : Taken (List Task)) → after_one x d t ≡ refused r → t ≡ refused r
+    after_refused d (refused q) e = e
+    after_refused d (taken due next left) e = let z : ◌≡◌ {A = ℕ} 0 1 = cc in absurd (omega arith)
+
+    go : (t : Taken Task) → Others → continue t (λ d at words. after_one x d ((with_deadlines xs).take at words)) ≡ refused r →
+        continue t (λ d at words. after_one x d ((with_deadlines (xs ++ ys)).take at words)) ≡ refused r
+    go (refused q) others e = e
+    go (taken d at words) others e = rw (others at words (after_refused d ((with_deadlines xs).take at words) e)) refl
+
+module _ {start now : Left} {before after : List Task} {i : ℕ} (so_far : DeadlinesSoFar start now before after i) where
+  same_task : get_or after i no_task ≡ get_or before i no_task
+  same_task =
+      rw add-zero at (sym (get_or-drop i after 0 no_task) ∙ ap (λ (l : List Task). get_or l 0 no_task) so_far.others ∙ get_or-drop i before 0 no_task)
+
+  one_more_dated : {result : Result Task Refusal} {left : Left} → i < length before →
+      Takes now (with_deadline (get_or after i no_task)).take result left →
+      Takes start (with_deadlines (take (i + 1) before)).take (mapped (λ t. take i after ++ (t ∷ [])) result) left
+  one_more_dated {result = Err r} below one =
+      rw (add-one i, take-suc before i no_task below)
+      (takes_other _ (sym (deadlines_of_more (get_or before i no_task) (take i before) start.at start.words))
+      (then_takes (one_more (get_or before i no_task)) so_far.takes (first_refused _ (rw same_task at one))))
+  one_more_dated {result = Ok t} below one =
+      rw (add-one i, take-suc before i no_task below)
+      (takes_other _ (sym (deadlines_of_more (get_or before i no_task) (take i before) start.at start.words))
+      (then_takes (one_more (get_or before i no_task)) so_far.takes (then_takes _ (rw same_task at one) (takes_done _))))
+
+  pub deadlines_more : {t : Task} {left : Left} → i < length before → Takes now (with_deadline (get_or after i no_task)).take (Ok t) left →
+      DeadlinesSoFar start left before (set after i t) (i + 1)
+  deadlines_more {t} below one =
+      let there : i < length after = omega (arith, so_far.same_length) in
       record {
-        at_most = omega arith;
-        filled = filled_more Limits.most_tasks no_task due i got.task room so_far.filled;
-        gets = rw (front, add-one i, take-suc array i no_task (omega arith)) both;
+        same_length = length-set after i t ∙ so_far.same_length;
+        takes = rw (add-one i, take-suc-set after i t there, ← add-one i) (one_more_dated below one);
+        others = go t there below;
       }
+    where
+      go : (t : Task) → i < length after → i < length before → drop (i + 1) (set after i t) ≡ drop (i + 1) before
+      go t there below =
+          let a = drop_more after i no_task there in
+          let b = drop_more before i no_task below in
+          drop-set-lt (i + 1) after i t (omega arith) ∙ ap (λ (l : List Task). drop 1 l) (sym a ∙ so_far.others ∙ b)
 
-  module _ (all_taken : count ≤ i) where
-    all_are : i ≡ count
-    all_are = omega (arith, so_far.at_most)
+  pub deadlines_refused : {r : Refusal} {left end : Left} → i < length before →
+      Takes now (with_deadline (get_or after i no_task)).take (Err r) left → Takes start (with_deadlines before).take (Err r) end
+  deadlines_refused {r} below one =
+      let front = front_refused (take (i + 1) before) (drop (i + 1) before) r start.at start.words (one_more_dated below one).leaves in
+      record { leaves = rw take-append-drop at front }
 
-    pub deadlines_end : Gets all start (with_deadlines (take count array)).take (take count due) c
-    deadlines_end = rw all_are at so_far.gets
+  pub deadlines_end : length before ≤ i → Takes start (with_deadlines before).take (Ok after) now
+  deadlines_end all =
+      rw (take_all i before all, take_all i after (omega (arith, so_far.same_length))) at so_far.takes
 
-    pub deadlines_filled : Filled Limits.most_tasks no_task due count
-    deadlines_filled = rw all_are at so_far.filled
+-- the front of a filled array in other tasks
+other_front : (n : ℕ) (xs ys : List Task) → length ys ≡ length xs → length xs ≤ n →
+    ys ++ drop (length xs) (padded n no_task xs) ≡ padded n no_task ys
+unfolding padded
+other_front zero [] [] same few = refl
+other_front zero [] (y ∷ ys) same few = absurd (omega (arith, same))
+other_front zero (x ∷ xs) ys same few = absurd (omega arith)
+other_front (suc n) [] [] same few = refl
+other_front (suc n) [] (y ∷ ys) same few = absurd (omega (arith, same))
+other_front (suc n) (x ∷ xs) [] same few = absurd (omega (arith, same))
+other_front (suc n) (x ∷ xs) (y ∷ ys) same few = ap (λ (l : List Task). y ∷ l) (other_front n xs ys (omega (arith, same)) (omega arith))
+
+pub dated_is_filled : {array : List Task} {count : ℕ} (due : List Task) → Filled Limits.most_tasks no_task array count →
+    count ≤ Limits.most_tasks → length due ≡ count → Filled Limits.most_tasks no_task (due ++ drop count array) count
+dated_is_filled {array} {count} due filled few same =
+    let front : take count (due ++ drop count array) ≡ due = take_at due _ _ same in
+    let put = other_front Limits.most_tasks (take count array) due (same ∙ sym filled.count) (omega (arith, filled.count)) in
+    record {
+      count = rw front same;
+      is_padded = rw front (ap (λ (l : List Task). due ++ drop count l) filled.is_padded ∙ rw filled.count at put);
+    }
 
 -- the whole section, where the list goes on
-module _ {all : List ℕ} {c middle : Cursor} (ts : List Task) {n count : ℕ} (counts : length ts ≡ n) (goes_on : ends_at all c ≡ false)
-    (counted : Gets all c (take_word (is_deadline_count n)) count middle) where
-  pub no_deadlines_get : count ≡ 0 → Gets all c (deadlines ts).take ts middle
+module _ {start middle : Left} (ts : List Task) {n : ℕ} (counts : length ts ≡ n) (goes_on : is_ended start ≡ false) where
+  pub no_count : {r : Refusal} {after : Left} → Takes start (take_word (is_deadline_count n)) (Err r) middle → Takes start (deadlines ts).take (Err r) after
   unfolding deadlines deadline_section
-  no_deadlines_get none = present_gets ts _ goes_on (rw counts (and_then_lem _ counted (rw (eq-eqb count 0 none) (gets_done ts))))
+  no_count counted = present_taken ts _ goes_on (rw counts (first_refused _ counted))
 
-  pub all_deadlines_get : {due : List Task} {after : Cursor} → count ≢ 0 → Gets all middle (with_deadlines ts).take due after →
-      Gets all c (deadlines ts).take due after
-  unfolding deadlines deadline_section
-  all_deadlines_get some gets = present_gets ts _ goes_on (rw counts (and_then_lem _ counted (rw (ne_eqb count 0 some) gets)))
+  module _ {count : ℕ} (counted : Takes start (take_word (is_deadline_count n)) (Ok count) middle) where
+    pub no_deadlines : count ≡ 0 → Takes start (deadlines ts).take (Ok ts) middle
+    unfolding deadlines deadline_section
+    no_deadlines none = present_taken ts _ goes_on (rw counts (then_takes _ counted (rw (eq-eqb count 0 none) (takes_done ts))))
+
+    pub all_deadlines : {result : Result (List Task) Refusal} {after : Left} → count ≢ 0 → Takes middle (with_deadlines ts).take result after →
+        Takes start (deadlines ts).take result after
+    unfolding deadlines deadline_section
+    all_deadlines some takes = present_taken ts _ goes_on (rw counts (then_takes _ counted (rw (ne_eqb count 0 some) takes)))

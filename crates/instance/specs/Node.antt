@@ -1,6 +1,6 @@
 -- The paper's section 'The node and its tasks': a problem instance as mathematics has it, and as the code's struct
 -- holds it.
-use Rattle.std.specs.Prelude.{ℕ, List, [], ◌∷◌, length, get_or, replicate}
+use Rattle.std.specs.Prelude.{ℕ, List, [], ◌∷◌, length, get_or}
 use Rattle.laws.specs.Lists.{padded}
 use Rattle.laws.specs.Multiples.{lcm}
 use Rattle.ranges.specs.Limits.{most_levels, most_tasks}
@@ -60,19 +60,4 @@ stored p =
       taskcount = task_count p;
       tasks = padded most_tasks no_task p.tasks;
       span = span p;
-    }
-
--- what is handed over in the place of an instance that was refused
-abbrev pub no_instance : Instance
-no_instance =
-    record {
-      weights = record { energy = 0; penalty = 0 };
-      cores = 0;
-      idle = 0;
-      start = 0;
-      levelcount = 0;
-      levels = replicate most_levels no_level;
-      taskcount = 0;
-      tasks = replicate most_tasks no_task;
-      span = 0;
     }

@@ -8,7 +8,8 @@ use Rattle.formats.specs.Written.{then, nothing}
 use Rattle.formats.specs.Written as Written
 use Rattle.instance.specs.Node.{Problem}
 use Rattle.instance.specs.RangeLaws.{between_in_range, in_range_between}
-use Rattle.instance.specs.SiteFile.{SiteFormat, Settings, setting_from, settings}
+use Rattle.instance.specs.declared.site.Settings.{Settings}
+use Rattle.instance.specs.SiteFile.{SiteFormat, setting_from, settings}
 use Rattle.instance.specs.Valid.{InRange, Valid, WritesSettings, three, four, five}
 
 -- a setting of value v, after a count, in the words up to `rest`

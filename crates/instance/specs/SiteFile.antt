@@ -1,6 +1,6 @@
 -- Document 01's section 'Site file', the words, with (a) and (c) of document 02: "sections stand in a fixed order, each after
 -- its count", and of 'Refused input' the rows 2, 3 and 4: "words are taken from the front, each tested for 2, 3, 4".
-use Rattle.std.specs.Prelude.{ℕ, suc, Bool, cond, ◌||◌, List, [], ◌∷◌, refl, leb, eqb, length}
+use Rattle.std.specs.Prelude.{ℕ, suc, Bool, cond, ◌||◌, List, [], ◌∷◌, refl, leb, eqb, length, Ok, Err}
 use Rattle.laws.specs.Multiples.{lcm}
 use Rattle.ranges.specs.Limits
 use Rattle.refusals.specs.Refusals.{Reading}
@@ -11,18 +11,11 @@ use Rattle.formats.specs.Written.{Format}
 use Rattle.instance.specs.Node.{Problem, no_level, span_from}
 use Rattle.instance.specs.declared.Level.{Level}
 use Rattle.instance.specs.declared.Task.{Task}
-use Rattle.instance.specs.declared.Weights.{Weights}
+use Rattle.instance.specs.declared.site.Settings.{Settings}
 
 -- 4 is the number of the one test that is not of a word alone
 abbrev pub SiteFormat : Type 0 → Type 1
 SiteFormat A = Format 4 A
-
--- "energy weight 1 to 1,000; penalty weight 1 to 1,000; M 1 to 4"
-pub record Settings : Type 0 where
-  pub weights : Weights
-  pub cores : ℕ
-  pub idle : ℕ
-  pub start : ℕ
 
 -- a setting, 0 to `most`, that is given where the settings count `from` or more, and is 0 where they count fewer
 unfoldable pub setting_from : (from most count : ℕ) → SiteFormat ℕ
@@ -36,7 +29,7 @@ idle_power = setting_from Limits.settings_with_idle Limits.most_idle_power
 abbrev pub start_ticks : ℕ → SiteFormat ℕ
 start_ticks = setting_from Limits.settings_with_start Limits.most_start_ticks
 
--- settings | 3, 4 or 5
+-- settings | 3, 4 or 5, then "energy weight 1 to 1,000; penalty weight 1 to 1,000; M 1 to 4"
 unfoldable pub settings : SiteFormat Settings
 settings = do
   count ← word Limits.settings_without_idle Limits.settings_with_start
@@ -131,8 +124,8 @@ site_file = do
   done (record { weights = s.weights; cores = s.cores; idle = s.idle; start = s.start; levels = ls; tasks = due })
 
 abbrev pub reading_of : Taken Problem → Reading Problem
-reading_of (refused r) = Reading.refused r
-reading_of (taken p at words) = Reading.accepted p
+reading_of (refused r) = Err r
+reading_of (taken p at words) = Ok p
 
 -- the instance that a list of words is
 unfoldable pub problem_of : List ℕ → Reading Problem

@@ -1,8 +1,7 @@
 -- Reading accepts exactly the words that write valid instances, each as the instance that they write.
-use Rattle.std.specs.Prelude.{ℕ, suc, ◌≡◌, refl, List, [], ◌∷◌, ◌++◌}
+use Rattle.std.specs.Prelude.{ℕ, suc, ◌≡◌, refl, List, [], ◌∷◌, ◌++◌, Ok}
 use Rattle.std.proofs.Common.{ap, ◌∙◌, append_assoc, arith}
 use Rattle.ranges.specs.Limits
-use Rattle.refusals.specs.Refusals.{accepted}
 use Rattle.formats.specs.Taking.{Taken}
 use Rattle.formats.specs.TimesLaws.{times_written, many_written}
 use Rattle.formats.specs.Written.{Outcome, took, turned, then, nothing}
@@ -111,20 +110,20 @@ site_file_writes {p} v (sections {settings = front} {deadlines = back} settings_
     (then (Written.word _ (in_range_between task_number)) (rw (period_ends_count p.tasks) at ts))
     (then (valid_deadlines p.tasks v.task deadline_words) (then Written.EndWrites.ended nothing)))))
 
-accepted_read : (words : List ℕ) {p : Problem} → problem_of words ≡ accepted p → Read p words
+accepted_read : (words : List ℕ) {p : Problem} → problem_of words ≡ Ok p → Read p words
 unfolding problem_of
 accepted_read words {p} = go (site_file.sound 0 words)
   where
-    go : {t : Taken Problem} → Outcome 4 site_file.Writes 0 words t → reading_of t ≡ accepted p → Read p words
+    go : {t : Taken Problem} → Outcome 4 site_file.Writes 0 words t → reading_of t ≡ Ok p → Read p words
     go (turned r number place) same = let z : ◌≡◌ {A = ℕ} 0 1 = cc in absurd (omega arith)
     go (took {a = q} {rest = rest} writes consumed) same = let q_is_p : q ≡ p = cc in rw q_is_p at (site_file_read rest writes)
 
-pub accepted_is_valid : (words : List ℕ) {p : Problem} → problem_of words ≡ accepted p → Valid p
+pub accepted_is_valid : (words : List ℕ) {p : Problem} → problem_of words ≡ Ok p → Valid p
 accepted_is_valid words e = (accepted_read words e).valid
 
-pub accepted_is_written : (words : List ℕ) {p : Problem} → problem_of words ≡ accepted p → Writes p words
+pub accepted_is_written : (words : List ℕ) {p : Problem} → problem_of words ≡ Ok p → Writes p words
 accepted_is_written words e = (accepted_read words e).written
 
-pub valid_is_accepted : {p : Problem} {words : List ℕ} → Valid p → Writes p words → problem_of words ≡ accepted p
+pub valid_is_accepted : {p : Problem} {words : List ℕ} → Valid p → Writes p words → problem_of words ≡ Ok p
 unfolding problem_of
 valid_is_accepted v writes = ap reading_of (site_file.complete 0 (site_file_writes v writes)).1

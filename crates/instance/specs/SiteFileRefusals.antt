@@ -1,5 +1,5 @@
 -- Reading words refuses with 2, 3 or 4 and with no other number, at a place among the words or just after them.
-use Rattle.std.specs.Prelude.{ℕ, ◌≤◌, ◌≡◌, refl, ◌⊎◌, length}
+use Rattle.std.specs.Prelude.{ℕ, ◌≤◌, ◌≡◌, refl, ◌⊎◌, length, Ok, Err}
 use mathlib.Core.List.{List, [], ◌∷◌, Memᴰ}
 use Rattle.std.proofs.Common.{inl, inr, ⊎_elim, eq-or-lt_of_le, arith}
 use Rattle.refusals.specs.RefusalNumbers.{UnreadOnly, read, unread}
@@ -21,11 +21,11 @@ two_three_or_four (inl e) = omega arith
 two_three_or_four (inr (inl e)) = omega arith
 two_three_or_four (inr (inr e)) = omega arith
 
-pub reading_refusal : (words : List ℕ) {r : Refusal} → problem_of words ≡ Reading.refused r → ReadingRefusal (length words) r
+pub reading_refusal : (words : List ℕ) {r : Refusal} → problem_of words ≡ Err r → ReadingRefusal (length words) r
 unfolding problem_of
 reading_refusal words {r} = go (site_file.sound 0 words)
   where
-    go : {t : Taken Problem} → Outcome 4 site_file.Writes 0 words t → reading_of t ≡ Reading.refused r → ReadingRefusal (length words) r
+    go : {t : Taken Problem} → Outcome 4 site_file.Writes 0 words t → reading_of t ≡ Err r → ReadingRefusal (length words) r
     go (took writes consumed) e = let z : ◌≡◌ {A = ℕ} 0 1 = cc in absurd (omega arith)
     go (turned s number place) e =
         let same : s ≡ r = cc in
@@ -48,5 +48,5 @@ pub reading_refuses_2_3_4 : (words : List ℕ) → UnreadOnly (2 ∷ 3 ∷ 4 ∷
 reading_refuses_2_3_4 words = go (problem_of words) refl
   where
     go : (reading : Reading Problem) → problem_of words ≡ reading → UnreadOnly (2 ∷ 3 ∷ 4 ∷ []) reading
-    go (Reading.accepted p) e = read p
-    go (Reading.refused r) e = unread (two_to_four (reading_refusal words e).number)
+    go (Ok p) e = read p
+    go (Err r) e = unread (two_to_four (reading_refusal words e).number)

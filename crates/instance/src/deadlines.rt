@@ -1,42 +1,21 @@
 // The deadlines section of a site file. Where it is absent, or counts 0, each task stays due when its period ends.
-ghost use Rattle.std.specs.Prelude.{take, ◌≡◌};
-ghost use Rattle.formats.specs.Cursors.{Gets};
+ghost use Rattle.std.specs.Prelude.{◌≡◌, length};
+ghost use Rattle.formats.specs.Readers.{Takes, mapped};
 ghost use Rattle.formats.specs.Taking.{take_word};
-ghost use Rattle.instance.specs.Sections.{TasksHeld, GetsDeadlines};
-ghost use Rattle.instance.specs.SiteFile.{with_deadline, with_deadlines, is_deadline_count, deadlines};
+ghost use Rattle.instance.specs.Sections.{TasksHeld, DatesTasks, TakesDeadlines};
+ghost use Rattle.instance.specs.SiteFile.{with_deadline, is_deadline_count};
 
 use crate::Task;
-use formats::{Cursor, Got, list_ends, refuse_unless, word_next};
-use refusals::Refusal;
-
-#[derive(Clone, Copy)]
-struct DeadlineGot {
-    task: Task,
-    cursor: Cursor,
-}
-
-// The tasks with their deadlines; the places behind them are all zero.
-#[derive(Clone, Copy)]
-pub(crate) struct DeadlinesGot {
-    pub(crate) tasks: [Task; ranges::MOST_TASKS as usize],
-    pub(crate) cursor: Cursor,
-}
+use crate::tasks::Tasks;
+use formats::WordReader;
+use refusals::{Refusal, Verdict};
 
 // The task, with the next word as its deadline.
-fn deadline_next(words: &[u32], cursor: Cursor, task: Task) -> DeadlineGot
-    ensures { Gets words.now cursor (with_deadline task).take result.task result.cursor }
+fn deadline_next(words: &mut WordReader, task: Task) -> Result<Task, Refusal>
+    ensures { Takes words.old (with_deadline task).take result words.new }
 {
-    let got = word_next(words, cursor, 1, task.period);
-    let after = got.cursor;
-    DeadlineGot {
-        task: Task {
-            period: task.period,
-            cycles: task.cycles,
-            penalty: task.penalty,
-            deadline: got.value,
-        },
-        cursor: after,
-    }
+    let deadline = words.word(1, task.period)?;
+    Ok(Task { deadline, ..task })
 }
 
 fn is_deadline_count(count: u32, tasks: u32) -> bool
@@ -46,70 +25,38 @@ fn is_deadline_count(count: u32, tasks: u32) -> bool
 }
 
 // The section's count: 0, or the number of tasks.
-fn deadline_count_next(words: &[u32], cursor: Cursor, tasks: u32) -> Got
-    ensures { Gets words.now cursor (take_word (is_deadline_count tasks)) result.value result.cursor }
+fn deadline_count_next(words: &mut WordReader, tasks: u32) -> Result<u32, Refusal>
+    ensures { Takes words.old (take_word (is_deadline_count tasks)) result words.new }
 {
-    let first = cursor.at;
-    let got = word_next(words, cursor, 0, tasks);
-    let count = got.value;
-    let passes = is_deadline_count(count, tasks);
-    let tested = refuse_unless(passes, Refusal::WordRange(first), got.cursor);
-    Got {
-        value: count,
-        cursor: tested,
+    let first = words.place();
+    let count = words.word(0, tasks)?;
+    if !is_deadline_count(count, tasks) {
+        return Err(Refusal::WordRange(first));
     }
+    Ok(count)
 }
 
-fn each_deadline_next(
-    words: &[u32],
-    cursor: Cursor,
-    tasks: [Task; ranges::MOST_TASKS as usize],
-    count: usize,
-) -> DeadlinesGot
-    requires { TasksHeld tasks count }
-    ensures { GetsDeadlines words.now cursor (with_deadlines (take count tasks)) count result }
+fn each_deadline_next(words: &mut WordReader, tasks: &mut [Task]) -> Verdict
+    ensures { DatesTasks words.old tasks.old result words.new tasks.new }
 {
-    let mut at = cursor;
-    let mut due = [Task {
-        period: 0,
-        cycles: 0,
-        penalty: 0,
-        deadline: 0,
-    }; ranges::MOST_TASKS as usize];
-    let mut i: usize = 0;
-    while i < count {
-        let task = tasks[i];
-        let got = deadline_next(words, at, task);
-        at = got.cursor;
-        let dated = got.task;
-        due[i] = dated;
-        i += 1;
+    for task in tasks.iter_mut() {
+        *task = deadline_next(words, *task)?;
     }
-    DeadlinesGot {
-        tasks: due,
-        cursor: at,
-    }
+    Ok(())
 }
 
-pub(crate) fn deadlines_next(
-    words: &[u32],
-    cursor: Cursor,
-    tasks: [Task; ranges::MOST_TASKS as usize],
-    count: usize,
-) -> DeadlinesGot
-    requires { TasksHeld tasks count }
-    ensures { GetsDeadlines words.now cursor (deadlines (take count tasks)) count result }
+// The tasks get their deadlines.
+pub(crate) fn deadlines_next(words: &mut WordReader, tasks: &mut Tasks) -> Verdict
+    requires { TasksHeld tasks.old.array tasks.old.count }
+    ensures { TakesDeadlines words.old tasks.old result words.new tasks.new }
 {
-    if list_ends(words, cursor) {
-        return DeadlinesGot { tasks, cursor };
+    if words.is_ended() {
+        return Ok(());
     }
-    let counted = deadline_count_next(words, cursor, count as u32);
-    let after = counted.cursor;
-    if counted.value == 0 {
-        return DeadlinesGot {
-            tasks,
-            cursor: after,
-        };
+    let all = tasks.count;
+    let count = deadline_count_next(words, all as u32)?;
+    if count == 0 {
+        return Ok(());
     }
-    each_deadline_next(words, after, tasks, count)
+    each_deadline_next(words, &mut tasks.array[..all])
 }

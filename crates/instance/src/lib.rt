@@ -7,7 +7,6 @@ mod multiples;
 mod site;
 mod tasks;
 
-use refusals::Verdict;
 pub use site::read_instance;
 
 // A clock level: cycles run in a tick, and power drawn in a busy tick.
@@ -46,11 +45,4 @@ pub struct Instance {
     pub taskcount: usize,
     pub tasks: [Task; ranges::MOST_TASKS as usize],
     pub span: u32,
-}
-
-// The instance that a list of words is; all zero where the list is refused.
-#[derive(Clone, Copy)]
-pub struct InstanceRead {
-    pub verdict: Verdict,
-    pub instance: Instance,
 }

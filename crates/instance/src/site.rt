@@ -1,135 +1,86 @@
 // From the words of a site file to the instance that they are.
 ghost use Rattle.std.specs.Prelude.{◌≡◌};
-ghost use Rattle.formats.specs.Cursors.{Gets};
-ghost use Rattle.instance.specs.Outcomes.{instance_outcome, instance_read_of, ReadingEnds};
-ghost use Rattle.refusals.specs.Refusals.{refused};
-ghost use Rattle.instance.specs.Sections.{settings_in};
+ghost use Rattle.formats.specs.Readers.{Takes};
+ghost use Rattle.instance.specs.Outcomes.{instance_outcome, ReadingEnds};
 ghost use Rattle.instance.specs.SiteFile.{setting_from, settings};
 
 use crate::deadlines::deadlines_next;
 use crate::levels::levels_next;
 use crate::tasks::tasks_next;
-use crate::{Instance, InstanceRead, Level, Task, Weights};
-use formats::{Cursor, Got, cursor_at_start, end_next, word_next};
-use refusals::{Refusal, Verdict};
+use crate::{Instance, Weights};
+use formats::WordReader;
+use refusals::Refusal;
 
 #[derive(Clone, Copy)]
-struct SettingsGot {
+struct Settings {
     weights: Weights,
     cores: u32,
     idle: u32,
     start: u32,
-    cursor: Cursor,
 }
 
 // A setting of 0 to `most`, a word only where the settings count `from` or more; else 0.
-fn setting_next(words: &[u32], cursor: Cursor, count: u32, from: u32, most: u32) -> Got
-    ensures { Gets words.now cursor (setting_from from most count).take result.value result.cursor }
+fn setting_next(words: &mut WordReader, count: u32, from: u32, most: u32) -> Result<u32, Refusal>
+    ensures { Takes words.old (setting_from from most count).take result words.new }
 {
     if from <= count {
-        return word_next(words, cursor, 0, most);
+        return words.word(0, most);
     }
-    Got { value: 0, cursor }
+    Ok(0)
 }
 
-fn settings_next(words: &[u32], cursor: Cursor) -> SettingsGot
-    ensures { Gets words.now cursor settings.take (settings_in result) result.cursor }
+fn settings_next(words: &mut WordReader) -> Result<Settings, Refusal>
+    ensures { Takes words.old settings.take result words.new }
 {
-    let count = word_next(
-        words,
-        cursor,
-        ranges::SETTINGS_WITHOUT_IDLE,
-        ranges::SETTINGS_WITH_START,
-    );
-    let energy = word_next(words, count.cursor, 1, ranges::MOST_WEIGHT);
-    let penalty = word_next(words, energy.cursor, 1, ranges::MOST_WEIGHT);
-    let cores = word_next(words, penalty.cursor, 1, ranges::MOST_CORES);
+    let count = words.word(ranges::SETTINGS_WITHOUT_IDLE, ranges::SETTINGS_WITH_START)?;
+    let energy = words.word(1, ranges::MOST_WEIGHT)?;
+    let penalty = words.word(1, ranges::MOST_WEIGHT)?;
+    let cores = words.word(1, ranges::MOST_CORES)?;
     let idle = setting_next(
         words,
-        cores.cursor,
-        count.value,
+        count,
         ranges::SETTINGS_WITH_IDLE,
         ranges::MOST_IDLE_POWER,
-    );
+    )?;
     let start = setting_next(
         words,
-        idle.cursor,
-        count.value,
+        count,
         ranges::SETTINGS_WITH_START,
         ranges::MOST_START_TICKS,
-    );
-    let after = start.cursor;
-    SettingsGot {
-        weights: Weights {
-            energy: energy.value,
-            penalty: penalty.value,
-        },
-        cores: cores.value,
-        idle: idle.value,
-        start: start.value,
-        cursor: after,
-    }
-}
-
-fn no_instance(why: Refusal) -> InstanceRead
-    ensures { result ≡ instance_read_of (refused why) }
-{
-    InstanceRead {
-        verdict: Verdict::Refused(why),
-        instance: Instance {
-            weights: Weights {
-                energy: 0,
-                penalty: 0,
-            },
-            cores: 0,
-            idle: 0,
-            start: 0,
-            levelcount: 0,
-            levels: [Level { speed: 0, power: 0 }; ranges::MOST_LEVELS as usize],
-            taskcount: 0,
-            tasks: [Task {
-                period: 0,
-                cycles: 0,
-                penalty: 0,
-                deadline: 0,
-            }; ranges::MOST_TASKS as usize],
-            span: 0,
-        },
-    }
+    )?;
+    Ok(Settings {
+        weights: Weights { energy, penalty },
+        cores,
+        idle,
+        start,
+    })
 }
 
 // The instance that the words are, or why they are none: the settings, the levels, the tasks, their
 // deadlines where the list goes on, and nothing more.
-pub fn read_instance(words: &[u32]) -> InstanceRead
+pub fn read_instance(words: &[u32]) -> Result<Instance, Refusal>
     ensures value { result ≡ instance_outcome words.now }
-    ensures promise { ReadingEnds words.now result.verdict }
+    ensures promise { ReadingEnds words.now result }
 {
-    let settings = settings_next(words, cursor_at_start());
-    let levelsection = levels_next(words, settings.cursor);
-    let tasksection = tasks_next(words, levelsection.cursor);
-    let undated = tasksection.tasks;
-    let taskcount = tasksection.count;
-    let dated = deadlines_next(words, tasksection.cursor, undated, taskcount);
-    let end = end_next(words, dated.cursor);
-    let verdict = end.verdict;
-    if let Verdict::Refused(why) = verdict {
-        return no_instance(why);
-    }
+    let mut reader = WordReader::new(words);
+    let settings = settings_next(&mut reader)?;
+    let levels = levels_next(&mut reader)?;
+    let mut tasks = tasks_next(&mut reader)?;
+    deadlines_next(&mut reader, &mut tasks)?;
+    reader.end()?;
     let weights = settings.weights;
-    let levels = levelsection.levels;
-    let tasks = dated.tasks;
-    InstanceRead {
-        verdict: Verdict::Accepted,
-        instance: Instance {
-            weights,
-            cores: settings.cores,
-            idle: settings.idle,
-            start: settings.start,
-            levelcount: levelsection.count,
-            levels,
-            taskcount,
-            tasks,
-            span: tasksection.span,
-        },
-    }
+    let levelarray = levels.array;
+    let taskarray = tasks.array;
+    let instance = Instance {
+        weights,
+        cores: settings.cores,
+        idle: settings.idle,
+        start: settings.start,
+        levelcount: levels.count,
+        levels: levelarray,
+        taskcount: tasks.count,
+        tasks: taskarray,
+        span: tasks.span,
+    };
+    Ok(instance)
 }

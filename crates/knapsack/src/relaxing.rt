@@ -74,7 +74,7 @@ impl Front {
         }
     }
 
-    // The knapsack of a set with the item, from a knapsack of none.
+    // The knapsack of a set with the item, from a knapsack of none. Costs and keys are two slices, as what is said of knapsacks has them.
     pub fn relax(
         self,
         load: &[u64],

@@ -25,7 +25,7 @@ fn least_listed(capacity: usize, list: &[Choice], knapsack: Knapsack) -> Worth
         let cost = choice.cost + knapsack.costs[room];
         if cost <= best.cost {
             let key = choice.key + knapsack.keys[room];
-            best = best.min(Worth { cost, key });
+            best = best.lesser(Worth { cost, key });
         }
     }
     best

@@ -40,23 +40,3 @@ impl TimedCore<'_> {
         key
     }
 }
-
-// The same for a caller that holds the parts of a core.
-pub fn cheapest_key(
-    timed: Timed,
-    set: usize,
-    prices: [u64; MOST_ITEMS],
-    timings: &[u32],
-    cost: &[u64],
-) -> u64
-    requires timed_ready { TimedReady timed timings.now cost.now }
-    requires low_prices { LowPrices prices }
-    ensures { result < key_base ^ timed.items }
-{
-    let core = TimedCore {
-        timed,
-        timings,
-        cost,
-    };
-    core.cheapest_key(set, &prices)
-}

@@ -21,7 +21,7 @@ ghost use Rattle.std.specs.Prelude.{◌≡◌};
 ghost use Rattle.lagrangian.specs.Lagrangians.{Relaxes};
 ghost use Rattle.lagrangian.specs.TimedItems.{TimedReady};
 
-pub use choices::{cheapest_key, is_in_set};
+pub use choices::is_in_set;
 pub use cores::TimedCore;
 pub use multipliers::MOST_TICKS;
 use multipliers::Multipliers;
@@ -82,24 +82,4 @@ impl TimedCore<'_> {
         let weighed = self.fitted(part, Some(relaxed.ticks));
         self.lagrangian_of(part.fixed, &weighed)
     }
-}
-
-// The same for a caller that holds the parts of a core.
-pub fn relaxation_from(
-    timed: Timed,
-    relaxed: Lagrangian,
-    part: Part,
-    timings: &[u32],
-    cost: &[u64],
-) -> Lagrangian
-    requires { TimedReady timed timings.now cost.now }
-    ensures relaxes { Relaxes timed timings.now cost.now result }
-    ensures fixed_value { result.fixed ≡ part.fixed }
-{
-    let core = TimedCore {
-        timed,
-        timings,
-        cost,
-    };
-    core.relaxation_from(&relaxed, &part)
 }

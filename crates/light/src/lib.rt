@@ -3,45 +3,43 @@
 
 mod picks;
 
-ghost use Rattle.std.specs.Prelude.{ℕ, ◌<◌};
+ghost use Rattle.std.specs.Prelude.{ℕ, ◌<◌, IfSome};
 ghost use Rattle.knapsack.specs.Offers.{load_options};
 ghost use Rattle.knapsack.specs.Offered.{offers_of};
 ghost use Rattle.values.specs.Items.{items_of};
-ghost use Rattle.assignment.specs.Words.{no_cost};
 ghost use Rattle.light.specs.Light.{OfferFits};
 ghost use Rattle.values.specs.BestKeys.{BestKey};
 
+use knapsack::Core;
 use picks::first_cheapest;
 use values::{KEY_BASE, Worth};
 
 // The cost and the key of the first cheapest choices of all items, where core 0 takes them together.
 pub fn light_plan(
+    core: Core,
     items: usize,
-    levels: usize,
-    capacity: u64,
     load: &[u64],
     cost: &[u64],
     refusal: &[u64],
     must: &[bool],
-) -> Worth
-    requires { OfferFits items levels capacity load.now cost.now refusal.now must.now }
-    ensures { result.cost < no_cost → (cores : ℕ) → 0 < cores → BestKey
-        (load_options cores levels capacity (offers_of load.now cost.now items)
-        (items_of refusal.now must.now items)) items result }
+) -> Option<Worth>
+    requires { OfferFits items core.levels core.capacity load.now cost.now refusal.now must.now }
+    ensures { IfSome result (λ worth. (cores : ℕ) → 0 < cores → BestKey
+        (load_options cores core.levels core.capacity (offers_of load.now cost.now items)
+        (items_of refusal.now must.now items)) items worth) }
 {
+    let capacity = core.capacity as u64;
     let mut used = 0;
     let mut total = 0;
     let mut key = 0;
     for i in 0..items {
-        let Some(pick) = first_cheapest(i, levels, capacity, load, cost, refusal, must) else {
-            return Worth::NONE;
-        };
+        let pick = first_cheapest(core, i, load, cost, refusal, must)?;
         used += pick.load;
         if capacity < used {
-            return Worth::NONE;
+            return None;
         }
         total += pick.cost;
         key = key * KEY_BASE + pick.choice;
     }
-    Worth { cost: total, key }
+    Some(Worth { cost: total, key })
 }

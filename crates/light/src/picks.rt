@@ -7,6 +7,7 @@ ghost use Rattle.knapsack.specs.Offered.{offer_at};
 ghost use Rattle.values.specs.Items.{item_at};
 ghost use Rattle.light.specs.Picks.{Cheaper, PickedBelow};
 
+use knapsack::Core;
 use values::STRIDE;
 
 // A choice of an item, with what it puts on core 0 and what it costs.
@@ -47,24 +48,24 @@ fn cheaper(picked: Option<Pick>, level: Pick, capacity: u64) -> Option<Pick>
 
 // The first cheapest choice of item i.
 pub(crate) fn first_cheapest(
+    core: Core,
     i: usize,
-    levels: usize,
-    capacity: u64,
     load: &[u64],
     cost: &[u64],
     refusal: &[u64],
     must: &[bool],
 ) -> Option<Pick>
-    requires levels_le_most_levels { levels ≤ most_levels }
+    requires levels_le_most_levels { core.levels ≤ most_levels }
     requires most_levels_in_bounds { suc i * most_levels ≤ length load.now }
     requires most_levels_in_bounds_2 { suc i * most_levels ≤ length cost.now }
     requires i_in_bounds { i < length refusal.now }
     requires i_in_bounds_2 { i < length must.now }
-    ensures { PickedBelow capacity (offer_at load.now cost.now i)
-        (item_at refusal.now must.now i) levels result }
+    ensures { PickedBelow core.capacity (offer_at load.now cost.now i)
+        (item_at refusal.now must.now i) core.levels result }
 {
+    let capacity = core.capacity as u64;
     let mut picked = refused(refusal[i], must[i]);
-    for l in 0..levels {
+    for l in 0..core.levels {
         let at = i * STRIDE + l;
         let level = Pick {
             choice: l as u64 + 1,

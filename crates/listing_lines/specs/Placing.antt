@@ -1,10 +1,11 @@
 -- Bytes put into a buffer one after another, from a position on.
-use Rattle.std.specs.Prelude.{ℕ, ◌+◌, ◌≤◌, List, [], ◌∷◌, ◌++◌, ◌≡◌, refl, take, set}
+use Rattle.std.specs.Prelude.{ℕ, ◌+◌, ◌-◌, ◌≤◌, List, [], ◌∷◌, ◌++◌, ◌≡◌, refl, take, set}
 use Rattle.std.proofs.Common.{append_assoc, ◌∙◌, add-zero, zero-add, add-one, arith, take-append-drop, take_at, drop_at}
 use Rattle.std.proofs.Math.Path.{sym, ap}
 use Rattle.std.proofs.Math.ListN.{length, drop, length-append, length-drop}
 use Rattle.std.proofs.Math.Seq.{length-take-le, drop-drop}
 use Rattle.std.proofs.lemmas.List.{set_split}
+use borrow.Rule.Slice.PartMut.{put_mid}
 use Rattle.laws.specs.Lists.{onto}
 
 -- the buffer with these bytes from position `at` on
@@ -27,6 +28,14 @@ put_nothing out at = record { buffer = rw (add-zero at, take-append-drop at out)
 pub put_one : (out : List ℕ) (at b : ℕ) → Room out at (b ∷ []) → Put out at (b ∷ []) (set out at b) (at + 1)
 unfolding placed
 put_one out at b room = record { buffer = rw add-one (set_split out at b (omega arith)); position = refl }
+
+-- bytes copied into a part of the buffer
+pub put_copied : (out : List ℕ) (at : ℕ) (bytes : List ℕ) {copied : List ℕ} → copied ≡ bytes →
+    Put out at bytes (put_mid at (at + length bytes - at) out copied) (at + length bytes)
+unfolding placed
+put_copied out at bytes same =
+    let width : at + length bytes - at ≡ length bytes = omega arith in
+    record { buffer = rw (same, width, drop-drop) refl; position = refl }
 
 -- put from the start, they are written onto the buffer
 pub put_from_start : {out bytes after : List ℕ} {n : ℕ} → Put out 0 bytes after n → (n ≡ length bytes) × (after ≡ onto bytes out)

@@ -9,11 +9,3 @@ mod tasks;
 
 pub use lines::put_refusal;
 pub use plans::put_plan;
-use refusals::Refusal;
-
-// What listing a plan answers: how many bytes were put, or why none were.
-#[derive(Clone, Copy)]
-pub enum PlanListed {
-    Bytes(usize),
-    Refused(Refusal),
-}

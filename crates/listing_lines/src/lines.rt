@@ -1,83 +1,80 @@
-// The lines of a listing, each put into a lent buffer at a position where it has room.
+// The lines of a listing.
 ghost use Rattle.std.specs.Prelude.{[], ◌∷◌, ◌++◌};
 ghost use Rattle.text.specs.Decimal.{decimal};
+ghost use Rattle.listing_lines.specs.LinesPut.{HasRoom, Puts};
 ghost use Rattle.listing_lines.specs.ListingLines.{numbers_line, refusal_line, span_line, cost_line, kept_line, refused_line};
 ghost use Rattle.listing_lines.specs.Placing.{Room, Put};
 
-use crate::bytes::{put_byte, put_bytes, put_field};
+use crate::bytes::Lines;
 use prices::Price;
-use refusals::{Refusal, refusal_number, refusal_place};
+use refusals::Refusal;
 
-// A word, and a number after a space.
-pub(crate) fn put_named(out: &mut [u8], at: usize, word: &[u8], n: u64) -> usize
-    requires { Room out.old at (word.now ++ (32 ∷ decimal n)) }
-    ensures { Put out.old at (word.now ++ (32 ∷ decimal n)) out.new result }
-{
-    let next = put_bytes(out, at, word);
-    put_field(out, next, n)
+impl<'a> Lines<'a> {
+    // A word, and a number after a space.
+    pub(crate) fn named(&mut self, word: &[u8], n: u64)
+        requires { HasRoom self.old (word.now ++ (32 ∷ decimal n)) }
+        ensures { Puts self.old (word.now ++ (32 ∷ decimal n)) self.new }
+    {
+        self.bytes(word);
+        self.field(n);
+    }
+
+    // The line of a refusal, from its number and place.
+    fn refusal(&mut self, number: u64, place: u64)
+        requires { HasRoom self.old (numbers_line "refused" (number ∷ place ∷ [])) }
+        ensures { Puts self.old (numbers_line "refused" (number ∷ place ∷ [])) self.new }
+    {
+        self.named(b"refused", number);
+        self.field(place);
+        self.byte(b'\n');
+    }
+
+    pub(crate) fn span(&mut self, span: u64)
+        requires { HasRoom self.old (span_line span) }
+        ensures { Puts self.old (span_line span) self.new }
+    {
+        self.named(b"span", span);
+        self.byte(b'\n');
+    }
+
+    pub(crate) fn cost(&mut self, price: Price)
+        requires { HasRoom self.old (cost_line price) }
+        ensures { Puts self.old (cost_line price) self.new }
+    {
+        self.named(b"cost", price.energy);
+        self.field(price.penalty);
+        self.field(price.cost);
+        self.byte(b'\n');
+    }
+
+    // The line of a task that is kept.
+    pub(crate) fn kept(&mut self, number: u64, core: u64, level: u64, ticks: u64)
+        requires { HasRoom self.old (kept_line number core level ticks) }
+        ensures { Puts self.old (kept_line number core level ticks) self.new }
+    {
+        self.named(b"task", number);
+        self.named(b" core", core);
+        self.named(b" level", level);
+        self.named(b" ticks", ticks);
+        self.byte(b'\n');
+    }
+
+    // The line of a task that is refused.
+    pub(crate) fn refused(&mut self, number: u64)
+        requires { HasRoom self.old (refused_line number) }
+        ensures { Puts self.old (refused_line number) self.new }
+    {
+        self.named(b"task", number);
+        self.bytes(b" refused\n");
+    }
 }
 
-// The line of a refusal, from its number and place.
-fn put_place(out: &mut [u8], at: usize, number: u64, place: u64) -> usize
-    requires { Room out.old at (numbers_line "refused" (number ∷ place ∷ [])) }
-    ensures { Put out.old at (numbers_line "refused" (number ∷ place ∷ [])) out.new result }
-{
-    let second = put_named(out, at, b"refused", number);
-    let end = put_field(out, second, place);
-    put_byte(out, end, b'\n')
-}
-
+// Puts the line of a refusal at a position of the buffer, and answers the position after it.
 pub fn put_refusal(out: &mut [u8], at: usize, refusal: Refusal) -> usize
     requires { Room out.old at (refusal_line refusal) }
     ensures { Put out.old at (refusal_line refusal) out.new result }
 {
-    let number = refusal_number(refusal);
-    let place = refusal_place(refusal);
-    put_place(out, at, number, place)
-}
-
-pub(crate) fn put_span(out: &mut [u8], at: usize, span: u64) -> usize
-    requires { Room out.old at (span_line span) }
-    ensures { Put out.old at (span_line span) out.new result }
-{
-    let end = put_named(out, at, b"span", span);
-    put_byte(out, end, b'\n')
-}
-
-pub(crate) fn put_cost(out: &mut [u8], at: usize, price: Price) -> usize
-    requires { Room out.old at (cost_line price) }
-    ensures { Put out.old at (cost_line price) out.new result }
-{
-    let second = put_named(out, at, b"cost", price.energy);
-    let third = put_field(out, second, price.penalty);
-    let end = put_field(out, third, price.cost);
-    put_byte(out, end, b'\n')
-}
-
-// The line of a task that is kept.
-pub(crate) fn put_kept(
-    out: &mut [u8],
-    at: usize,
-    number: u64,
-    core: u64,
-    level: u64,
-    ticks: u64,
-) -> usize
-    requires { Room out.old at (kept_line number core level ticks) }
-    ensures { Put out.old at (kept_line number core level ticks) out.new result }
-{
-    let second = put_named(out, at, b"task", number);
-    let third = put_named(out, second, b" core", core);
-    let fourth = put_named(out, third, b" level", level);
-    let end = put_named(out, fourth, b" ticks", ticks);
-    put_byte(out, end, b'\n')
-}
-
-// The line of a task that is refused.
-pub(crate) fn put_refused(out: &mut [u8], at: usize, number: u64) -> usize
-    requires { Room out.old at (refused_line number) }
-    ensures { Put out.old at (refused_line number) out.new result }
-{
-    let second = put_named(out, at, b"task", number);
-    put_bytes(out, second, b" refused\n")
+    let mut lines = Lines { out, at };
+    lines.refusal(refusal.number(), refusal.place());
+    lines.at
 }

@@ -7,12 +7,11 @@ ghost use Rattle.tables.specs.Tables.{table_size};
 ghost use Rattle.listing_lines.specs.ListingLines.{plan_lines};
 ghost use Rattle.listing_lines.specs.Placing.{Room, Put};
 
-use crate::cores::put_cores;
-use crate::lines::{put_cost, put_span};
-use crate::tasks::put_tasks;
+use crate::bytes::Lines;
 use instance::Instance;
 use prices::Price;
 
+// Puts the lines of a plan at a position of the buffer, and answers the position after them.
 pub fn put_plan(
     out: &mut [u8],
     at: usize,
@@ -28,8 +27,10 @@ pub fn put_plan(
     requires room { Room out.old at (plan_lines (problem_in inst) plan.now table.now) }
     ensures { Put out.old at (plan_lines (problem_in inst) plan.now table.now) out.new result }
 {
-    let second = put_span(out, at, inst.span as u64);
-    let third = put_cost(out, second, price);
-    let fourth = put_tasks(out, third, inst, plan);
-    put_cores(out, fourth, inst, table)
+    let mut lines = Lines { out, at };
+    lines.span(inst.span as u64);
+    lines.cost(price);
+    lines.tasks(inst, plan);
+    lines.cores(inst, table);
+    lines.at
 }

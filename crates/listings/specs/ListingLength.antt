@@ -1,6 +1,6 @@
 -- No text has a listing of more than 51,200 bytes.
 use Prim.Native.Nat.{ℕ, suc, pred, ◌+◌, ◌*◌, ◌≤◌, ◌<◌}
-use Rattle.std.specs.Prelude.{Bool, true, false, cond, List, ◌≡◌, refl}
+use Rattle.std.specs.Prelude.{Bool, true, false, cond, List, ◌≡◌, refl, Ok, Err}
 use Rattle.std.proofs.Math.Option.{Option, none, some}
 use Rattle.std.proofs.Common.{◌∙◌, div-le_self, mod-lt, mul-le-mul}
 use native.Mathlib.Omega.{arith}
@@ -11,7 +11,7 @@ use Rattle.laws.specs.OntoLaws.{length_onto}
 use Rattle.ranges.specs.Limits.{most_cores, most_levels, most_span, most_tasks}
 use Rattle.instance.specs.Node.{Problem, level_count, task_count, span}
 use Rattle.text.specs.NumberCountLaws.{most_text_words, read_words_at_most}
-use Rattle.refusals.specs.Refusals.{Reading, refused, accepted, number_of, place_of}
+use Rattle.refusals.specs.Refusals.{Reading, number_of, place_of, accepted}
 use Rattle.instance.specs.SiteFile.{problem_of}
 use Rattle.instance.specs.SiteFileLaws.{accepted_is_valid}
 use Rattle.instance.specs.SiteFileRefusals.{reading_refusal}
@@ -20,7 +20,6 @@ use Rattle.text.specs.TextRefusals.{text_refusal_place}
 use Rattle.instance.specs.Valid.{Valid}
 use Rattle.refusals.specs.declared.Refusal.{Refusal}
 use Rattle.refusals.specs.declared.Refusal.TheVariants.{Text, WordCount, WordRange, SpanTooLong, NoPlan, ShortBuffer, GivenPlan, CoreOverloaded, GivenTable, JobSlots, SwitchingWord, CoreOrState, EarlyEnd, CalendarDate, NoSuchQuestion}
-use Rattle.refusals.specs.declared.Verdict.TheVariants.{Accepted}
 use Rattle.dispatch.specs.DispatchLaws.{slot_is_choice}
 use Rattle.dispatch.specs.Earliest.{Choice}
 use Rattle.plan_rules.specs.PlanLaws.{PassingPlan, passing_plan}
@@ -69,7 +68,7 @@ slot_at_most core t = go (slot_is_choice core t)
     go (Choice.idle none_left) = omega arith
     go (Choice.runs k below has first lower) = below
 
-module _ (p : Problem) (v : Valid p) (plan : List ℕ) (passes : plan_passes p plan ≡ Accepted) where
+module _ (p : Problem) (v : Valid p) (plan : List ℕ) (passes : plan_passes p plan ≡ accepted) where
   passing : PassingPlan p plan
   passing = passing_plan p plan passes
 
@@ -139,16 +138,16 @@ listing_of_problem_fits : (words : List ℕ) → length words ≤ most_text_word
 listing_of_problem_fits words few = go (problem_of words) refl
   where
     go : (reading : Reading Problem) → problem_of words ≡ reading → length (listing_of_problem reading) ≤ most_listing
-    go (refused r) e = refusal_fits r (omega (arith, (reading_refusal words e).place))
-    go (accepted p) e = listing_of_plan_fits p (accepted_is_valid words e)
+    go (Err r) e = refusal_fits r (omega (arith, (reading_refusal words e).place))
+    go (Ok p) e = listing_of_plan_fits p (accepted_is_valid words e)
 
 pub listing_at_most : (text : List ℕ) → length (listing_of text) ≤ most_listing
 unfolding listing_of
 listing_at_most text = go (words_of text) refl
   where
     go : (reading : Reading (List ℕ)) → words_of text ≡ reading → length (listing_of_words reading) ≤ most_listing
-    go (refused r) e = refusal_fits r (omega (arith, text_refusal_place text e))
-    go (accepted words) e = listing_of_problem_fits words (read_words_at_most text e)
+    go (Err r) e = refusal_fits r (omega (arith, text_refusal_place text e))
+    go (Ok words) e = listing_of_problem_fits words (read_words_at_most text e)
 
 -- once it is written, its bytes are the first n of the array
 pub listing_within : (text out : List ℕ) {after : List ℕ} {n : ℕ} → most_listing ≤ length out →

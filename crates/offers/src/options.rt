@@ -49,8 +49,7 @@ fn fill_levels(
     ensures { LevelsOffered (problem_in inst) (i * most_levels + most_levels) load.new cost.new }
 {
     let jobs = jobs_in(inst.span, task.period);
-    let mut l = 0;
-    while l < inst.levelcount {
+    for l in 0..inst.levelcount {
         let level = inst.levels[l];
         let ticks = ticks_of(inst.start, task.cycles, level.speed);
         let asked = jobs as u64 * ticks as u64;
@@ -63,7 +62,6 @@ fn fill_levels(
             level.power,
             inst.idle,
         );
-        l += 1;
     }
 }
 
@@ -80,13 +78,11 @@ pub fn fill_options(
     ensures { OptionsOffered (problem_in inst) (task_count (problem_in inst))
         load.new cost.new refusal.new must.new }
 {
-    let mut i = 0;
-    while i < inst.taskcount {
+    for i in 0..inst.taskcount {
         let task = inst.tasks[i];
         fill_levels(inst, task, i, load, cost);
         let missed = jobs_in(inst.span, task.period);
         refusal[i] = refusal_of(inst.weights.penalty, missed, task.penalty);
         must[i] = task.penalty == MAY_NOT_BE_REFUSED;
-        i += 1;
     }
 }

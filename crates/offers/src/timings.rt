@@ -39,10 +39,8 @@ fn fill_timing(inst: Instance, task: Task, i: usize, timings: &mut [u32; TIMINGS
     ensures { TimingsOffered (problem_in inst) (i * timing_width + timing_width) timings.new }
 {
     let words = inst.levelcount + 2;
-    let mut w = 0;
-    while w < words {
+    for w in 0..words {
         timings[i * TIMING_WIDTH + w] = timing_word(inst, task, w);
-        w += 1;
     }
 }
 
@@ -52,10 +50,8 @@ pub fn fill_timings(inst: Instance, timings: &mut [u32; TIMINGS])
     requires timings_offered { TimingsOffered (problem_in inst) 0 timings.old }
     ensures { TimingsOffered (problem_in inst) (task_count (problem_in inst) * timing_width) timings.new }
 {
-    let mut i = 0;
-    while i < inst.taskcount {
+    for i in 0..inst.taskcount {
         let task = inst.tasks[i];
         fill_timing(inst, task, i, timings);
-        i += 1;
     }
 }

@@ -66,5 +66,5 @@ pub(crate) fn least_parted(size: usize, t: usize, r: usize, parts: &Parts) -> Wo
     let half = size / 2;
     let in_top = least_parted(half, t + half, r, parts);
     let in_rest = least_parted(half, t, r + half, parts);
-    in_top.min(in_rest)
+    in_top.lesser(in_rest)
 }

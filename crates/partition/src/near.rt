@@ -7,7 +7,7 @@ use values::Worth;
 // Plans are noted up to one part in 64 of their cost above the least.
 const NEAR: u64 = 64;
 
-// The key of a plan that costs little more than the least, else 0.
+// The key of a plan that costs little more than the least, else 0: the keys go into a lent buffer of numbers.
 fn near_key(least: u64, plan: Worth) -> u64 {
     if least < plan.cost - plan.cost / NEAR {
         return 0;

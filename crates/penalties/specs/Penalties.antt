@@ -1,8 +1,9 @@
 -- Document 02 (h), "How far one penalty can move the bill": problems that are alike but for penalties, and what it means that the
 -- least cost rises by at most so much.
-use Rattle.std.specs.Prelude.{ℕ, ◌+◌, ◌-◌, ◌*◌, ◌≤◌, ◌<◌, List, map, ◌↔◌, ◌≡◌, set}
+use Rattle.std.specs.Prelude.{ℕ, ◌+◌, ◌-◌, ◌*◌, ◌≤◌, ◌<◌, List, map, ◌↔◌, ◌≡◌, set, Result, Ok, Err}
 use Rattle.std.proofs.Math.Option.{Option, none, some}
 use Rattle.laws.specs.Sums.{sum}
+use Rattle.refusals.specs.declared.Refusal.{Refusal}
 use Rattle.instance.specs.Node.{Problem, task_count, task_at}
 use Rattle.instance.specs.declared.Task.{Task}
 use Rattle.refusals.specs.declared.Refusal.TheVariants.{NoPlan}
@@ -10,7 +11,6 @@ use Rattle.plan_rules.specs.Plans.{is_must}
 use Rattle.plan_rules.specs.Quantities.{jobs}
 use Rattle.prices.specs.Prices.{cost}
 use Rattle.prices.specs.declared.amounts.Price.{Price}
-use Rattle.prices.specs.declared.amounts.Priced.{Priced}
 use Rattle.drawings.specs.Drawings.{Drawing}
 use Rattle.planner.specs.Planned.{NoDrawing}
 
@@ -55,9 +55,9 @@ pub data PlansRise (low high : Problem) (most : ℕ) : Option (List ℕ) → Opt
   plans : (plan other : List ℕ) → RisesByAtMost most (cost low plan) (cost high other) → PlansRise low high most (some plan) (some other)
 
 -- the same of two answers of planning
-pub data AnswersRise (most : ℕ) : Priced → Priced → Type 0 where
-  no_plans : AnswersRise most (Priced.Refused NoPlan) (Priced.Refused NoPlan)
-  costs : (low high : Price) → RisesByAtMost most low.cost high.cost → AnswersRise most (Priced.Cost low) (Priced.Cost high)
+pub data AnswersRise (most : ℕ) : Result Price Refusal → Result Price Refusal → Type 0 where
+  no_plans : AnswersRise most (Err NoPlan) (Err NoPlan)
+  costs : (low high : Price) → RisesByAtMost most low.cost high.cost → AnswersRise most (Ok low) (Ok high)
 
 -- a drawing than which none is cheaper
 pub record CheapestDrawing (p : Problem) (plan table : List ℕ) : Type 0 where

@@ -1,13 +1,12 @@
 -- Where the least cost rises by at most so much, so does what planning answers, and so does the cost of anyone's cheapest drawing.
-use Rattle.std.specs.Prelude.{ℕ, ◌+◌, ◌≤◌, List, ◌↔◌, ◌≡◌, refl, length}
+use Rattle.std.specs.Prelude.{ℕ, ◌+◌, ◌≤◌, List, ◌↔◌, ◌≡◌, refl, length, Ok}
 use mathlib.Core.Logic.Iff
 use Rattle.std.proofs.Math.Option.{Option, none}
 use Rattle.std.proofs.Common.{arith}
+use Rattle.refusals.specs.Refusals.{accepted}
 use Rattle.instance.specs.Node.{Problem, task_count}
 use Rattle.instance.specs.SiteFile.{problem_of}
-use Rattle.refusals.specs.Refusals.{accepted}
 use Rattle.refusals.specs.RoomLaws.{enough_room}
-use Rattle.refusals.specs.declared.Verdict.TheVariants.{Accepted}
 use Rattle.prices.specs.Prices.{cost, price_of}
 use Rattle.tables.specs.Periods.{Periodic}
 use Rattle.tables.specs.Tables.{table_of, table_size}
@@ -19,10 +18,10 @@ use Rattle.planner.specs.Planning.{best_plan}
 use Rattle.penalties.specs.Penalties.{PlansRise, no_plans, plans, AnswersRise, CheapestDrawing, DrawingWithin, DrawingsRise}
 
 -- of buffers that are long enough
-plan_is_answered : (words : List ℕ) (p : Problem) → problem_of words ≡ accepted p → (plan table : List ℕ) →
+plan_is_answered : (words : List ℕ) (p : Problem) → problem_of words ≡ Ok p → (plan table : List ℕ) →
     task_count p ≤ length plan → table_size p ≤ length table → plan_outcome words plan table ≡ plan_answered p (best_plan p) plan table
 plan_is_answered words p read plan table plan_room table_room =
-    where_room words plan table p read Accepted (rw (enough_room (task_count p) plan plan_room, enough_room (table_size p) table table_room))
+    where_room words plan table p read accepted (rw (enough_room (task_count p) plan plan_room, enough_room (table_size p) table table_room))
 
 module _ (low high : Problem) (most : ℕ) where
   answered_rise : {a b : Option (List ℕ)} → PlansRise low high most a b → (plan table other slots : List ℕ) →
@@ -39,7 +38,7 @@ module _ (low high : Problem) (most : ℕ) where
   )
 
   module _ (rise : PlansRise low high most (best_plan low) (best_plan high)) where
-    pub answers_rise : (low_words high_words : List ℕ) → problem_of low_words ≡ accepted low → problem_of high_words ≡ accepted high →
+    pub answers_rise : (low_words high_words : List ℕ) → problem_of low_words ≡ Ok low → problem_of high_words ≡ Ok high →
         (low_plan low_table high_plan high_table : List ℕ) →
         task_count low ≤ length low_plan → table_size low ≤ length low_table →
         task_count high ≤ length high_plan → table_size high ≤ length high_table →

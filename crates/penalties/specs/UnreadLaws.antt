@@ -1,7 +1,7 @@
 -- What does not read a penalty is the same for two problems that are alike but for penalties: span, jobs, ticks, what fits, and
 -- energy.
 use Prim.Native.Nat.{ℕ, suc, ◌+◌, ◌*◌, ◌/◌}
-use Rattle.std.specs.Prelude.{Bool, List, [], ◌∷◌, map, ◌≡◌, refl}
+use Rattle.std.specs.Prelude.{Bool, List, [], ◌∷◌, map, ◌≡◌, refl, Err}
 use Rattle.std.proofs.Math.Bool.{cond, not}
 use Rattle.std.proofs.Common.{sym, ◌∙◌}
 use Rattle.std.proofs.Math.Path.{ap, ap₂, fun_ext}
@@ -11,10 +11,10 @@ use Rattle.std.proofs.Math.ListN.{get_or-map}
 use Rattle.laws.specs.Multiples.{lcm}
 use Rattle.laws.specs.Search.{first}
 use Rattle.laws.specs.Sums.{sum}
+use Rattle.refusals.specs.Refusals.{accepted}
 use Rattle.instance.specs.Node.{Problem, task_count, level_at, task_at, no_task, span_from, span}
 use Rattle.instance.specs.declared.Task.{Task}
 use Rattle.refusals.specs.declared.Refusal.TheVariants.{CoreOverloaded}
-use Rattle.refusals.specs.declared.Verdict.TheVariants.{Accepted, Refused}
 use Rattle.edf.specs.Demand.{meets_demand}
 use Rattle.plan_rules.specs.CoreOfPlan.{core_tasks}
 use Rattle.plan_rules.specs.Plans.{most_choice, fits, cores_fit}
@@ -92,7 +92,7 @@ module _ (plan : List ℕ) where
   unfolding cores_fit without_penalties
   cores_fit_unread p =
       ap
-      (λ (fails : ℕ → Bool). let k = first fails p.cores in cond (ltb k p.cores) (Refused (CoreOverloaded (suc k))) Accepted)
+      (λ (fails : ℕ → Bool). let k = first fails p.cores in cond (ltb k p.cores) (Err (CoreOverloaded (suc k))) accepted)
       (fun_ext (λ k. ap not (fits_unread k p)))
 
   load_on_unread : (k i : ℕ) → ReadsNoPenalty (λ p. load_on p plan k i)

@@ -1,10 +1,10 @@
 -- The plans that the test for refusal 7 accepts are the allowed ones.
+use Rattle.refusals.specs.Refusals.{accepted}
 use Rattle.std.specs.Prelude.{ℕ, ◌*◌, ◌≤◌, false, List, ◌↔◌, ◌≡◌}
 use borrow.Author.Tests.{ltb-false, le-ltb, eqb-true, eq-eqb}
 use Rattle.laws.specs.Truth.{false_not_true, not_true_is_false, and_is_true, or_is_false}
 use Rattle.ranges.specs.Limits.{may_not_be_refused}
 use Rattle.instance.specs.Node.{Problem, level_count, task_at}
-use Rattle.refusals.specs.declared.Verdict.TheVariants.{Accepted}
 use Rattle.plan_rules.specs.AllowedPlans.{AllowedPlan}
 use Rattle.plan_rules.specs.Plans.{is_must, bad_choice, choices_pass}
 use Rattle.plan_rules.specs.Quantities.{choice_at}
@@ -28,7 +28,7 @@ module _ (p : Problem) (plan : List ℕ) where
         ),
   )
 
-  pub choices_pass-iff : (choices_pass p plan ≡ Accepted) ↔ AllowedPlan p plan
+  pub choices_pass-iff : (choices_pass p plan ≡ accepted) ↔ AllowedPlan p plan
   unfolding choices_pass
   choices_pass-iff = (
     λ e.

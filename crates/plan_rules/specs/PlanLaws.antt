@@ -1,4 +1,5 @@
 -- What choices name, and what a plan that passes has.
+use Rattle.refusals.specs.Refusals.{accepted}
 use Rattle.std.specs.Prelude.{ℕ, suc, pred, ◌+◌, ◌*◌, ◌<◌, ◌≤◌, true, List, ◌↔◌, ◌≡◌}
 use Rattle.std.proofs.Math.Bool.{not}
 use Rattle.std.proofs.Math.Path.{ap}
@@ -6,7 +7,6 @@ use Rattle.std.proofs.Common.{div-add-mod', div-lt_iff_lt-mul, mod-lt, pos_of_ne
 use Rattle.std.proofs.Math.Arith.{digits_div, digits_mod}
 use borrow.Author.Tests.{not-false}
 use Rattle.instance.specs.Node.{Problem, level_count}
-use Rattle.refusals.specs.declared.Verdict.TheVariants.{Accepted}
 use Rattle.plan_rules.specs.AllowedPlanLaws.{choices_pass-iff}
 use Rattle.plan_rules.specs.AllowedPlans.{AllowedPlan}
 use Rattle.plan_rules.specs.Plans.{most_choice, fits, cores_fit, plan_passes}
@@ -39,7 +39,7 @@ choice_in_range_names p plan i kept within =
     }
 
 module _ (p : Problem) (plan : List ℕ) where
-  pub cores_fit_iff : (cores_fit p plan ≡ Accepted) ↔ ((k : ℕ) → k < p.cores → fits p plan k ≡ true)
+  pub cores_fit_iff : (cores_fit p plan ≡ accepted) ↔ ((k : ℕ) → k < p.cores → fits p plan k ≡ true)
   unfolding cores_fit
   cores_fit_iff = (
     λ e k h. not-false _ ((none_refused _ _ _).0 e k h),
@@ -50,7 +50,7 @@ pub record PassingPlan (p : Problem) (plan : List ℕ) : Type 0 where
   pub allowed : AllowedPlan p plan
   pub core_fits : (k : ℕ) → k < p.cores → fits p plan k ≡ true
 
-pub passing_plan : (p : Problem) (plan : List ℕ) → plan_passes p plan ≡ Accepted → PassingPlan p plan
+pub passing_plan : (p : Problem) (plan : List ℕ) → plan_passes p plan ≡ accepted → PassingPlan p plan
 unfolding plan_passes
 passing_plan p plan e =
     let both = (and_then-accepts _ _).0 e in

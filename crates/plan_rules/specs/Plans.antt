@@ -1,12 +1,10 @@
 -- Which plans may be given: the refusals 7 and 8, in that order.
-use Rattle.std.specs.Prelude.{ℕ, suc, min, ◌*◌, Bool, cond, not, ◌&&◌, ◌||◌, List, ltb, eqb, length}
+use Rattle.std.specs.Prelude.{ℕ, suc, min, ◌*◌, Bool, cond, not, ◌&&◌, ◌||◌, List, ltb, eqb, length, Err}
 use Rattle.laws.specs.Search.{first}
 use Rattle.ranges.specs.Limits.{may_not_be_refused}
 use Rattle.instance.specs.Node.{Problem, level_count, task_count, task_at, span}
-use Rattle.refusals.specs.Refusals.{◌and_then◌}
+use Rattle.refusals.specs.Refusals.{◌and_then◌, Verdict, accepted}
 use Rattle.refusals.specs.declared.Refusal.TheVariants.{GivenPlan, CoreOverloaded}
-use Rattle.refusals.specs.declared.Verdict.{Verdict}
-use Rattle.refusals.specs.declared.Verdict.TheVariants.{Accepted, Refused}
 use Rattle.edf.specs.Demand.{meets_demand}
 use Rattle.plan_rules.specs.CoreOfPlan.{core_tasks}
 use Rattle.plan_rules.specs.Quantities.{choice_at, is_refused}
@@ -29,8 +27,8 @@ choices_pass p plan =
     let n = task_count p in
     let i = first (bad_choice p plan) n in
     cond (eqb (length plan) n)
-    (cond (ltb i n) (Refused (GivenPlan i)) Accepted)
-    (Refused (GivenPlan (min (length plan) n)))
+    (cond (ltb i n) (Err (GivenPlan i)) accepted)
+    (Err (GivenPlan (min (length plan) n)))
 
 -- (c) "A core fits exactly when some row gives each job its ticks in time": that is a theorem (`drawings/specs/FitLaws`). The test
 -- is of what is due by each tick of the span.
@@ -41,7 +39,7 @@ fits p plan k = meets_demand (core_tasks p plan k) (span p)
 unfoldable pub cores_fit : Problem → List ℕ → Verdict
 cores_fit p plan =
     let k = first (λ k. not (fits p plan k)) p.cores in
-    cond (ltb k p.cores) (Refused (CoreOverloaded (suc k))) Accepted
+    cond (ltb k p.cores) (Err (CoreOverloaded (suc k))) accepted
 
 -- the plans that "refuse no task that may not be refused and whose cores all fit"
 unfoldable pub plan_passes : Problem → List ℕ → Verdict

@@ -34,8 +34,7 @@ pub fn kept_tasks(inst: Instance, plan: &[u32], k: usize) -> KeptTasks
         ticks: [0; ranges::MOST_TASKS as usize],
         powers: [0; ranges::MOST_TASKS as usize],
     };
-    let mut i = 0;
-    while i < inst.taskcount {
+    for i in 0..inst.taskcount {
         let choice = plan[i];
         if names_core(choice, inst.levelcount, k) {
             let task = inst.tasks[i];
@@ -48,7 +47,6 @@ pub fn kept_tasks(inst: Instance, plan: &[u32], k: usize) -> KeptTasks
             kept.powers[n] = level.power;
             kept.count = n + 1;
         }
-        i += 1;
     }
     kept
 }

@@ -6,5 +6,5 @@ mod plan;
 mod quantities;
 
 pub use columns::{KeptTasks, kept_tasks};
-pub use plan::{choices_pass, plan_passes, smaller};
+pub use plan::{choices_pass, plan_passes};
 pub use quantities::{core_of, jobs_in, level_of, of_all_jobs, ticks_of, window_of};

@@ -21,33 +21,21 @@ fn is_bad_choice(choice: u32, penalty: u32, most: u32) -> bool
     most < choice
 }
 
-// Of two lengths that differ a refusal names the smaller.
-pub fn smaller(a: usize, b: usize) -> usize
-    ensures { result ≡ min a b }
-{
-    if a < b {
-        return a;
-    }
-    b
-}
-
 pub fn choices_pass(inst: Instance, plan: &[u32]) -> Verdict
     requires { Sound inst }
     ensures { result ≡ choices_pass (problem_in inst) plan.now }
 {
     if plan.len() != inst.taskcount {
-        return Verdict::Refused(Refusal::GivenPlan(smaller(plan.len(), inst.taskcount)));
+        return Err(Refusal::GivenPlan(plan.len().min(inst.taskcount)));
     }
     let most = inst.cores * (inst.levelcount as u32);
-    let mut i = 0;
-    while i < inst.taskcount {
+    for i in 0..inst.taskcount {
         let task = inst.tasks[i];
         if is_bad_choice(plan[i], task.penalty, most) {
-            return Verdict::Refused(Refusal::GivenPlan(i));
+            return Err(Refusal::GivenPlan(i));
         }
-        i += 1;
     }
-    Verdict::Accepted
+    Ok(())
 }
 
 // Whether core k, counted from 0, fits.
@@ -70,23 +58,18 @@ fn cores_fit(inst: Instance, plan: &[u32]) -> Verdict
     ensures { result ≡ cores_fit (problem_in inst) plan.now }
 {
     let cores = inst.cores as usize;
-    let mut k = 0;
-    while k < cores {
+    for k in 0..cores {
         if !core_fits(inst, plan, k) {
-            return Verdict::Refused(Refusal::CoreOverloaded(k + 1));
+            return Err(Refusal::CoreOverloaded(k + 1));
         }
-        k += 1;
     }
-    Verdict::Accepted
+    Ok(())
 }
 
 pub fn plan_passes(inst: Instance, plan: &[u32]) -> Verdict
     requires { Sound inst }
     ensures { result ≡ plan_passes (problem_in inst) plan.now }
 {
-    let verdict = choices_pass(inst, plan);
-    if let Verdict::Accepted = verdict {
-        return cores_fit(inst, plan);
-    }
-    verdict
+    choices_pass(inst, plan)?;
+    cores_fit(inst, plan)
 }

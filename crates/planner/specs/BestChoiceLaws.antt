@@ -1,5 +1,5 @@
 -- What is found in what is offered for a problem is the problem's best plan: on light sites, and from the table of one core.
-use Rattle.std.specs.Prelude.{ℕ, ◌<◌, Bool, List, ◌≡◌}
+use Rattle.std.specs.Prelude.{ℕ, ◌<◌, Bool, List, ◌≡◌, Option, Some, None}
 use Rattle.std.proofs.Math.Path.{refl}
 use Rattle.std.proofs.Common.{sym, ap, ◌∙◌, mul-zero, arith}
 use Rattle.laws.specs.Lists.{onto}
@@ -15,7 +15,6 @@ use Rattle.light.specs.Light.{OfferFits}
 use Rattle.search.specs.Found.{Searched, BestFound}
 use Rattle.search.specs.FoundLaws.{search_is_best}
 use Rattle.search.specs.Limits.{SearchReady}
-use Rattle.search.specs.declared.Found.{Found}
 use Rattle.search.specs.declared.Shape.{Shape}
 use Rattle.values.specs.BestKeys.{BestKey}
 use Rattle.values.specs.Items.{items_of}
@@ -42,26 +41,26 @@ abbrev pub shape_of : Problem → Shape
 shape_of p = record { items = task_count p; cores = p.cores; levels = level_count p }
 
 -- the answer and the plan afterwards are those of the best plan
-pub record Chosen (p : Problem) (before after : List ℕ) (r : Found) : Type 0 where
+pub record Chosen (p : Problem) (before after : List ℕ) (r : Option ℕ) : Type 0 where
   pub found : r ≡ found_of p (best_plan p)
   pub written : after ≡ chosen_onto (best_plan p) before
 
 module _ (p : Problem) where
   best_chosen : {plan before after : List ℕ} {cost : ℕ} → Best (options_of p) plan → total_cost (options_of p) plan ≡ cost →
-      after ≡ onto plan before → Chosen p before after (Found.Cheapest cost)
+      after ≡ onto plan before → Chosen p before after (Some cost)
   best_chosen {plan} best costs written =
       record {
-        found = rw (best_is_best_plan p best) (ap Found.Cheapest (sym costs ∙ sym (cost_is_total p plan (choice_count p best.allowed))));
+        found = rw (best_is_best_plan p best) (ap Some (sym costs ∙ sym (cost_is_total p plan (choice_count p best.allowed))));
         written = rw (best_is_best_plan p best) written;
       }
 
   pub key_is_chosen : {worth : Worth} {before after : List ℕ} → BestKey (options_of p) (task_count p) worth →
-      after ≡ onto (digits (task_count p) worth.key) before → Chosen p before after (Found.Cheapest worth.cost)
+      after ≡ onto (digits (task_count p) worth.key) before → Chosen p before after (Some worth.cost)
   key_is_chosen best written = best_chosen best.is_best best.costs written
 
-  pub found_is_chosen : (before after : List ℕ) (r : Found) → BestFound (options_of p) before after r → Chosen p before after r
-  found_is_chosen before after (Found.Cheapest cost) best = best_chosen best.is_best best.costs best.written
-  found_is_chosen before after Found.NoPlan (none_allowed, unchanged) =
+  pub found_is_chosen : (before after : List ℕ) (r : Option ℕ) → BestFound (options_of p) before after r → Chosen p before after r
+  found_is_chosen before after (Some cost) best = best_chosen best.is_best best.costs best.written
+  found_is_chosen before after None (none_allowed, unchanged) =
       record { found = rw (none_is_none p none_allowed); written = rw (none_is_none p none_allowed) unchanged }
 
 module _ {p : Problem} {load cost refusal : List ℕ} {must : List Bool} (v : Valid p)
@@ -104,7 +103,7 @@ module _ {p : Problem} {load cost refusal : List ℕ} {must : List Bool} (v : Va
           core_table = filled.limited;
         }
 
-    pub searched_is_chosen : {before after : List ℕ} {r : Found} → Searched (shape_of p) refusal must costs keys before after r → Chosen p before after r
+    pub searched_is_chosen : {before after : List ℕ} {r : Option ℕ} → Searched (shape_of p) refusal must costs keys before after r → Chosen p before after r
     unfolding options_of
     searched_is_chosen {before} {after} {r} searched =
         found_is_chosen p before after r (search_is_best search_ready searched (options_of p) refl refl (sym (offered_items o)) filled.least)

@@ -1,9 +1,9 @@
 -- The answered plan, with its table, is the best drawing, and none is answered exactly where no drawing exists.
+use Rattle.refusals.specs.Refusals.{accepted}
 use Rattle.std.specs.Prelude.{ℕ, List, ◌↔◌, ◌≡◌, refl, length}
 use Rattle.std.proofs.Common.{⊎_elim, arith}
 use Rattle.std.proofs.Math.Option.{none, some}
 use Rattle.instance.specs.Node.{Problem, task_count}
-use Rattle.refusals.specs.declared.Verdict.TheVariants.{Accepted}
 use Rattle.drawings.specs.Drawings.{Drawing}
 use Rattle.drawings.specs.FitLaws.{passing_table_passes, drawn_plan_passes, passing_plan_is_drawn}
 use Rattle.tables.specs.Periods.{Periodic}
@@ -28,10 +28,10 @@ module _ (p : Problem) (periodic : Periodic p) where
   )
 
   module _ (plan : List ℕ) (answered : best_plan p ≡ some plan) where
-    passes : plan_passes p plan ≡ Accepted
+    passes : plan_passes p plan ≡ accepted
     passes = best_plan_passes p answered
 
-    count : (plan : List ℕ) → plan_passes p plan ≡ Accepted → length plan ≡ task_count p
+    count : (plan : List ℕ) → plan_passes p plan ≡ accepted → length plan ≡ task_count p
     count plan passes = choice_count p ((passing_is_allowed p plan).0 passes)
 
     no_worse_than_drawings : {other slots : List ℕ} → Drawing p other slots → NoWorsePlan p plan other

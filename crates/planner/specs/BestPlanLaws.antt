@@ -1,12 +1,11 @@
 -- The answered plan is the one best plan of the problem's options, and none is answered exactly where none is allowed.
-use Rattle.std.specs.Prelude.{ℕ, true, ◌↔◌, ◌≡◌, refl, length}
+use Rattle.std.specs.Prelude.{ℕ, true, ◌↔◌, ◌≡◌, refl, length, Ok, Err}
 use mathlib.Core.List.{List, Memᴰ}
 use Rattle.std.proofs.Math.Option.{Option, none, some}
 use Rattle.std.proofs.Common.{ap}
 use Rattle.laws.specs.Truth.{false_not_true}
 use Rattle.instance.specs.Node.{Problem, task_count}
-use Rattle.refusals.specs.declared.Verdict.{Verdict}
-use Rattle.refusals.specs.declared.Verdict.TheVariants.{Accepted, Refused}
+use Rattle.refusals.specs.Refusals.{Verdict, accepted}
 use Rattle.plan_rules.specs.Plans.{most_choice, plan_passes}
 use Rattle.assignment.specs.Assignment.{Item, Options, ChoicesAllowed, Allowed, NoWorse, Best}
 use Rattle.assignment.specs.SearchTheorem.{best_unique}
@@ -17,9 +16,9 @@ use Rattle.planner.specs.CostLaws.{cost_is_total}
 use Rattle.planner.specs.CheapestLaws.{NoWorsePlan, Found, found, missing, first_cheapest-found}
 use Rattle.planner.specs.ChoiceListLaws.{Choices, listed_iff, choice_lists-ascend}
 
-passes_iff : (v : Verdict) → (passes v ≡ true) ↔ (v ≡ Accepted)
-passes_iff Accepted = (λ e. refl, λ e. refl)
-passes_iff (Refused r) = (λ e. absurd (false_not_true refl e), λ e. ap passes e)
+passes_iff : (v : Verdict) → (passes v ≡ true) ↔ (v ≡ accepted)
+passes_iff (Ok tt) = (λ e. refl, λ e. refl)
+passes_iff (Err r) = (λ e. absurd (false_not_true refl e), λ e. ap passes e)
 
 choices_in_range : {most : ℕ} {items : List Item} {plan : List ℕ} → ChoicesAllowed most items plan → Choices most (length items) plan
 choices_in_range ChoicesAllowed.none = Choices.none
@@ -92,5 +91,5 @@ module _ (p : Problem) where
   pub none_is_none : ((plan : List ℕ) → Allowed (options_of p) plan → ⊥) → best_plan p ≡ none
   none_is_none none_allowed = answer_unique best_plan-answers (nothing none_allowed)
 
-  pub best_plan_passes : {plan : List ℕ} → best_plan p ≡ some plan → plan_passes p plan ≡ Accepted
+  pub best_plan_passes : {plan : List ℕ} → best_plan p ≡ some plan → plan_passes p plan ≡ accepted
   best_plan_passes {plan} e = (passing_is_allowed p plan).1 (best_plan_is_best e).allowed

@@ -6,12 +6,9 @@ use Rattle.refusals.specs.EndingLaws.{unchanged, serves, turns_down}
 use Rattle.refusals.specs.Endings.{lent, Ends, read_then, needed_for}
 use Rattle.instance.specs.Node.{Problem, task_count}
 use Rattle.refusals.specs.RefusalNumbers.{RefusesOnly, accepts, refuses, UnreadOnly, read, unread, both_refuse, room_refuses_6}
-use Rattle.refusals.specs.Refusals.{Reading, room, ◌and_then◌}
+use Rattle.refusals.specs.Refusals.{Reading, room, ◌and_then◌, Verdict, accepted, verdict_of}
 use Rattle.refusals.specs.RoomLaws.{room_accepts, front_written}
 use Rattle.instance.specs.SiteFileRefusals.{reading_refuses_2_3_4}
-use Rattle.refusals.specs.declared.Verdict.{Verdict}
-use Rattle.refusals.specs.declared.Verdict.TheVariants.{Accepted}
-use Rattle.prices.specs.Outcomes.{price_verdict}
 use Rattle.tables.specs.TableLaws.{length-table_of}
 use Rattle.tables.specs.Tables.{table_of, table_size}
 use Rattle.refusals.specs.VerdictLaws.{and_then-accepts}
@@ -31,7 +28,7 @@ planning_ends words plan table = go (reading_refuses_2_3_4 words)
   where
     PlanEnds : Verdict → ℕ → ℕ → PlanOutcome → Type 0
     PlanEnds v n m o =
-        Ends v (2 ∷ 3 ∷ 4 ∷ 6 ∷ 5 ∷ []) (lent n plan o.plan ∷ lent m table o.table ∷ []) (price_verdict o.answer)
+        Ends v (2 ∷ 3 ∷ 4 ∷ 6 ∷ 5 ∷ []) (lent n plan o.plan ∷ lent m table o.table ∷ []) (verdict_of o.answer)
 
     answered : (p : Problem) (best : Option (List ℕ)) → best_plan p ≡ best → task_count p ≤ length plan → table_size p ≤ length table →
         PlanEnds (plan_found best) (task_count p) (table_size p) (plan_answered p best plan table)
@@ -44,7 +41,7 @@ planning_ends words plan table = go (reading_refuses_2_3_4 words)
         )
 
     planned : (p : Problem) {v : Verdict} → RefusesOnly (6 ∷ []) v →
-        (v ≡ Accepted → (task_count p ≤ length plan) × (table_size p ≤ length table)) →
+        (v ≡ accepted → (task_count p ≤ length plan) × (table_size p ≤ length table)) →
         PlanEnds (v and_then plan_found (best_plan p)) (task_count p) (table_size p) (plan_where v p plan table)
     planned p accepts enough = answered p (best_plan p) refl (enough refl).0 (enough refl).1
     planned p (refuses m) enough =

@@ -1,4 +1,5 @@
 -- A problem's plans are the plans of its options: those that pass are those that are allowed.
+use Rattle.refusals.specs.Refusals.{accepted}
 use Rattle.std.specs.Prelude.{ℕ, ◌+◌, ◌≤◌, ◌<◌, true, List, [], ◌∷◌, ◌↔◌, ◌≡◌, length, get_or}
 use Rattle.std.proofs.Math.Path.{sym}
 use Rattle.std.proofs.Common.{◌∙◌}
@@ -9,7 +10,6 @@ use Rattle.laws.specs.Sums.{sum}
 use Rattle.ranges.specs.Limits.{may_not_be_refused}
 use Rattle.instance.specs.Node.{Problem, level_count, task_count, task_at, no_task}
 use Rattle.instance.specs.declared.Task.{Task}
-use Rattle.refusals.specs.declared.Verdict.TheVariants.{Accepted}
 use Rattle.plan_rules.specs.AllowedPlanLaws.{choices_pass-iff}
 use Rattle.plan_rules.specs.AllowedPlans.{AllowedPlan}
 use Rattle.plan_rules.specs.Plans.{most_choice, choices_pass, fits, cores_fit, plan_passes}
@@ -83,18 +83,18 @@ module _ (p : Problem) where
       total_is_sum (item_of p no_task) part total none more (options_of p).items plan (e ∙ sym item_count) ∙ simp (item_at_lem, item_count)
 
   cores_fit_iff : (plan : List ℕ) →
-      (cores_fit p plan ≡ Accepted) ↔ ((k : ℕ) → k < p.cores → fits p (core_pattern (level_count p) k plan) 0 ≡ true)
+      (cores_fit p plan ≡ accepted) ↔ ((k : ℕ) → k < p.cores → fits p (core_pattern (level_count p) k plan) 0 ≡ true)
   unfolding cores_fit
   cores_fit_iff plan = (
     λ accepted k h. fits_of_pattern p plan k ∙ not-false _ ((none_refused _ _ _).0 accepted k h),
     λ fit. (none_refused _ _ _).1 (λ k h. rw (sym (fits_of_pattern p plan k) ∙ fit k h)),
   )
 
-  pub passing_choices : (plan : List ℕ) → plan_passes p plan ≡ Accepted → AllowedPlan p plan
+  pub passing_choices : (plan : List ℕ) → plan_passes p plan ≡ accepted → AllowedPlan p plan
   unfolding plan_passes
   passing_choices plan passes = (choices_pass-iff p plan).0 ((and_then-accepts _ _).0 passes).0
 
-  pub passing_is_allowed : (plan : List ℕ) → (plan_passes p plan ≡ Accepted) ↔ Allowed (options_of p) plan
+  pub passing_is_allowed : (plan : List ℕ) → (plan_passes p plan ≡ accepted) ↔ Allowed (options_of p) plan
   unfolding plan_passes options_of
   passing_is_allowed plan = (
     λ passes.

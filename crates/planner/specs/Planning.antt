@@ -1,12 +1,11 @@
 -- The plan that is answered: "Among the plans that refuse no task that may not be refused and whose cores all fit, the
 -- planner answers the one of least cost; among equal costs the one whose first differing choice, in task order, is
 -- smaller." Every plan is tried, in choice order, and the first of least cost is kept.
-use Rattle.std.specs.Prelude.{ℕ, zero, suc, Bool, true, false, cond, List, [], ◌∷◌, map, leb}
+use Rattle.std.specs.Prelude.{ℕ, zero, suc, Bool, true, false, cond, List, [], ◌∷◌, map, leb, Ok, Err}
 use Rattle.std.proofs.Math.Option.{Option, none, some}
 use Rattle.laws.specs.Lists.{joined}
 use Rattle.instance.specs.Node.{Problem, task_count}
-use Rattle.refusals.specs.declared.Verdict.{Verdict}
-use Rattle.refusals.specs.declared.Verdict.TheVariants.{Accepted, Refused}
+use Rattle.refusals.specs.Refusals.{Verdict}
 use Rattle.plan_rules.specs.Plans.{most_choice, plan_passes}
 use Rattle.prices.specs.Prices.{cost}
 
@@ -17,8 +16,8 @@ choice_lists most (suc n) =
     let rest = choice_lists most n in joined (λ c. map (λ choices. c ∷ choices) rest) (suc most)
 
 abbrev pub passes : Verdict → Bool
-passes Accepted = true
-passes (Refused r) = false
+passes (Ok tt) = true
+passes (Err r) = false
 
 unfoldable pub is_allowed : Problem → List ℕ → Bool
 is_allowed p plan = passes (plan_passes p plan)

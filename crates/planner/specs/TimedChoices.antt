@@ -1,5 +1,5 @@
 -- The best plan under deadlines: what is offered to the search in rounds, and that its options are the problem's.
-use Rattle.std.specs.Prelude.{ℕ, ◌+◌, ◌*◌, ◌/◌, ◌≤◌, ◌<◌, Bool, List, ◌≡◌}
+use Rattle.std.specs.Prelude.{ℕ, ◌+◌, ◌*◌, ◌/◌, ◌≤◌, ◌<◌, Bool, List, ◌≡◌, Option, Some, None}
 use Rattle.std.proofs.Math.Path.{refl, sym, ap}
 use Rattle.std.proofs.Common.{subst, ◌∙◌, le_trans, mul-le-mul_left, div-mul-le_self, arith}
 use Rattle.std.proofs.Math.ListN.{length}
@@ -24,7 +24,6 @@ use Rattle.timed_sets.specs.SetTheorem.{loads_do_not_matter}
 use Rattle.raising.specs.TimedSites.{core_of, site_options}
 use Rattle.raising.specs.declared.Site.{Site}
 use Rattle.search.specs.Found.{BestFound}
-use Rattle.search.specs.declared.Found.{Found}
 use Rattle.lagrangian.specs.TimedCores.{timed_options, timing_at, timing_width}
 use Rattle.planner.specs.BestChoiceLaws.{Chosen, found_is_chosen}
 use Rattle.planner.specs.OfferedBounds.{idle_span_at_most, offered_affordable, offered_refusal_at_most}
@@ -38,15 +37,15 @@ use Rattle.offers.specs.TimedOptions.{TimingsOffered}
 abbrev pub site_of : Problem → Site
 site_of p = record { items = task_count p; cores = p.cores; levels = level_count p; span = span p; whole = idle_cost p * span p }
 
-found_alike : {o o' : Options} → Alike o o' → (before after : List ℕ) (r : Found) → BestFound o before after r → BestFound o' before after r
-found_alike alike before after (Found.Cheapest cost) best =
+found_alike : {o o' : Options} → Alike o o' → (before after : List ℕ) (r : Option ℕ) → BestFound o before after r → BestFound o' before after r
+found_alike alike before after (Some cost) best =
     record {
       plan = best.plan;
       is_best = best_alike alike best.is_best;
       costs = sym (cost_alike alike best.is_best.allowed) ∙ best.costs;
       written = best.written;
     }
-found_alike alike before after Found.NoPlan (none, unchanged) = (λ plan allowed. none plan (allowed_alike (alike_sym alike) allowed), unchanged)
+found_alike alike before after None (none, unchanged) = (λ plan allowed. none plan (allowed_alike (alike_sym alike) allowed), unchanged)
 
 module _ {p : Problem} {load cost refusal timings : List ℕ} {must : List Bool} (v : Valid p)
     (o : OptionsOffered p (task_count p) load cost refusal must) (t : TimingsOffered p (task_count p * timing_width) timings) where
@@ -116,7 +115,7 @@ module _ {p : Problem} {load cost refusal timings : List ℕ} {must : List Bool}
             rw (kept_items_lem admitted.keeps) (omega (arith, admitted_cost beside on_this_core));
       }
 
-  pub found_in_time : {before after : List ℕ} {r : Found} → BestFound (site_options (site_of p) timings cost refusal must) before after r →
+  pub found_in_time : {before after : List ℕ} {r : Option ℕ} → BestFound (site_options (site_of p) timings cost refusal must) before after r →
       Chosen p before after r
   found_in_time {before} {after} {r} found = found_is_chosen p before after r (found_alike timed_alike before after r found)
 
@@ -155,7 +154,7 @@ module _ (inst : Instance) (s : Sound inst) where
     pub held_site_offered : SiteOffered site_with timings cost refusal must
     held_site_offered = rw same_site (site_offered s.valid o t)
 
-    pub held_found_in_time : {before after : List ℕ} {r : Found} → BestFound (site_options site_with timings cost refusal must) before after r →
+    pub held_found_in_time : {before after : List ℕ} {r : Option ℕ} → BestFound (site_options site_with timings cost refusal must) before after r →
         Chosen (problem_in inst) before after r
     held_found_in_time {before} {after} {r} found =
         found_in_time s.valid o t (subst (λ (site : Site). BestFound (site_options site timings cost refusal must) before after r) same_site found)

@@ -1,11 +1,10 @@
 // The best plan of an instance.
-ghost use Rattle.std.specs.Prelude.{ℕ, ◌*◌, ◌≤◌, ◌<◌, false, List, ◌≡◌, length};
+ghost use Rattle.std.specs.Prelude.{ℕ, ◌*◌, ◌≤◌, false, List, ◌≡◌, length, IfSome};
 ghost use Rattle.ranges.specs.Limits.{most_levels};
 ghost use Rattle.instance.specs.Held.{Sound, problem_in};
 ghost use Rattle.instance.specs.Node.{span, task_count};
 ghost use Rattle.instance.specs.Valid.{DueAtPeriodEnd};
 ghost use Rattle.planner.specs.BestChoices.{found_of, chosen_onto};
-ghost use Rattle.assignment.specs.Words.{no_cost};
 ghost use Rattle.values.specs.BestKeys.{BestKey};
 ghost use Rattle.partition.specs.Tables.{most_sets};
 ghost use Rattle.planner.specs.FilledCores.{CoreFilled};
@@ -21,8 +20,26 @@ use light::light_plan;
 use offers::{OFFERS, TIMINGS, fill_options, fill_timings};
 use raising::{Site, cheapest_in_time};
 use ranges::MOST_TASKS;
-use search::{Found, Shape, cheapest_plan, write_plan};
-use values::{MOST_SETS, NO_COST, Worth};
+use search::{Shape, cheapest_plan, write_plan};
+use values::{MOST_SETS, Worth};
+
+// A core of the instance's speeds, for loads up to the ticks of a span.
+fn core_of(inst: Instance) -> Core
+    ensures { result ≡ record { levels = inst.levelcount; capacity = inst.span } }
+{
+    Core {
+        levels: inst.levelcount,
+        capacity: inst.span as usize,
+    }
+}
+
+// What the idle ticks of a whole span cost.
+fn idle_span_cost(inst: Instance) -> u64
+    requires { Sound inst }
+    ensures { result ≡ idle_cost (problem_in inst) * span (problem_in inst) }
+{
+    inst.weights.energy as u64 * inst.idle as u64 * inst.span as u64
+}
 
 // Fills the table of one core: for every set of tasks the least cost of running it there, idle ticks included.
 fn fill_core_table(
@@ -39,13 +56,8 @@ fn fill_core_table(
     ensures { CoreFilled (problem_in inst) corecosts.old corekeys.old corecosts.new corekeys.new }
 {
     let items = inst.taskcount;
-    let core = Core {
-        levels: inst.levelcount,
-        capacity: inst.span as usize,
-    };
-    fill_knapsacks(core, items, load, cost, corecosts, corekeys);
-    let whole = inst.weights.energy as u64 * inst.idle as u64 * inst.span as u64;
-    charge_idle_once(items, whole, corecosts);
+    fill_knapsacks(core_of(inst), items, load, cost, corecosts, corekeys);
+    charge_idle_once(items, idle_span_cost(inst), corecosts);
 }
 
 // The best plan from the table of one core.
@@ -56,7 +68,7 @@ fn search_cores(
     refusal: &[u64],
     must: &[bool],
     plan: &mut [u32],
-) -> Found
+) -> Option<u64>
     requires sound { Sound inst }
     requires due_at_period_end { DueAtPeriodEnd (problem_in inst).tasks }
     requires options_offered { OptionsOffered (problem_in inst) (task_count (problem_in inst)) load.now cost.now refusal.now must.now }
@@ -75,30 +87,24 @@ fn search_cores(
     cheapest_plan(shape, refusal, must, &corecosts, &corekeys, plan)
 }
 
-// The best plan of a light site, which needs no table. Idle power is shared by the tasks of a core, so that where there is any
-// the cheapest choices of tasks alone say nothing.
-fn light_best(inst: Instance, load: &[u64], cost: &[u64], refusal: &[u64], must: &[bool]) -> Worth
+// The best plan of a light site, which needs no table; none is told where a table is needed. Idle power is shared by the tasks of a
+// core, so that where there is any the cheapest choices of tasks alone say nothing.
+fn light_best(
+    inst: Instance,
+    load: &[u64],
+    cost: &[u64],
+    refusal: &[u64],
+    must: &[bool],
+) -> Option<Worth>
     requires sound { Sound inst }
     requires due_at_period_end { DueAtPeriodEnd (problem_in inst).tasks }
     requires options_offered { OptionsOffered (problem_in inst) (task_count (problem_in inst)) load.now cost.now refusal.now must.now }
-    ensures { result.cost < no_cost → BestKey (options_of (problem_in inst)) (task_count (problem_in inst)) result }
+    ensures { IfSome result (BestKey (options_of (problem_in inst)) (task_count (problem_in inst))) }
 {
     if 0 < inst.idle {
-        return Worth {
-            cost: NO_COST,
-            key: 0,
-        };
+        return None;
     }
-    let capacity = inst.span as u64;
-    light_plan(
-        inst.taskcount,
-        inst.levelcount,
-        capacity,
-        load,
-        cost,
-        refusal,
-        must,
-    )
+    light_plan(core_of(inst), inst.taskcount, load, cost, refusal, must)
 }
 
 // The best plan where no deadline is before its period's end.
@@ -109,7 +115,7 @@ fn best_by_load(
     refusal: &[u64],
     must: &[bool],
     plan: &mut [u32],
-) -> Found
+) -> Option<u64>
     requires sound { Sound inst }
     requires due_at_period_end { DueAtPeriodEnd (problem_in inst).tasks }
     requires options_offered { OptionsOffered (problem_in inst) (task_count (problem_in inst)) load.now cost.now refusal.now must.now }
@@ -117,10 +123,9 @@ fn best_by_load(
     ensures value { result ≡ found_of (problem_in inst) (best_plan (problem_in inst)) }
     ensures plan_after { plan.new ≡ chosen_onto (best_plan (problem_in inst)) plan.old }
 {
-    let light = light_best(inst, load, cost, refusal, must);
-    if light.cost < NO_COST {
+    if let Some(light) = light_best(inst, load, cost, refusal, must) {
         write_plan(inst.taskcount, light.key, plan);
-        return Found::Cheapest(light.cost);
+        return Some(light.cost);
     }
     search_cores(inst, load, cost, refusal, must, plan)
 }
@@ -130,23 +135,13 @@ fn is_early(inst: Instance) -> bool
     requires { Sound inst }
     ensures { result ≡ false → DueAtPeriodEnd (problem_in inst).tasks }
 {
-    let mut i = 0;
-    while i < inst.taskcount {
+    for i in 0..inst.taskcount {
         let task = inst.tasks[i];
         if task.deadline < task.period {
             return true;
         }
-        i += 1;
     }
     false
-}
-
-// What the idle ticks of a whole span cost.
-fn idle_span_cost(inst: Instance) -> u64
-    requires { Sound inst }
-    ensures { result ≡ idle_cost (problem_in inst) * span (problem_in inst) }
-{
-    inst.weights.energy as u64 * inst.idle as u64 * inst.span as u64
 }
 
 // The best plan where some task is due before its period ends.
@@ -156,7 +151,7 @@ fn best_in_time(
     refusal: &[u64],
     must: &[bool],
     plan: &mut [u32],
-) -> Found
+) -> Option<u64>
     requires sound { Sound inst }
     requires by_index { (load : List ℕ) × OptionsOffered (problem_in inst) (task_count (problem_in inst)) load cost.now refusal.now must.now }
     requires inst_in_bounds { task_count (problem_in inst) ≤ length plan.old }
@@ -176,7 +171,7 @@ fn best_in_time(
 }
 
 // Writes the best plan to the front of the buffer, or nothing where there is none.
-pub(crate) fn best_choices(inst: Instance, plan: &mut [u32]) -> Found
+pub(crate) fn best_choices(inst: Instance, plan: &mut [u32]) -> Option<u64>
     requires sound { Sound inst }
     requires inst_in_bounds { task_count (problem_in inst) ≤ length plan.old }
     ensures value { result ≡ found_of (problem_in inst) (best_plan (problem_in inst)) }

@@ -4,5 +4,5 @@
 mod amounts;
 mod pricing;
 
-pub use amounts::{Price, Priced, price_of};
+pub use amounts::{Price, price_of};
 pub use pricing::price;

@@ -1,5 +1,5 @@
 -- The rounds of the search, step by step: one core's set more, and the last round.
-use Rattle.std.specs.Prelude.{ℕ, ◌+◌, ◌^◌, ◌≤◌, ◌<◌, ◌≡◌, Bool, List, length, get_or}
+use Rattle.std.specs.Prelude.{ℕ, ◌+◌, ◌^◌, ◌≤◌, ◌<◌, ◌≡◌, Bool, List, length, get_or, Some, None}
 use Rattle.std.proofs.Math.Path.{refl}
 use Rattle.std.proofs.Common.{arith, below_more}
 use Rattle.laws.specs.Lists.{onto}
@@ -10,7 +10,6 @@ use Rattle.assignment.specs.SetLaws.{set_number-below}
 use Rattle.assignment.specs.Words.{no_cost, words_none, words_pair}
 use Rattle.search.specs.Found.{BestFound}
 use Rattle.search.specs.FoundLaws.{items_counted, told_is_best}
-use Rattle.search.specs.declared.Found.TheVariants.{Cheapest, NoPlan}
 use Rattle.lagrangian.specs.TimedCores.{timed_options}
 use Rattle.lagrangian.specs.Reached.{worth_on}
 use Rattle.timed_sets.specs.Found.{LowerTimed}
@@ -109,13 +108,13 @@ module _ (site : Site) (timings cost refusal : List ℕ) (must : List Bool) (wor
   unfolding charged_once
   all_items = items_counted refusal must site.items
 
-  pub no_plan_told : (plan : List ℕ) → no_cost ≤ worth.cost → BestFound (site_options site timings cost refusal must) plan plan NoPlan
+  pub no_plan_told : (plan : List ℕ) → no_cost ≤ worth.cost → BestFound (site_options site timings cost refusal must) plan plan None
   no_plan_told plan dear =
-      told_is_best site.items (site_options site timings cost refusal must) (worth_of worth) plan plan NoPlan all_items
+      told_is_best site.items (site_options site timings cost refusal must) (worth_of worth) plan plan None all_items
       (rw (words_none worth.cost worth.key dear) (refl, refl)) answers
 
   pub plan_told : (before after : List ℕ) → worth.cost < no_cost → after ≡ onto (digits site.items worth.key) before →
-      BestFound (site_options site timings cost refusal must) before after (Cheapest worth.cost)
+      BestFound (site_options site timings cost refusal must) before after (Some worth.cost)
   plan_told before after real written =
-      told_is_best site.items (site_options site timings cost refusal must) (worth_of worth) before after (Cheapest worth.cost) all_items
+      told_is_best site.items (site_options site timings cost refusal must) (worth_of worth) before after (Some worth.cost) all_items
       (rw (words_pair worth.cost worth.key real) (refl, written)) answers

@@ -22,7 +22,7 @@ use lagrangian::Timed;
 use limits::TRIES;
 use offer::Offer;
 use partition::fill_weights;
-use search::{Found, Shape, write_plan};
+use search::{Shape, write_plan};
 use table::Table;
 use values::MOST_SETS;
 
@@ -67,7 +67,7 @@ pub fn cheapest_in_time(
     refusal: &[u64],
     must: &[bool],
     plan: &mut [u32],
-) -> Found
+) -> Option<u64>
     requires site_offered { SiteOffered site timings.now cost.now refusal.now must.now }
     requires site_in_bounds { site.items ≤ length plan.old }
     ensures { BestFound (site_options site timings.now cost.now refusal.now must.now)
@@ -92,9 +92,7 @@ pub fn cheapest_in_time(
     table.lift_by_samples(&offer);
     table.settle_own(&offer);
     table.search_small(&offer);
-    let Some(best) = table.least_in_rounds(&offer) else {
-        return Found::NoPlan;
-    };
+    let best = table.least_in_rounds(&offer)?;
     write_plan(site.items, best.key, plan);
-    Found::Cheapest(best.cost)
+    Some(best.cost)
 }

@@ -10,6 +10,7 @@ use set_tables::lift_all;
 use values::MOST_SETS;
 
 // By the number of each set its entry's cost and key, and how often it may still be tried; an entry of a set that may not is exact.
+// Three arrays, since costs and keys are lent apart to the search from a table.
 #[derive(Drop)]
 pub(crate) struct Table {
     pub(crate) costs: [u64; MOST_SETS],

@@ -1,23 +1,21 @@
 -- How a call ends by what its tests answer, and what an ending tells of the lent buffers.
-use Rattle.std.specs.Prelude.{ℕ, ◌<◌, ◌≡◌, refl, length, drop}
+use Rattle.std.specs.Prelude.{ℕ, ◌<◌, ◌≡◌, refl, length, drop, Err}
 use mathlib.Core.List.Memᴰ
 use mathlib.Core.List.{List, [], ◌∷◌, ◌++◌, Memᴰ}
 use Rattle.std.proofs.Common.{ap, arith}
 use Rattle.refusals.specs.Endings.{Lent, lent, Unchanged, FrontWritten, Every, ServedOrRefused, served, refused, Ends}
 use Rattle.refusals.specs.RefusalNumbers.{RefusesOnly, accepts, refuses, number_above_zero}
-use Rattle.refusals.specs.Refusals.{Answer, number_of, answer_of}
+use Rattle.refusals.specs.Refusals.{Answer, number_of, answer_of, Verdict, accepted}
 use Rattle.refusals.specs.declared.Refusal.{Refusal}
-use Rattle.refusals.specs.declared.Verdict.{Verdict}
-use Rattle.refusals.specs.declared.Verdict.TheVariants.{Accepted, Refused}
 
 pub unchanged : {n : ℕ} {buffer : List ℕ} → Unchanged (lent n buffer buffer)
 unchanged = record { as_before = refl }
 
 module _ {numbers : List ℕ} {buffers : List Lent} where
-  pub serves : Every FrontWritten buffers → Ends Accepted numbers buffers Accepted
+  pub serves : Every FrontWritten buffers → Ends accepted numbers buffers accepted
   serves written = record { as_tested = refl; ending = served written }
 
-  pub turns_down : {r : Refusal} → Memᴰ (number_of r) numbers → Every Unchanged buffers → Ends (Refused r) numbers buffers (Refused r)
+  pub turns_down : {r : Refusal} → Memᴰ (number_of r) numbers → Every Unchanged buffers → Ends (Err r) numbers buffers (Err r)
   turns_down listed same = record { as_tested = refl; ending = refused listed same }
 
 -- a call that writes nothing
@@ -31,7 +29,7 @@ number_above_zero_leaves (served written) above = absurd (omega arith)
 number_above_zero_leaves (refused listed same) above = same
 
 pub refused_leaves : {numbers : List ℕ} {buffers : List Lent} {v : Verdict} {r : Refusal} →
-    ServedOrRefused numbers buffers (answer_of v) → v ≡ Refused r → Every Unchanged buffers
+    ServedOrRefused numbers buffers (answer_of v) → v ≡ Err r → Every Unchanged buffers
 refused_leaves {r = r} ending e = number_above_zero_leaves ending (rw e (number_above_zero r))
 
 unchanged_is_front_written : (buffers : List Lent) → Every Unchanged buffers → Every FrontWritten buffers

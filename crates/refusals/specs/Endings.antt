@@ -1,10 +1,8 @@
 -- How a call ends, as demand 1 has it: served, or refused. "Every refusal leaves all lent buffers unchanged. An accepted
 -- call writes only the words or bytes its result needs, from the front of each buffer."
-use Rattle.std.specs.Prelude.{ℕ, ◌≡◌, length, drop}
+use Rattle.std.specs.Prelude.{ℕ, ◌≡◌, length, drop, Ok, Err}
 use mathlib.Core.List.{List, [], ◌∷◌, Memᴰ}
-use Rattle.refusals.specs.Refusals.{Answer, answer, answer_of, Reading}
-use Rattle.refusals.specs.declared.Verdict.{Verdict}
-use Rattle.refusals.specs.declared.Verdict.TheVariants.{Refused}
+use Rattle.refusals.specs.Refusals.{Answer, answer, answer_of, Reading, Verdict}
 
 -- a lent buffer: how many of its elements the result needs, and what it holds before and after the call
 pub record Lent : Type 0 where
@@ -39,10 +37,10 @@ pub record Ends (tests : Verdict) (numbers : List ℕ) (buffers : List Lent) (ve
 
 -- what is tested once the input was read
 abbrev pub read_then : {A : Type 0} → Reading A → (A → Verdict) → Verdict
-read_then (Reading.refused r) tests = Refused r
-read_then (Reading.accepted a) tests = tests a
+read_then (Err r) tests = Err r
+read_then (Ok a) tests = tests a
 
 -- what a result needs of a buffer, where the input was read
 abbrev pub needed_for : {A : Type 0} → (A → ℕ) → Reading A → ℕ
-needed_for size (Reading.refused r) = 0
-needed_for size (Reading.accepted a) = size a
+needed_for size (Err r) = 0
+needed_for size (Ok a) = size a

@@ -1,10 +1,8 @@
 -- Document 01's section 'Refused input', and the numbers that document 02 adds: the number of each refusal, and the place
 -- returned with it.
-use Rattle.std.specs.Prelude.{ℕ, cond, List, [], ◌∷◌, leb, length}
+use Rattle.std.specs.Prelude.{ℕ, cond, List, [], ◌∷◌, leb, length, Result, Ok, Err}
 use Rattle.refusals.specs.declared.Refusal.{Refusal}
 use Rattle.refusals.specs.declared.Refusal.TheVariants.{Text, WordCount, WordRange, SpanTooLong, NoPlan, ShortBuffer, GivenPlan, CoreOverloaded, GivenTable, JobSlots, SwitchingWord, CoreOrState, EarlyEnd, CalendarDate, NoSuchQuestion}
-use Rattle.refusals.specs.declared.Verdict.{Verdict}
-use Rattle.refusals.specs.declared.Verdict.TheVariants.{Accepted, Refused}
 
 abbrev pub number_of : Refusal → ℕ
 -- "text has another byte, a number above 4,294,967,295, or a byte beyond the 4,096th"
@@ -71,22 +69,33 @@ pub record Answer : Type 0 where
 abbrev pub answer : ℕ → ℕ → Answer
 answer number place = record { number = number; place = place }
 
+-- what a test answers: that it is passed, or a refusal
+abbrev pub Verdict : Type 0
+Verdict = Result (Unit {0}) Refusal
+
+abbrev pub accepted : Verdict
+accepted = Ok tt
+
 -- what a verdict returns: 0 and 0 where nothing is refused
 abbrev pub answer_of : Verdict → Answer
-answer_of Accepted = answer 0 0
-answer_of (Refused r) = answer (number_of r) (place_of r)
+answer_of (Ok tt) = answer 0 0
+answer_of (Err r) = answer (number_of r) (place_of r)
 
 -- tests in a row: the first refusal is the one returned
 infixr 25 ◌and_then◌
 abbrev pub ◌and_then◌ : Verdict → Verdict → Verdict
-Accepted and_then next = next
-Refused r and_then next = Refused r
+(Ok tt) and_then next = next
+Err r and_then next = Err r
 
 -- 6: "length needed, in the buffer's own elements"
 unfoldable pub room : ℕ → List ℕ → Verdict
-room needed buffer = cond (leb needed (length buffer)) Accepted (Refused (ShortBuffer needed))
+room needed buffer = cond (leb needed (length buffer)) accepted (Err (ShortBuffer needed))
 
--- what reading something answers: a refusal, or what was read
-pub data Reading (A : Type 0) : Type 0 where
-  refused : Refusal → Reading A
-  accepted : A → Reading A
+-- what reading something answers: what was read, or a refusal
+abbrev pub Reading : Type 0 → Type 0
+Reading A = Result A Refusal
+
+-- whether something was read, or why not
+abbrev pub verdict_of : {A : Type 0} → Reading A → Verdict
+verdict_of (Ok a) = accepted
+verdict_of (Err r) = Err r

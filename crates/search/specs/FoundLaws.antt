@@ -1,6 +1,6 @@
 -- From the value that the table comes to, to the answer and to the best plan.
 use Prim.Native.Nat.{ℕ, suc, pred, ◌+◌, ◌*◌, ◌^◌, ◌≤◌, ◌<◌}
-use Rattle.std.specs.Prelude.{◌≡◌, refl, Bool, List, length}
+use Rattle.std.specs.Prelude.{◌≡◌, refl, Bool, List, length, Option, Some, None}
 use Rattle.std.proofs.Common.{subst, zero-add, arith}
 use Rattle.std.proofs.Math.Nat.{mul-le-mul}
 use Rattle.laws.specs.Lists.{onto}
@@ -26,8 +26,6 @@ use Rattle.values.specs.Items.{item_at, items_of}
 use Rattle.search.specs.Found.{found_value, Tells, Searched, BestFound}
 use Rattle.search.specs.Limits.{SearchReady}
 use Rattle.search.specs.declared.Shape.{Shape}
-use Rattle.search.specs.declared.Found.{Found}
-use Rattle.search.specs.declared.Found.TheVariants.{Cheapest, NoPlan}
 
 pub items_counted : (refusal : List ℕ) (must : List Bool) (n : ℕ) → length (items_of refusal must n) ≡ n
 unfolding items_of
@@ -58,14 +56,14 @@ module _ {shape : Shape} {refusal : List ℕ} {must : List Bool} {core_costs cor
     found_key real = let within = rw (← is) at found_within in (words_within cost key real within).1
 
     pub cheapest_told : {before after : List ℕ} → cost < no_cost → after ≡ onto (digits shape.items key) before →
-        Searched shape refusal must core_costs core_keys before after (Cheapest cost)
+        Searched shape refusal must core_costs core_keys before after (Some cost)
     cheapest_told real written = record { told = rw (← is, words_pair cost key real) (refl, written) }
 
-    pub none_told : {before : List ℕ} → no_cost ≤ cost → Searched shape refusal must core_costs core_keys before before NoPlan
+    pub none_told : {before : List ℕ} → no_cost ≤ cost → Searched shape refusal must core_costs core_keys before before None
     none_told dear = record { told = rw (← is, words_none cost key dear) (refl, refl) }
 
 -- a value that answers for the options is told as the best plan
-pub told_is_best : (n : ℕ) (o : Options) (v : Value) (before after : List ℕ) (found : Found) → length o.items ≡ n →
+pub told_is_best : (n : ℕ) (o : Options) (v : Value) (before after : List ℕ) (found : Option ℕ) → length o.items ≡ n →
     Tells n v before after found → BestAnswers o v → BestFound o before after found
 told_is_best n o none before after found counted (is, same) answers = rw is (answers, same)
 told_is_best n o (pair cost key) before after found counted (is, written) (first, costs) =
@@ -79,7 +77,7 @@ told_is_best n o (pair cost key) before after found counted (is, written) (first
 
 -- What the search answers is the best plan of any options with these cores, levels and items, where the table holds the least
 -- value of each set over the patterns that one of their cores admits.
-pub search_is_best : {shape : Shape} {refusal : List ℕ} {must : List Bool} {core_costs core_keys before after : List ℕ} {found : Found} →
+pub search_is_best : {shape : Shape} {refusal : List ℕ} {must : List Bool} {core_costs core_keys before after : List ℕ} {found : Option ℕ} →
     SearchReady shape refusal must core_costs core_keys → Searched shape refusal must core_costs core_keys before after found → (o : Options) →
     o.cores ≡ shape.cores → o.levels ≡ shape.levels → o.items ≡ items_of refusal must shape.items →
     CoreTable o (table_at shape.items core_costs core_keys) → BestFound o before after found

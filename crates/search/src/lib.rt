@@ -11,7 +11,6 @@ ghost use Rattle.search.specs.Limits.{SearchReady};
 
 pub use best::least_of_table;
 pub use plan::write_plan;
-use values::NO_COST;
 
 // How many items there are, and how many cores and levels for each.
 #[derive(Clone, Copy)]
@@ -21,15 +20,8 @@ pub struct Shape {
     pub levels: usize,
 }
 
-#[derive(Clone, Copy)]
-pub enum Found {
-    // The cost of the best plan.
-    Cheapest(u64),
-    // No plan keeps every item that must be kept, with nothing on a core that it does not admit.
-    NoPlan,
-}
-
-// Finds the cheapest plan, of equally cheap ones the first, and writes its choices.
+// Finds the cheapest plan, of equally cheap ones the first, writes its choices and answers its cost. None where no plan keeps every
+// item that must be kept, with nothing on a core that it does not admit.
 pub fn cheapest_plan(
     shape: Shape,
     refusal: &[u64],
@@ -37,17 +29,13 @@ pub fn cheapest_plan(
     corecosts: &[u64],
     corekeys: &[u64],
     plan: &mut [u32],
-) -> Found
+) -> Option<u64>
     requires search_ready { SearchReady shape refusal.now must.now corecosts.now corekeys.now }
     requires shape_in_bounds { shape.items ≤ length plan.old }
     ensures { Searched shape refusal.now must.now corecosts.now corekeys.now
         plan.old plan.new result }
 {
-    let mut none = [0u64; 0];
-    let best = least_of_table(shape, refusal, must, corecosts, corekeys, &mut none);
-    if NO_COST <= best.cost {
-        return Found::NoPlan;
-    }
+    let best = least_of_table(shape, refusal, must, corecosts, corekeys, &mut []).found()?;
     write_plan(shape.items, best.key, plan);
-    Found::Cheapest(best.cost)
+    Some(best.cost)
 }

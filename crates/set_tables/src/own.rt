@@ -80,7 +80,8 @@ fn own_level(core: &TimedCore<'_>, item: usize) -> usize
     own
 }
 
-// What an item costs at a level, where a job has its ticks within its window there.
+// What an item costs at a level, where a job has its ticks within its window there; else 0, which adds nothing to a sum that becomes
+// none.
 fn own_cost(core: &TimedCore<'_>, item: usize, level: usize) -> u64
     requires { (item < core.now.timed.items) × (level < core.now.timed.levels) }
     ensures value { is_within core.now.timings.now item level ≡ true →

@@ -18,7 +18,7 @@ pub const MOST_COLUMNS: usize = 85;
 // Which variables are basic, one for each row but the first, and which are not, one for each column but the first. A basic variable is the
 // first entry of its row less the others, each times the variable of its column. The first row has in place of that what the sum of costs
 // rises by with each column's variable; its first entry is the sum's negative where these are all 0. What a variable stands for is the
-// caller's.
+// caller's. Rows and columns are counted beside their arrays, which are fixed memory.
 #[derive(Drop)]
 pub struct Dictionary<V> {
     pub rows: usize,

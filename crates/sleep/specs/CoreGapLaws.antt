@@ -1,5 +1,6 @@
 -- The rows of a table that passes the check, as their gaps need them: an awake core has a busy slot and as many as its load, a core
 -- that is off has none.
+use Rattle.refusals.specs.Refusals.{accepted}
 use Rattle.std.specs.Prelude.{ℕ, zero, suc, ◌+◌, ◌-◌, ◌*◌, ◌/◌, ◌≤◌, ◌<◌, Bool, true, false, not, List, ◌≡◌, eqb}
 use Rattle.std.proofs.Common.{⊎_elim, sym, ap, ◌∙◌, le-div_iff_mul-le, mod-eq_of_lt, mod-lt, mul-pos, mul-zero, zero-mul, arith, eq-eqb}
 use Rattle.std.proofs.Math.Path.{refl}
@@ -25,7 +26,6 @@ use Rattle.plan_rules.specs.KeepsLaws.{kept_where_ticks}
 use Rattle.plan_rules.specs.Quantities.{keeps, jobs, job_ticks, ticks, ticks_on, load_on, core_load, level_of}
 use Rattle.prices.specs.IdleLaws.{idle_ticks_of_awake_core, no_idle_ticks_of_off_core, awake_core_keeps_task, off_core_keeps_none}
 use Rattle.prices.specs.Prices.{is_awake, idle_ticks}
-use Rattle.refusals.specs.declared.Verdict.TheVariants.{Accepted}
 use Rattle.sleep.specs.CoreSleeps.{costs_of}
 use Rattle.sleep.specs.RowLaws.{table_row_repeats}
 use Rattle.sleep.specs.Rows.{busy_at}
@@ -44,7 +44,7 @@ jobs_above_zero p periodic i h = go (jobs p i) (jobs_fill_span p periodic i h)
     go zero whole = absurd (omega (arith, periodic.span_positive, zero-mul (task_at p i).period))
     go (suc n) whole = omega arith
 
-module _ (p : Problem) (valid : Valid p) (plan table : List ℕ) (passes : check p plan table ≡ Accepted) (k : ℕ) (h : k < p.cores) where
+module _ (p : Problem) (valid : Valid p) (plan table : List ℕ) (passes : check p plan table ≡ accepted) (k : ℕ) (h : k < p.cores) where
   drawn : Drawing p plan table
   drawn = (check_accepts_exactly_drawings p (valid_is_periodic valid) plan table).0 passes
 

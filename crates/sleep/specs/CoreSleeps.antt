@@ -1,22 +1,20 @@
 -- Document 02 (b): what is reckoned for each core of a table, and which switching words are in range.
-use Rattle.std.specs.Prelude.{ℕ, cond, List, leb}
+use Rattle.std.specs.Prelude.{ℕ, cond, List, leb, Err}
 use Rattle.laws.specs.Lists.{list_of}
 use Rattle.ranges.specs.Limits.{most_switching_energy, most_switching_time}
 use Rattle.instance.specs.Node.{Problem, span}
 use Rattle.gaps.specs.Sleeping.{row_slept}
 use Rattle.gaps.specs.declared.SleepCosts.{SleepCosts}
 use Rattle.gaps.specs.declared.Slept.{Slept}
-use Rattle.refusals.specs.Refusals.{◌and_then◌}
+use Rattle.refusals.specs.Refusals.{◌and_then◌, Verdict, accepted}
 use Rattle.refusals.specs.declared.Refusal.TheVariants.{SwitchingWord}
-use Rattle.refusals.specs.declared.Verdict.{Verdict}
-use Rattle.refusals.specs.declared.Verdict.TheVariants.{Accepted, Refused}
 use Rattle.sleep.specs.Rows.{busy_at}
 
 -- 11: "a switching word out of range, place 0 or 1", the energy "in that order" before the time
 unfoldable pub switching_passes : (energy time : ℕ) → Verdict
 switching_passes energy time =
-    cond (leb energy most_switching_energy) Accepted (Refused (SwitchingWord 0))
-    and_then cond (leb time most_switching_time) Accepted (Refused (SwitchingWord 1))
+    cond (leb energy most_switching_energy) accepted (Err (SwitchingWord 0))
+    and_then cond (leb time most_switching_time) accepted (Err (SwitchingWord 1))
 
 -- what gaps cost on a node with this idle power
 abbrev pub costs_of : Problem → (energy time : ℕ) → SleepCosts

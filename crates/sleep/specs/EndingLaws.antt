@@ -7,11 +7,9 @@ use Rattle.refusals.specs.EndingLaws.{unchanged, serves, turns_down}
 use Rattle.refusals.specs.Endings.{lent, Ends, read_then, needed_for}
 use Rattle.instance.specs.Node.{Problem}
 use Rattle.refusals.specs.RefusalNumbers.{RefusesOnly, accepts, refuses, UnreadOnly, read, unread, and_then-refuses, both_refuse, room_refuses_6}
-use Rattle.refusals.specs.Refusals.{Reading, room}
+use Rattle.refusals.specs.Refusals.{Reading, room, Verdict, accepted}
 use Rattle.refusals.specs.RoomLaws.{room_accepts, front_written}
 use Rattle.instance.specs.SiteFileRefusals.{reading_refuses_2_3_4}
-use Rattle.refusals.specs.declared.Verdict.{Verdict}
-use Rattle.refusals.specs.declared.Verdict.TheVariants.{Accepted}
 use Rattle.checks.specs.Checks.{check}
 use Rattle.checks.specs.RefusalLaws.{check_refuses_7_9_10}
 use Rattle.refusals.specs.VerdictLaws.{and_then-accepts}
@@ -40,7 +38,7 @@ module _ (words plan table : List ℕ) (energy time : ℕ) (energies sleeps : Li
           Ends v (2 ∷ 3 ∷ 4 ∷ 11 ∷ 6 ∷ 7 ∷ 9 ∷ 10 ∷ []) (lent n energies o.energies ∷ lent n sleeps o.sleeps ∷ []) o.answer
 
       slept : (p : Problem) {v : Verdict} → RefusesOnly (11 ∷ 6 ∷ 7 ∷ 9 ∷ 10 ∷ []) v →
-          (v ≡ Accepted → (p.cores ≤ length energies) × (p.cores ≤ length sleeps)) →
+          (v ≡ accepted → (p.cores ≤ length energies) × (p.cores ≤ length sleeps)) →
           SleepEnds v p.cores (sleep_where v (least_energies p table energy time) (sleep_counts p table energy time) energies sleeps)
       slept p accepts enough =
           serves (
@@ -49,7 +47,7 @@ module _ (words plan table : List ℕ) (energy time : ℕ) (energies sleeps : Li
           )
       slept p (refuses m) enough = turns_down (Memᴰ.append_right (2 ∷ 3 ∷ 4 ∷ []) m) (unchanged, (unchanged, tt))
 
-      enough : (p : Problem) → sleep_tests p plan table energy time energies sleeps ≡ Accepted → (p.cores ≤ length energies) × (p.cores ≤ length sleeps)
+      enough : (p : Problem) → sleep_tests p plan table energy time energies sleeps ≡ accepted → (p.cores ≤ length energies) × (p.cores ≤ length sleeps)
       enough p e =
           let after_switching = ((and_then-accepts (switching_passes energy time) _).0 e).1 in
           let both = ((and_then-accepts (room_for_both p energies sleeps) (check p plan table)).0 after_switching).0 in

@@ -1,13 +1,11 @@
 -- The whole outcome of reckoning sleeps, for every list of words: the answer, and what each lent list holds afterwards; and how
 -- a call ends.
-use Rattle.std.specs.Prelude.{ℕ, List, [], ◌∷◌, ◌≡◌}
+use Rattle.std.specs.Prelude.{ℕ, List, [], ◌∷◌, ◌≡◌, Ok, Err}
 use Rattle.laws.specs.Lists.{onto}
 use Rattle.refusals.specs.Endings.{lent, Ends, read_then, needed_for}
 use Rattle.instance.specs.Node.{Problem}
-use Rattle.refusals.specs.Refusals.{Reading, refused, accepted, room, ◌and_then◌}
+use Rattle.refusals.specs.Refusals.{Reading, room, ◌and_then◌, Verdict, accepted}
 use Rattle.instance.specs.SiteFile.{problem_of}
-use Rattle.refusals.specs.declared.Verdict.{Verdict}
-use Rattle.refusals.specs.declared.Verdict.TheVariants.{Accepted, Refused}
 use Rattle.checks.specs.Checks.{check}
 use Rattle.sleep.specs.CoreSleeps.{switching_passes, least_energies, sleep_counts}
 
@@ -23,9 +21,9 @@ pub record Gives (answer : Verdict) (energies sleeps : List ℕ) (outcome : Slee
   pub same_sleeps : sleeps ≡ outcome.sleeps
 
 abbrev pub sleep_where : Verdict → (new_energies new_sleeps energies sleeps : List ℕ) → SleepOutcome
-sleep_where Accepted new_energies new_sleeps energies sleeps =
-    record { answer = Accepted; energies = onto new_energies energies; sleeps = onto new_sleeps sleeps }
-sleep_where (Refused r) new_energies new_sleeps energies sleeps = record { answer = Refused r; energies = energies; sleeps = sleeps }
+sleep_where (Ok tt) new_energies new_sleeps energies sleeps =
+    record { answer = accepted; energies = onto new_energies energies; sleeps = onto new_sleeps sleeps }
+sleep_where (Err r) new_energies new_sleeps energies sleeps = record { answer = Err r; energies = energies; sleeps = sleeps }
 
 -- "Each of the two lists needs M entries, else 6, energies first."
 abbrev pub room_for_both : Problem → (energies sleeps : List ℕ) → Verdict
@@ -37,8 +35,8 @@ sleep_tests p plan table energy time energies sleeps =
     switching_passes energy time and_then room_for_both p energies sleeps and_then check p plan table
 
 abbrev pub sleep_outcome_of : Reading Problem → (plan table : List ℕ) → (energy time : ℕ) → (energies sleeps : List ℕ) → SleepOutcome
-sleep_outcome_of (refused r) plan table energy time energies sleeps = record { answer = Refused r; energies = energies; sleeps = sleeps }
-sleep_outcome_of (accepted p) plan table energy time energies sleeps =
+sleep_outcome_of (Err r) plan table energy time energies sleeps = record { answer = Err r; energies = energies; sleeps = sleeps }
+sleep_outcome_of (Ok p) plan table energy time energies sleeps =
     sleep_where (sleep_tests p plan table energy time energies sleeps) (least_energies p table energy time) (sleep_counts p table energy time) energies sleeps
 
 unfoldable pub sleep_outcome : (words plan table : List ℕ) → (energy time : ℕ) → (energies sleeps : List ℕ) → SleepOutcome

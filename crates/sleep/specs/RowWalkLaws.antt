@@ -1,5 +1,5 @@
 -- One pass along a row: what a gap comes to, each slot passed, and what the whole row comes to.
-use Rattle.std.specs.Prelude.{ℕ, ◌+◌, ◌*◌, ◌≤◌, ◌<◌, Bool, cond, ◌≡◌}
+use Rattle.std.specs.Prelude.{ℕ, suc, ◌+◌, ◌*◌, ◌≤◌, ◌<◌, Bool, cond, ◌≡◌, None, Some}
 use Rattle.std.proofs.Math.Bool.{true, false}
 use Rattle.std.proofs.Math.Path.{refl}
 use Rattle.std.proofs.Common.{le_of_lt, mul-le-mul, add-one, arith, le-leb, lt-ltb, le-ltb}
@@ -9,10 +9,10 @@ use Rattle.ranges.specs.Limits.{most_idle_power, most_span}
 use Rattle.gaps.specs.Gaps.{Repeats}
 use Rattle.gaps.specs.SleepLaws.{energy_at_most_awake, no_energy_in_no_gap, no_sleep_in_no_gap}
 use Rattle.gaps.specs.Sleeping.{gap_energy, sleeps_in, energy_in, sleep_in, row_slept}
-use Rattle.gaps.specs.Walks.{walked_none, walked_past_idle, walked_past_busy, walked_past_first, walk_without_busy_slot, walk_comes_to}
+use Rattle.gaps.specs.Walks.{Walked, none_busy, walked_none, walked_past_idle, walked_past_busy, walked_past_first, walk_without_busy_slot, walk_comes_to}
 use Rattle.gaps.specs.declared.SleepCosts.{SleepCosts}
 use Rattle.gaps.specs.declared.Slept.{Slept}
-use Rattle.sleep.specs.RowWalks.{most_idle_energy, GapReckoned, Bounded, Passes, WalkedTo}
+use Rattle.sleep.specs.RowWalks.{most_idle_energy, GapReckoned, with_gap, Bounded, Passes, WalkedTo}
 use Rattle.sleep.specs.declared.rows.Walk.{Walk}
 
 module _ (costs : SleepCosts) (gap awake : ℕ) (same : awake ≡ costs.idle * gap) where
@@ -51,7 +51,7 @@ module _ {costs : SleepCosts} {gap : ℕ} {slept : Slept} (g : GapReckoned costs
   pub gap_sleep_at_most : slept.sleeps ≤ 1
   gap_sleep_at_most = rw g.its_sleep (sleep_at_most_one costs gap)
 
-pub walk_begins : (costs : SleepCosts) (busy : ℕ → Bool) → WalkedTo costs busy 0 (record { met = false; leading = 0; run = 0; energy = 0; sleeps = 0 })
+pub walk_begins : (costs : SleepCosts) (busy : ℕ → Bool) → WalkedTo costs busy 0 (record { leading = None; run = 0; slept = record { energy = 0; sleeps = 0 } })
 walk_begins costs busy =
     record {
       energies = walked_none;
@@ -71,8 +71,13 @@ walk_is_bounded {costs} {busy} {x} {walk} idle short w =
       sleeps_at_most = omega (arith, w.sleeps_at_most);
     }
 
+-- no gap was reckoned before the first busy slot, so that one adds to nothing
+first_passed : {F : ℕ → ℕ} {busy : ℕ → Bool} {x leading run total : ℕ} → busy x ≡ true → Walked F busy x false leading run total →
+    Walked F busy (suc x) true run 0 total
+first_passed e (none_busy w) = rw w.no_total (walked_past_first e (none_busy w))
+
 module _ (costs : SleepCosts) (walk : Walk) where
-  pub passes_idle : Passes costs walk false (record { met = walk.met; leading = walk.leading; run = walk.run + 1; energy = walk.energy; sleeps = walk.sleeps })
+  pub passes_idle : Passes costs walk false (record { leading = walk.leading; run = walk.run + 1; slept = walk.slept })
   passes_idle =
       record {
         goes_on = λ busy x e w.
@@ -86,47 +91,48 @@ module _ (costs : SleepCosts) (walk : Walk) where
             });
       }
 
-  pub passes_busy : walk.met ≡ true → (slept : Slept) → GapReckoned costs walk.run slept →
-      Passes costs walk true (record { met = true; leading = walk.leading; run = 0; energy = walk.energy + slept.energy; sleeps = walk.sleeps + slept.sleeps })
-  passes_busy met slept g =
+  pub passes_busy : (leading : ℕ) → walk.leading ≡ Some leading →
+      Passes costs walk true (record { leading = Some leading; run = 0; slept = with_gap costs walk.slept walk.run })
+  passes_busy leading met =
       record {
         goes_on = λ busy x e w.
             rw (add-one x)
             (record {
-              energies = rw g.its_energy (walked_past_busy e (rw met at w.energies));
-              sleeps = rw g.its_sleep (walked_past_busy e (rw met at w.sleeps));
-              slots_at_most = omega (arith, w.slots_at_most);
-              energy_at_most = omega (arith, w.energy_at_most, gap_energy_at_most g);
-              sleeps_at_most = omega (arith, w.sleeps_at_most, gap_sleep_at_most g);
+              energies = walked_past_busy e (rw met at w.energies);
+              sleeps = walked_past_busy e (rw met at w.sleeps);
+              slots_at_most = omega (arith, rw met at w.slots_at_most);
+              energy_at_most = omega (arith, rw met at w.energy_at_most, energy_at_most_awake costs walk.run);
+              sleeps_at_most = omega (arith, w.sleeps_at_most, sleep_at_most_one costs walk.run);
             });
       }
 
-  pub passes_first_busy : walk.met ≡ false → Passes costs walk true (record { met = true; leading = walk.run; run = 0; energy = 0; sleeps = 0 })
+  pub passes_first_busy : walk.leading ≡ None → Passes costs walk true (record { leading = Some walk.run; run = 0; slept = walk.slept })
   passes_first_busy none =
       record {
         goes_on = λ busy x e w.
             rw (add-one x)
             (record {
-              energies = walked_past_first e (rw none at w.energies);
-              sleeps = walked_past_first e (rw none at w.sleeps);
+              energies = first_passed e (rw none at w.energies);
+              sleeps = first_passed e (rw none at w.sleeps);
               slots_at_most = omega (arith, w.slots_at_most);
               energy_at_most = omega (arith, w.energy_at_most);
-              sleeps_at_most = omega arith;
+              sleeps_at_most = omega (arith, w.sleeps_at_most);
             });
       }
 
-module _ (costs : SleepCosts) (busy : ℕ → Bool) (L : ℕ) (repeats : Repeats busy L) (walk : Walk) (w : WalkedTo costs busy L walk) where
-  pub row_comes_to : walk.met ≡ true → (slept : Slept) → GapReckoned costs (walk.leading + walk.run) slept →
-      ◌≡◌ {A = Slept} (record { energy = walk.energy + slept.energy; sleeps = walk.sleeps + slept.sleeps }) (row_slept costs busy L)
+module _ (costs : SleepCosts) (busy : ℕ → Bool) (L : ℕ) (repeats : Repeats busy L) {leading run : ℕ} {slept : Slept} where
+  pub row_comes_to : Walked (energy_in costs) busy L true leading run slept.energy → Walked (sleep_in costs) busy L true leading run slept.sleeps →
+      with_gap costs slept (leading + run) ≡ row_slept costs busy L
   unfolding row_slept
-  row_comes_to met slept g =
-      let energy = walk_comes_to (energy_in costs) busy L repeats (no_energy_in_no_gap costs) (rw met at w.energies) in
-      let sleeps = walk_comes_to (sleep_in costs) busy L repeats (no_sleep_in_no_gap costs) (rw met at w.sleeps) in
-      rw (energy, sleeps, g.its_energy, g.its_sleep) refl
+  row_comes_to energies sleeps =
+      let energy = walk_comes_to (energy_in costs) busy L repeats (no_energy_in_no_gap costs) energies in
+      let count = walk_comes_to (sleep_in costs) busy L repeats (no_sleep_in_no_gap costs) sleeps in
+      rw (energy, count) refl
 
-  pub row_without_gaps : walk.met ≡ false → ◌≡◌ {A = Slept} (record { energy = walk.energy; sleeps = walk.sleeps }) (row_slept costs busy L)
+  pub row_without_gaps : Walked (energy_in costs) busy L false leading run slept.energy → Walked (sleep_in costs) busy L false leading run slept.sleeps →
+      slept ≡ row_slept costs busy L
   unfolding row_slept
-  row_without_gaps none =
-      let energy = walk_without_busy_slot (energy_in costs) busy L repeats (no_energy_in_no_gap costs) (rw none at w.energies) in
-      let sleeps = walk_without_busy_slot (sleep_in costs) busy L repeats (no_sleep_in_no_gap costs) (rw none at w.sleeps) in
-      rw (energy, sleeps) refl
+  row_without_gaps energies sleeps =
+      let energy = walk_without_busy_slot (energy_in costs) busy L repeats (no_energy_in_no_gap costs) energies in
+      let count = walk_without_busy_slot (sleep_in costs) busy L repeats (no_sleep_in_no_gap costs) sleeps in
+      rw (energy, count) refl

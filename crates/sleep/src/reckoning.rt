@@ -1,8 +1,7 @@
 // The least idle energy and the sleeps of each core, for a table that passes the check.
-ghost use Rattle.std.specs.Prelude.{◌≡◌, ◌≤◌, ◌<◌, length};
+ghost use Rattle.std.specs.Prelude.{◌≡◌, ◌≤◌, ◌<◌, length, Ok};
 ghost use Rattle.instance.specs.Held.{Sound, problem_in};
 ghost use Rattle.laws.specs.Lists.{onto};
-ghost use Rattle.refusals.specs.Refusals.{accepted};
 ghost use Rattle.tables.specs.Tables.{table_size};
 ghost use Rattle.sleep.specs.CoreSleeps.{core_slept, least_energies, sleep_counts, switching_passes};
 ghost use Rattle.sleep.specs.Outcomes.{Gives, sleep_outcome, sleep_outcome_of, SleepingEnds};
@@ -14,30 +13,39 @@ use instance::{Instance, read_instance};
 use ranges::{MOST_SWITCHING_ENERGY, MOST_SWITCHING_TIME, Slot};
 use refusals::{Refusal, Verdict};
 
-// 11, the energy before the time.
-fn switching_passes(energy: u32, time: u32) -> Verdict
-    ensures { result ≡ switching_passes energy time }
-{
-    if MOST_SWITCHING_ENERGY < energy {
-        return Verdict::Refused(Refusal::SwitchingWord(0));
+// The switching words: what a core draws for a gap that it sleeps in, and how long such a gap is at least.
+#[derive(Clone, Copy)]
+struct Switching {
+    energy: u32,
+    time: u32,
+}
+
+impl Switching {
+    // 11, the energy before the time.
+    fn passes(self) -> Verdict
+        ensures { result ≡ switching_passes self.energy self.time }
+    {
+        if MOST_SWITCHING_ENERGY < self.energy {
+            return Err(Refusal::SwitchingWord(0));
+        }
+        if MOST_SWITCHING_TIME < self.time {
+            return Err(Refusal::SwitchingWord(1));
+        }
+        Ok(())
     }
-    if MOST_SWITCHING_TIME < time {
-        return Verdict::Refused(Refusal::SwitchingWord(1));
-    }
-    Verdict::Accepted
 }
 
 // What the row of core k, counted from 0, comes to.
-fn core_slept(inst: Instance, table: &[Slot], energy: u32, time: u32, k: usize) -> Slept
+fn core_slept(inst: Instance, table: &[Slot], switching: Switching, k: usize) -> Slept
     requires sound { Sound inst }
     requires table_len { length table.now ≡ table_size (problem_in inst) }
     requires k_bound { k < (problem_in inst).cores }
-    ensures { result ≡ core_slept (problem_in inst) table.now energy time k }
+    ensures { result ≡ core_slept (problem_in inst) table.now switching.energy switching.time k }
 {
     let costs = SleepCosts {
         idle: inst.idle as u64,
-        energy: energy as u64,
-        time: time as u64,
+        energy: switching.energy as u64,
+        time: switching.time as u64,
     };
     let span = inst.span as usize;
     let from = k * span;
@@ -49,8 +57,7 @@ fn core_slept(inst: Instance, table: &[Slot], energy: u32, time: u32, k: usize) 
 fn fill_slept(
     inst: Instance,
     table: &[Slot],
-    energy: u32,
-    time: u32,
+    switching: Switching,
     energies: &mut [u64],
     sleeps: &mut [u32],
 )
@@ -58,16 +65,14 @@ fn fill_slept(
     requires table_len { length table.now ≡ table_size (problem_in inst) }
     requires inst_in_bounds { (problem_in inst).cores ≤ length energies.old }
     requires inst_in_bounds_2 { (problem_in inst).cores ≤ length sleeps.old }
-    ensures energies_after { energies.new ≡ onto (least_energies (problem_in inst) table.now energy time) energies.old }
-    ensures sleeps_after { sleeps.new ≡ onto (sleep_counts (problem_in inst) table.now energy time) sleeps.old }
+    ensures energies_after { energies.new ≡ onto (least_energies (problem_in inst) table.now switching.energy switching.time) energies.old }
+    ensures sleeps_after { sleeps.new ≡ onto (sleep_counts (problem_in inst) table.now switching.energy switching.time) sleeps.old }
 {
     let cores = inst.cores as usize;
-    let mut k = 0;
-    while k < cores {
-        let slept = core_slept(inst, table, energy, time, k);
+    for k in 0..cores {
+        let slept = core_slept(inst, table, switching, k);
         energies[k] = slept.energy;
         sleeps[k] = slept.sleeps;
-        k += 1;
     }
 }
 
@@ -76,31 +81,25 @@ fn sleep_read(
     inst: Instance,
     plan: &[u32],
     table: &[Slot],
-    energy: u32,
-    time: u32,
+    switching: Switching,
     energies: &mut [u64],
     sleeps: &mut [u32],
 ) -> Verdict
     requires { Sound inst }
     ensures { Gives result energies.new sleeps.new
-        (sleep_outcome_of (accepted (problem_in inst)) plan.now table.now energy time energies.old sleeps.old) }
+        (sleep_outcome_of (Ok (problem_in inst)) plan.now table.now switching.energy switching.time energies.old sleeps.old) }
 {
-    let switching = switching_passes(energy, time);
-    let Verdict::Accepted = switching else {
-        return switching;
-    };
+    switching.passes()?;
     let cores = inst.cores as usize;
     if energies.len() < cores {
-        return Verdict::Refused(Refusal::ShortBuffer(cores));
+        return Err(Refusal::ShortBuffer(cores));
     }
     if sleeps.len() < cores {
-        return Verdict::Refused(Refusal::ShortBuffer(cores));
+        return Err(Refusal::ShortBuffer(cores));
     }
-    let verdict = table_passes(inst, plan, table);
-    if let Verdict::Accepted = verdict {
-        fill_slept(inst, table, energy, time, energies, sleeps);
-    }
-    verdict
+    table_passes(inst, plan, table)?;
+    fill_slept(inst, table, switching, energies, sleeps);
+    Ok(())
 }
 
 // Writes the least idle energy of each core and the number of its sleeps to the fronts of the lent lists.
@@ -124,17 +123,14 @@ pub fn sleep(
     ensures promise { SleepingEnds instance.now plan.now table.now switching_energy switching_time
         energies.old sleeps.old result energies.new sleeps.new }
 {
-    let read = read_instance(instance);
-    let words = read.verdict;
-    let Verdict::Accepted = words else {
-        return words;
-    };
     sleep_read(
-        read.instance,
+        read_instance(instance)?,
         plan,
         table,
-        switching_energy,
-        switching_time,
+        Switching {
+            energy: switching_energy,
+            time: switching_time,
+        },
         energies,
         sleeps,
     )

@@ -1,22 +1,20 @@
 // What the gaps of one core's row are worth, in one pass over its slots.
-ghost use Rattle.std.specs.Prelude.{◌≡◌, not, ◌*◌, ◌≤◌, eqb, length};
+ghost use Rattle.std.specs.Prelude.{◌≡◌, not, ◌+◌, ◌*◌, ◌≤◌, eqb, length};
 ghost use Rattle.gaps.specs.Sleeping.{row_slept};
 ghost use Rattle.ranges.specs.Limits.{most_idle_power, most_span};
 ghost use Rattle.sleep.specs.Rows.{busy_in};
-ghost use Rattle.sleep.specs.RowWalks.{most_idle_energy, GapReckoned, Bounded, Passes, WalkedTo};
+ghost use Rattle.sleep.specs.RowWalks.{most_idle_energy, GapReckoned, with_gap, Bounded, Passes, WalkedTo};
 
 use gaps::{SleepCosts, Slept};
 use ranges::Slot;
 
-// How far along a row: whether a busy slot was met, how many idle slots came before the first one, how many have come since the
-// last, and what the gaps between busy slots come to.
+// How far along a row: how many idle slots came before the first busy one, where one was met, how many have come since the last,
+// and what the gaps between busy slots come to.
 #[derive(Clone, Copy)]
 struct Walk {
-    met: bool,
-    leading: u64,
+    leading: Option<u64>,
     run: u64,
-    energy: u64,
-    sleeps: u32,
+    slept: Slept,
 }
 
 // What a core draws in a gap, asleep where that is allowed and cheaper.
@@ -39,32 +37,41 @@ fn gap_slept(costs: SleepCosts, gap: u64) -> Slept
     }
 }
 
+// What earlier gaps and a further one come to.
+fn with_gap(slept: Slept, costs: SleepCosts, gap: u64) -> Slept
+    requires energy_bound { slept.energy + costs.idle * gap ≤ most_idle_energy }
+    requires sleeps_bound { slept.sleeps ≤ most_span }
+    ensures { result ≡ with_gap costs slept gap }
+{
+    let further = gap_slept(costs, gap);
+    Slept {
+        energy: slept.energy + further.energy,
+        sleeps: slept.sleeps + further.sleeps,
+    }
+}
+
 // One slot further.
 fn past_slot(walk: Walk, costs: SleepCosts, slot: Slot) -> Walk
     requires { Bounded costs walk }
     ensures { Passes costs walk (not (eqb slot 0)) result }
 {
     if slot == 0 {
-        let mut longer = walk;
-        longer.run += 1;
-        return longer;
-    }
-    if walk.met {
-        let gap = gap_slept(costs, walk.run);
         return Walk {
-            met: true,
-            leading: walk.leading,
-            run: 0,
-            energy: walk.energy + gap.energy,
-            sleeps: walk.sleeps + gap.sleeps,
+            run: walk.run + 1,
+            ..walk
         };
     }
-    Walk {
-        met: true,
-        leading: walk.run,
-        run: 0,
-        energy: 0,
-        sleeps: 0,
+    match walk.leading {
+        None => Walk {
+            leading: Some(walk.run),
+            run: 0,
+            slept: walk.slept,
+        },
+        Some(leading) => Walk {
+            leading: Some(leading),
+            run: 0,
+            slept: with_gap(walk.slept, costs, walk.run),
+        },
     }
 }
 
@@ -74,16 +81,15 @@ fn walk_row(row: &[Slot], costs: SleepCosts) -> Walk
     ensures { WalkedTo costs (busy_in row.now) (length row.now) result }
 {
     let mut walk = Walk {
-        met: false,
-        leading: 0,
+        leading: None,
         run: 0,
-        energy: 0,
-        sleeps: 0,
+        slept: Slept {
+            energy: 0,
+            sleeps: 0,
+        },
     };
-    let mut x = 0;
-    while x < row.len() {
-        walk = past_slot(walk, costs, row[x]);
-        x += 1;
+    for &slot in row {
+        walk = past_slot(walk, costs, slot);
     }
     walk
 }
@@ -95,15 +101,8 @@ pub(crate) fn row_slept(row: &[Slot], costs: SleepCosts) -> Slept
     ensures { result ≡ row_slept costs (busy_in row.now) (length row.now) }
 {
     let all = walk_row(row, costs);
-    if all.met {
-        let gap = gap_slept(costs, all.leading + all.run);
-        return Slept {
-            energy: all.energy + gap.energy,
-            sleeps: all.sleeps + gap.sleeps,
-        };
-    }
-    Slept {
-        energy: all.energy,
-        sleeps: all.sleeps,
+    match all.leading {
+        None => all.slept,
+        Some(leading) => with_gap(all.slept, costs, leading + all.run),
     }
 }

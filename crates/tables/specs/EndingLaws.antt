@@ -5,11 +5,9 @@ use Rattle.refusals.specs.EndingLaws.{unchanged, serves, turns_down}
 use Rattle.refusals.specs.Endings.{lent, Ends, read_then, needed_for}
 use Rattle.instance.specs.Node.{Problem}
 use Rattle.refusals.specs.RefusalNumbers.{RefusesOnly, accepts, refuses, UnreadOnly, read, unread, and_then-refuses, room_refuses_6}
-use Rattle.refusals.specs.Refusals.{Reading, room, ◌and_then◌}
+use Rattle.refusals.specs.Refusals.{Reading, room, ◌and_then◌, Verdict, accepted}
 use Rattle.refusals.specs.RoomLaws.{room_accepts, front_written}
 use Rattle.instance.specs.SiteFileRefusals.{reading_refuses_2_3_4}
-use Rattle.refusals.specs.declared.Verdict.{Verdict}
-use Rattle.refusals.specs.declared.Verdict.TheVariants.{Accepted}
 use Rattle.tables.specs.Outcomes.{TableOutcome, table_outcome, table_outcome_of, table_where, TablingEnds}
 use Rattle.plan_rules.specs.Plans.{plan_passes}
 use Rattle.plan_rules.specs.RefusalLaws.{plan_refuses_7_8}
@@ -25,7 +23,7 @@ tabling_ends words plan buffer = go (reading_refuses_2_3_4 words)
     TableEnds : Verdict → ℕ → TableOutcome → Type 0
     TableEnds v n o = Ends v (2 ∷ 3 ∷ 4 ∷ 6 ∷ 7 ∷ 8 ∷ []) (lent n buffer o.table ∷ []) o.answer
 
-    tabled : (p : Problem) {v : Verdict} → RefusesOnly (6 ∷ 7 ∷ 8 ∷ []) v → (v ≡ Accepted → table_size p ≤ length buffer) →
+    tabled : (p : Problem) {v : Verdict} → RefusesOnly (6 ∷ 7 ∷ 8 ∷ []) v → (v ≡ accepted → table_size p ≤ length buffer) →
         TableEnds v (table_size p) (table_where v (table_of p plan) buffer)
     tabled p accepts enough = serves (front_written (table_of p plan) buffer (length-table_of p plan) (enough refl), tt)
     tabled p (refuses m) enough = turns_down (Memᴰ.append_right (2 ∷ 3 ∷ 4 ∷ []) m) (unchanged, tt)

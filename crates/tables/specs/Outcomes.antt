@@ -1,14 +1,12 @@
 -- The whole outcome of tabling, for every list of words: the answer, and what the lent buffer holds afterwards; and how a
 -- call ends. "Order: words are taken from the front, each tested for 2, 3, 4; then 6; then 7 (length before choices); then
 -- 8."
-use Rattle.std.specs.Prelude.{ℕ, List, [], ◌∷◌}
+use Rattle.std.specs.Prelude.{ℕ, List, [], ◌∷◌, Ok, Err}
 use Rattle.laws.specs.Lists.{onto}
 use Rattle.refusals.specs.Endings.{lent, Ends, read_then, needed_for}
 use Rattle.instance.specs.Node.{Problem}
-use Rattle.refusals.specs.Refusals.{Reading, refused, accepted, room, ◌and_then◌}
+use Rattle.refusals.specs.Refusals.{Reading, room, ◌and_then◌, Verdict, accepted}
 use Rattle.instance.specs.SiteFile.{problem_of}
-use Rattle.refusals.specs.declared.Verdict.{Verdict}
-use Rattle.refusals.specs.declared.Verdict.TheVariants.{Accepted, Refused}
 use Rattle.plan_rules.specs.Plans.{choices_pass, cores_fit, plan_passes}
 use Rattle.tables.specs.Tables.{table_of, table_size}
 
@@ -17,12 +15,12 @@ pub record TableOutcome : Type 0 where
   pub table : List ℕ
 
 abbrev pub table_where : Verdict → List ℕ → List ℕ → TableOutcome
-table_where Accepted table buffer = record { answer = Accepted; table = onto table buffer }
-table_where (Refused r) table buffer = record { answer = Refused r; table = buffer }
+table_where (Ok tt) table buffer = record { answer = accepted; table = onto table buffer }
+table_where (Err r) table buffer = record { answer = Err r; table = buffer }
 
 abbrev pub table_outcome_of : Reading Problem → List ℕ → List ℕ → TableOutcome
-table_outcome_of (refused r) plan buffer = record { answer = Refused r; table = buffer }
-table_outcome_of (accepted p) plan buffer =
+table_outcome_of (Err r) plan buffer = record { answer = Err r; table = buffer }
+table_outcome_of (Ok p) plan buffer =
     table_where (room (table_size p) buffer and_then plan_passes p plan) (table_of p plan) buffer
 
 unfoldable pub table_outcome : List ℕ → List ℕ → List ℕ → TableOutcome

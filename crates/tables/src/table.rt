@@ -53,12 +53,10 @@ pub fn fill_table(inst: Instance, plan: &[u32], table: &mut [Slot])
 {
     let cores = inst.cores as usize;
     let span = inst.span as usize;
-    let mut k = 0;
-    while k < cores {
+    for k in 0..cores {
         let from = k * span;
         let to = from + span;
         fill_core(inst, plan, k, &mut table[from..to]);
-        k += 1;
     }
 }
 
@@ -68,18 +66,12 @@ pub fn tabulate(instance: &[u32], plan: &[u32], table: &mut [u8]) -> Verdict
     ensures table_after { table.new ≡ (table_outcome instance.now plan.now table.old).table }
     ensures promise { TablingEnds instance.now plan.now table.old result table.new }
 {
-    let read = read_instance(instance);
-    let words = read.verdict;
-    let Verdict::Accepted = words else {
-        return words;
-    };
-    let size = table_size(read.instance);
+    let inst = read_instance(instance)?;
+    let size = table_size(inst);
     if table.len() < size {
-        return Verdict::Refused(Refusal::ShortBuffer(size));
+        return Err(Refusal::ShortBuffer(size));
     }
-    let verdict = plan_passes(read.instance, plan);
-    if let Verdict::Accepted = verdict {
-        fill_table(read.instance, plan, table);
-    }
-    verdict
+    plan_passes(inst, plan)?;
+    fill_table(inst, plan, table);
+    Ok(())
 }

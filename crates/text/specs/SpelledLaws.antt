@@ -1,12 +1,11 @@
 -- Words written in base ten with single spaces between are read back as themselves.
-use Rattle.std.specs.Prelude.{ℕ, suc, ◌+◌, ◌≤◌, ◌<◌, true, false, List, [], ◌∷◌, ◌++◌, ◌≡◌, refl, length, get_or}
+use Rattle.std.specs.Prelude.{ℕ, suc, ◌+◌, ◌≤◌, ◌<◌, true, false, List, [], ◌∷◌, ◌++◌, ◌≡◌, refl, length, get_or, Ok}
 use Rattle.std.proofs.Common.{suc-le-suc, ap, ◌∙◌, zero-add, arith, le-leb, length-append}
 use Rattle.std.proofs.Math.Seq.{drop-append_seam}
 use Rattle.laws.specs.Truth.{false_not_true, not_true_is_false}
 use Rattle.text.specs.Decimal.{decimal, spaced, spelled}
 use Rattle.text.specs.DecimalLaws.{Digits, none, one, decimal_is_digits, decimal_is_some, value_append, value_of_decimal}
 use Rattle.ranges.specs.Limits.{most_text_bytes, most_word}
-use Rattle.refusals.specs.Refusals.{accepted}
 use Rattle.text.specs.Text.{is_digit, is_blank, value_after, begins, numbers, faulty, first_fault, words_of}
 use Rattle.text.specs.TextLaws.{blank_is_no_digit, token_says}
 use Rattle.text.specs.Tokens.{after_digits, number_from, token_from, token_at}
@@ -89,6 +88,6 @@ spelled_read (w ∷ ws) words =
 
 -- the round trip: such a text of at most 4,096 bytes is accepted as the words that it spells
 pub spelled_is_read_back :
-    (ws : List ℕ) → AllWords ws → length (spelled ws) ≤ most_text_bytes → words_of (spelled ws) ≡ accepted ws
+    (ws : List ℕ) → AllWords ws → length (spelled ws) ≤ most_text_bytes → words_of (spelled ws) ≡ Ok ws
 spelled_is_read_back ws words short =
-    let read = spelled_read ws words in accepted_whole (spelled ws) short read.fault ∙ ap accepted read.number
+    let read = spelled_read ws words in accepted_whole (spelled ws) short read.fault ∙ ap Ok read.number

@@ -1,8 +1,8 @@
 -- The paper's section 'Site file', the text: "at most 4,096 bytes of digits, spaces and line feeds; numbers are taken
 -- from the text one after another, each a longest run of digits, leading zeros allowed."
-use Rattle.std.specs.Prelude.{ℕ, suc, ◌+◌, ◌-◌, ◌*◌, Bool, false, cond, not, ◌&&◌, ◌||◌, List, [], ◌∷◌, leb, ltb, eqb, length, take}
+use Rattle.std.specs.Prelude.{ℕ, suc, ◌+◌, ◌-◌, ◌*◌, Bool, false, cond, not, ◌&&◌, ◌||◌, List, [], ◌∷◌, leb, ltb, eqb, length, take, Ok, Err}
 use Rattle.ranges.specs.Limits.{most_text_bytes, most_word}
-use Rattle.refusals.specs.Refusals.{Reading, refused, accepted}
+use Rattle.refusals.specs.Refusals.{Reading}
 use Rattle.refusals.specs.declared.Refusal.TheVariants.{Text}
 
 -- the bytes '0' to '9'
@@ -45,4 +45,4 @@ first_fault after_digit (b ∷ text) = cond (faulty after_digit b text) 0 (suc (
 unfoldable pub words_of : List ℕ → Reading (List ℕ)
 words_of text =
     let place = first_fault false (take most_text_bytes text) in
-    cond (ltb place (length text)) (refused (Text place)) (accepted (numbers false text))
+    cond (ltb place (length text)) (Err (Text place)) (Ok (numbers false text))

@@ -1,5 +1,5 @@
 -- Reading a text number by number: what holds between two numbers, and how each token goes on.
-use Rattle.std.specs.Prelude.{ℕ, ◌+◌, ◌≤◌, ◌<◌, false, List, ◌∷◌, ◌≡◌, refl, length, take, drop, set}
+use Rattle.std.specs.Prelude.{ℕ, ◌+◌, ◌≤◌, ◌<◌, false, List, ◌∷◌, ◌≡◌, refl, length, take, drop, set, Result, Ok, Err}
 use Rattle.std.proofs.Common.{ap, ◌∙◌, add-one, arith, length-drop, length-set, take_all}
 use Rattle.laws.specs.ListLaws.{rest_after, below_length, onto_one_more}
 use Rattle.laws.specs.Lists.{onto}
@@ -7,8 +7,6 @@ use Rattle.text.specs.Text.{numbers, first_fault}
 use Rattle.text.specs.TextLaws.{NumberTaken, EndReached, FaultFound}
 use Rattle.refusals.specs.declared.Refusal.{Refusal}
 use Rattle.refusals.specs.declared.Refusal.TheVariants.{Text}
-use Rattle.text.specs.declared.TextRead.{TextRead}
-use Rattle.text.specs.declared.TextRead.TheVariants.{Words, Refused}
 
 pub record NoFault (text : List ℕ) (count : ℕ) : Type 0 where
   pub fault : first_fault false text ≡ length text
@@ -19,9 +17,9 @@ pub record FirstFault (text : List ℕ) (refusal : Refusal) : Type 0 where
   pub place : refusal ≡ Text (first_fault false text)
 
 -- what counting a text's numbers answers
-abbrev pub Counted : List ℕ → TextRead → Type 0
-Counted text (Words count) = NoFault text count
-Counted text (Refused refusal) = FirstFault text refusal
+abbrev pub Counted : List ℕ → Result ℕ Refusal → Type 0
+Counted text (Ok count) = NoFault text count
+Counted text (Err refusal) = FirstFault text refusal
 
 -- the text has no fault, and the buffer has room for its numbers
 pub record Writable (text words : List ℕ) : Type 0 where

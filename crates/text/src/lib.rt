@@ -4,12 +4,4 @@
 mod reader;
 mod words;
 
-use refusals::Refusal;
 pub use words::words_of_text;
-
-// How many words a text holds.
-#[derive(Clone, Copy)]
-pub enum TextRead {
-    Words(usize),
-    Refused(Refusal),
-}

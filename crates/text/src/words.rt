@@ -1,14 +1,12 @@
 // From text to words: numbers are taken from the text one after another.
-ghost use Rattle.std.specs.Prelude.{false, ◌≡◌, min, length, drop};
+ghost use Rattle.std.specs.Prelude.{false, ◌≡◌, drop};
 ghost use Rattle.laws.specs.Lists.{onto};
-ghost use Rattle.ranges.specs.Limits.{most_text_bytes};
 ghost use Rattle.text.specs.Outcomes.{words_outcome, TextEnds};
 ghost use Rattle.text.specs.Text.{is_digit, is_blank, numbers};
 ghost use Rattle.text.specs.TextSteps.{Counted, Writable};
 ghost use Rattle.text.specs.Tokens.{number_from, token_at};
 ghost use Rattle.text.specs.TokenSteps.{BlanksSkipped};
 
-use crate::TextRead;
 use crate::reader::next_number;
 use refusals::Refusal;
 
@@ -42,6 +40,7 @@ fn is_blank(b: u8) -> bool
 fn after_blanks(text: &[u8], at: usize) -> usize
     ensures { BlanksSkipped text.now at result }
 {
+    // Counted by hand, since the position is the answer at the text's end too, and from beyond it.
     let mut i = at;
     while i < text.len() {
         if !is_blank(text[i]) {
@@ -57,6 +56,7 @@ fn number_from(text: &[u8], first: usize) -> Token
     ensures { result ≡ number_from first (drop first text.now) }
 {
     let mut value: u64 = 0;
+    // As above: the position goes into the answer.
     let mut at = first;
     while at < text.len() {
         let b = text[at];
@@ -87,7 +87,7 @@ pub(crate) fn number_at(text: &[u8], at: usize) -> Token
 }
 
 // How many numbers a text holds, or its first fault.
-fn count_words(text: &[u8]) -> TextRead
+fn count_words(text: &[u8]) -> Result<usize, Refusal>
     ensures { Counted text.now result }
 {
     let mut at = 0;
@@ -99,10 +99,10 @@ fn count_words(text: &[u8]) -> TextRead
                 count += 1;
             }
             Token::End => {
-                return TextRead::Words(count);
+                return Ok(count);
             }
             Token::Fault(place) => {
-                return TextRead::Refused(Refusal::Text(place));
+                return Err(Refusal::Text(place));
             }
         }
     }
@@ -132,33 +132,20 @@ fn write_words(text: &[u8], words: &mut [u32])
     }
 }
 
-// How many of the text's bytes are read.
-fn head_length(text: &[u8]) -> usize
-    ensures { result ≡ min most_text_bytes (length text.now) }
-{
-    if MOST_TEXT_BYTES < text.len() {
-        return MOST_TEXT_BYTES;
-    }
-    text.len()
-}
-
 // The text is read twice: nothing is written before all of it is known to be right and to have room.
-pub fn words_of_text(text: &[u8], words: &mut [u32]) -> TextRead
+pub fn words_of_text(text: &[u8], words: &mut [u32]) -> Result<usize, Refusal>
     ensures value { result ≡ (words_outcome text.now words.old).answer }
     ensures words_after { words.new ≡ (words_outcome text.now words.old).words }
     ensures promise { TextEnds text.now words.old result words.new }
 {
-    let n = head_length(text);
-    let read = count_words(&text[..n]);
-    let TextRead::Words(count) = read else {
-        return read;
-    };
+    let n = MOST_TEXT_BYTES.min(text.len());
+    let count = count_words(&text[..n])?;
     if n < text.len() {
-        return TextRead::Refused(Refusal::Text(n));
+        return Err(Refusal::Text(n));
     }
     if words.len() < count {
-        return TextRead::Refused(Refusal::ShortBuffer(count));
+        return Err(Refusal::ShortBuffer(count));
     }
     write_words(text, words);
-    read
+    Ok(count)
 }

@@ -19,6 +19,7 @@ impl Search<'_> {
         let lowcosts = self.lowcosts;
         let lowkeys = self.lowkeys;
         let low = lowcosts[node.rest];
+        // The table's entries are numbers, in which none is a cost from there on.
         if NO_COST <= low {
             return false;
         }

@@ -1,16 +1,15 @@
 -- The whole outcome of the calls of a program in C, for every text: what is answered, and what each lent buffer holds
 -- afterwards. Plans and tables are the lists that the lent bytes are: "there a choice is one byte". The numbers of an answer are
 -- `Answers` of the crate `answers`; what listing answers and leaves in its buffer is `list_outcome` of the crate `listings`.
-use Rattle.std.specs.Prelude.{ℕ, Bool, List, ◌≡◌}
-use Rattle.refusals.specs.Refusals.{Reading, refused, accepted}
+use Rattle.refusals.specs.declared.Refusal.{Refusal}
+use Rattle.std.specs.Prelude.{ℕ, Bool, List, ◌≡◌, Result, Ok, Err}
+use Rattle.refusals.specs.Refusals.{Reading, Verdict}
 use Rattle.text.specs.Text.{words_of}
 use Rattle.instance.specs.Node.{Problem}
 use Rattle.instance.specs.SiteFile.{problem_of}
-use Rattle.refusals.specs.declared.Verdict.{Verdict}
-use Rattle.refusals.specs.declared.Verdict.TheVariants.{Refused}
 use Rattle.calendar.specs.Hours.{plan_at_outcome}
 use Rattle.calendar.specs.declared.Date.{Date}
-use Rattle.calendar.specs.declared.PlanAt.{PlanAt}
+use Rattle.calendar.specs.declared.PlanDays.{PlanDays}
 use Rattle.checks.specs.Outcomes.{slot_check_outcome, check_outcome}
 use Rattle.sleep.specs.Outcomes.{SleepOutcome, sleep_outcome}
 use Rattle.dispatcher.specs.Outcomes.{dispatch_outcome}
@@ -22,37 +21,37 @@ use Rattle.answers.specs.declared.TaskToRun.{TaskToRun}
 
 -- "In any other call that is given text, 1 comes before all the rest."
 abbrev pub text_read_outcome_of : Reading (List ℕ) → Reading Problem
-text_read_outcome_of (refused r) = refused r
-text_read_outcome_of (accepted words) = problem_of words
+text_read_outcome_of (Err r) = Err r
+text_read_outcome_of (Ok words) = problem_of words
 
 unfoldable pub text_read_outcome : List ℕ → Reading Problem
 text_read_outcome text = text_read_outcome_of (words_of text)
 
 abbrev pub text_plan_outcome_of : Reading (List ℕ) → List ℕ → List ℕ → PlanOutcome
-text_plan_outcome_of (refused r) plan table = plan_refused r plan table
-text_plan_outcome_of (accepted words) plan table = plan_outcome words plan table
+text_plan_outcome_of (Err r) plan table = plan_refused r plan table
+text_plan_outcome_of (Ok words) plan table = plan_outcome words plan table
 
 unfoldable pub text_plan_outcome : List ℕ → List ℕ → List ℕ → PlanOutcome
 text_plan_outcome text plan table = text_plan_outcome_of (words_of text) plan table
 
 abbrev pub text_slot_check_outcome_of : Reading (List ℕ) → List ℕ → List ℕ → Verdict
-text_slot_check_outcome_of (refused r) plan table = Refused r
-text_slot_check_outcome_of (accepted words) plan table = slot_check_outcome words plan table
+text_slot_check_outcome_of (Err r) plan table = Err r
+text_slot_check_outcome_of (Ok words) plan table = slot_check_outcome words plan table
 
 unfoldable pub text_slot_check_outcome : List ℕ → List ℕ → List ℕ → Verdict
 text_slot_check_outcome text plan table = text_slot_check_outcome_of (words_of text) plan table
 
 abbrev pub text_check_outcome_of : Reading (List ℕ) → List ℕ → List ℕ → Verdict
-text_check_outcome_of (refused r) plan table = Refused r
-text_check_outcome_of (accepted words) plan table = check_outcome words plan table
+text_check_outcome_of (Err r) plan table = Err r
+text_check_outcome_of (Ok words) plan table = check_outcome words plan table
 
 unfoldable pub text_check_outcome : List ℕ → List ℕ → List ℕ → Verdict
 text_check_outcome text plan table = text_check_outcome_of (words_of text) plan table
 
 abbrev pub text_sleep_outcome_of : Reading (List ℕ) → (plan table : List ℕ) → (energy time : ℕ) → (energies sleeps : List ℕ) → SleepOutcome
-text_sleep_outcome_of (refused r) plan table energy time energies sleeps =
-    record { answer = Refused r; energies = energies; sleeps = sleeps }
-text_sleep_outcome_of (accepted words) plan table energy time energies sleeps =
+text_sleep_outcome_of (Err r) plan table energy time energies sleeps =
+    record { answer = Err r; energies = energies; sleeps = sleeps }
+text_sleep_outcome_of (Ok words) plan table energy time energies sleeps =
     sleep_outcome words plan table energy time energies sleeps
 
 unfoldable pub text_sleep_outcome : (text plan table : List ℕ) → (energy time : ℕ) → (energies sleeps : List ℕ) → SleepOutcome
@@ -60,17 +59,17 @@ text_sleep_outcome text plan table energy time energies sleeps =
     text_sleep_outcome_of (words_of text) plan table energy time energies sleeps
 
 abbrev pub text_dispatch_outcome_of : Reading (List ℕ) → (plan : List ℕ) → ℕ → DispatchState → Bool → Dispatched
-text_dispatch_outcome_of (refused r) plan core s ended = record { verdict = Refused r; task = 0; state = s }
-text_dispatch_outcome_of (accepted words) plan core s ended = dispatch_outcome words plan core s ended
+text_dispatch_outcome_of (Err r) plan core s ended = record { verdict = Err r; task = 0; state = s }
+text_dispatch_outcome_of (Ok words) plan core s ended = dispatch_outcome words plan core s ended
 
 unfoldable pub text_dispatch_outcome : (text plan : List ℕ) → ℕ → DispatchState → Bool → Dispatched
 text_dispatch_outcome text plan core s ended = text_dispatch_outcome_of (words_of text) plan core s ended
 
-abbrev pub text_plan_at_outcome_of : Reading (List ℕ) → Date → ℕ → PlanAt
-text_plan_at_outcome_of (refused r) d minute = PlanAt.Refused r
-text_plan_at_outcome_of (accepted words) d minute = plan_at_outcome words d minute
+abbrev pub text_plan_at_outcome_of : Reading (List ℕ) → Date → ℕ → Result PlanDays Refusal
+text_plan_at_outcome_of (Err r) d minute = Err r
+text_plan_at_outcome_of (Ok words) d minute = plan_at_outcome words d minute
 
-unfoldable pub text_plan_at_outcome : List ℕ → Date → ℕ → PlanAt
+unfoldable pub text_plan_at_outcome : List ℕ → Date → ℕ → Result PlanDays Refusal
 text_plan_at_outcome text d minute = text_plan_at_outcome_of (words_of text) d minute
 
 -- the numbers that dispatching returns, and what stands in the state's place afterwards

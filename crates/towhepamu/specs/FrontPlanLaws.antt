@@ -1,18 +1,16 @@
 -- An instance has at most 12 tasks, so no more than the front of a given plan matters to the checks, nor to the reckoning
 -- of sleeps, which takes a plan to the check alone.
-use Rattle.std.specs.Prelude.{ℕ, min, ◌<◌, Bool, true, false, List, ◌≡◌, leb, length, take}
+use Rattle.std.specs.Prelude.{ℕ, min, ◌<◌, Bool, true, false, List, ◌≡◌, leb, length, take, Ok, Err}
 use Rattle.std.proofs.Math.Path.{refl, ap}
 use Rattle.std.proofs.Common.{sym, ◌∙◌, arith, leb-true, leb-false, take_all, take_at, length-take-le}
 use Rattle.laws.specs.Lists.{onto}
 use Rattle.ranges.specs.Limits.{most_tasks}
 use Rattle.instance.specs.Node.{Problem, task_count}
 use Rattle.refusals.specs.Endings.{read_then}
-use Rattle.refusals.specs.Refusals.{Reading, refused, accepted, ◌and_then◌}
+use Rattle.refusals.specs.Refusals.{Reading, ◌and_then◌, Verdict}
 use Rattle.instance.specs.SiteFile.{problem_of}
 use Rattle.instance.specs.SiteFileLaws.{accepted_is_valid}
 use Rattle.refusals.specs.declared.Refusal.TheVariants.{GivenPlan}
-use Rattle.refusals.specs.declared.Verdict.{Verdict}
-use Rattle.refusals.specs.declared.Verdict.TheVariants.{Refused}
 use Rattle.checks.specs.CheckLaws.{check_in_order}
 use Rattle.checks.specs.Checks.{slots_pass, jobs_pass, slot_check, check}
 use Rattle.checks.specs.Outcomes.{slot_check_outcome, check_outcome}
@@ -22,7 +20,7 @@ use Rattle.sleep.specs.CoreSleeps.{switching_passes, least_energies, sleep_count
 use Rattle.sleep.specs.Outcomes.{Gives, room_for_both, sleep_where, sleep_outcome_of, sleep_outcome}
 
 pub longer_plan_is_refused : (p : Problem) (plan : List ℕ) → task_count p < length plan →
-    choices_pass p plan ≡ Refused (GivenPlan (task_count p))
+    choices_pass p plan ≡ Err (GivenPlan (task_count p))
 unfolding choices_pass
 longer_plan_is_refused p plan long = sym (longer_is_refused GivenPlan (task_count p) (task_count p) refl (length plan) _ long)
 
@@ -68,21 +66,26 @@ module _ (plan : List ℕ) (k m : ℕ) (cut : m ≡ min (length plan) k) where
     where
       go : (reading : Reading Problem) → problem_of words ≡ reading →
           read_then reading (λ p. tests p (take m plan)) ≡ read_then reading (λ p. tests p plan)
-      go (refused r) e = refl
-      go (accepted p) e = same p (omega (arith, (accepted_is_valid words e).task_count_bound))
+      go (Err r) e = refl
+      go (Ok p) e = same p (omega (arith, (accepted_is_valid words e).task_count_bound))
 
-  module _ (words table blank choices : List ℕ) (long : most_tasks < k) (copied : choices ≡ onto (take m plan) blank) where
-    pub copied_plan_has_its_slots_checked : slot_check_outcome words (take m choices) table ≡ slot_check_outcome words plan table
+  module _ (words table : List ℕ) (long : most_tasks < k) where
+    pub slot_check_outcome-of_front : slot_check_outcome words (take m plan) table ≡ slot_check_outcome words plan table
     unfolding slot_check_outcome
-    copied_plan_has_its_slots_checked =
-        rw (front_of_copy blank choices copied)
-        (read_and_tested_by_front words (λ p choices. slot_check p choices table) long (λ p. slot_check_of_front p table))
+    slot_check_outcome-of_front =
+        read_and_tested_by_front words (λ p choices. slot_check p choices table) long (λ p. slot_check_of_front p table)
 
-    pub copied_plan_is_checked : check_outcome words (take m choices) table ≡ check_outcome words plan table
+    pub check_outcome-of_front : check_outcome words (take m plan) table ≡ check_outcome words plan table
     unfolding check_outcome
-    copied_plan_is_checked =
-        rw (front_of_copy blank choices copied)
-        (read_and_tested_by_front words (λ p choices. check p choices table) long (λ p. check_of_front p table))
+    check_outcome-of_front =
+        read_and_tested_by_front words (λ p choices. check p choices table) long (λ p. check_of_front p table)
+
+    module _ (blank choices : List ℕ) (copied : choices ≡ onto (take m plan) blank) where
+      pub copied_plan_has_its_slots_checked : slot_check_outcome words (take m choices) table ≡ slot_check_outcome words plan table
+      copied_plan_has_its_slots_checked = rw (front_of_copy blank choices copied) slot_check_outcome-of_front
+
+      pub copied_plan_is_checked : check_outcome words (take m choices) table ≡ check_outcome words plan table
+      copied_plan_is_checked = rw (front_of_copy blank choices copied) check_outcome-of_front
 
   module _ (words table : List ℕ) (energy time : ℕ) (energies sleeps : List ℕ) (long : most_tasks < k) where
     sleep_outcome-of_front : sleep_outcome words (take m plan) table energy time energies sleeps ≡ sleep_outcome words plan table energy time energies sleeps
@@ -91,8 +94,8 @@ module _ (plan : List ℕ) (k m : ℕ) (cut : m ≡ min (length plan) k) where
       where
         go : (reading : Reading Problem) → problem_of words ≡ reading →
             sleep_outcome_of reading (take m plan) table energy time energies sleeps ≡ sleep_outcome_of reading plan table energy time energies sleeps
-        go (refused r) e = refl
-        go (accepted p) e =
+        go (Err r) e = refl
+        go (Ok p) e =
             ap (λ (v : Verdict). sleep_where (switching_passes energy time and_then room_for_both p energies sleeps and_then v)
             (least_energies p table energy time) (sleep_counts p table energy time) energies sleeps)
             (check_of_front p table (omega (arith, (accepted_is_valid words e).task_count_bound)))

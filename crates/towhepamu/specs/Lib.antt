@@ -1,7 +1,8 @@
-pub mod CallOutcomes
-pub mod PreparedNodes
-pub mod Copies
 pub mod ByteLists
-pub mod FrontPlanLaws
+pub mod CallOutcomes
+pub mod Copies
 pub mod FrontDispatchLaws
+pub mod FrontPlanLaws
+pub mod Lending
 pub mod OwnPlanLaws
+pub mod PreparedNodes

@@ -10,6 +10,7 @@ mod nodes;
 mod planning;
 mod reading;
 mod sleeping;
+mod words;
 
 pub use checking::{towhepamu_check, towhepamu_check_slots};
 pub use dispatching::towhepamu_dispatch;

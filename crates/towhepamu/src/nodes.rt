@@ -1,14 +1,14 @@
 // A core that a program in C prepares once for its own loop, and a tick over it.
 ghost use Rattle.std.specs.Prelude.{◌≡◌};
 ghost use Rattle.dispatcher.specs.Preparing.{Prepares};
-ghost use Rattle.towhepamu.specs.PreparedNodes.{NodeTicks, PreparesNode, TextPrepares, node_where};
+ghost use Rattle.towhepamu.specs.PreparedNodes.{NodeTicks, PreparesNode, TextPrepares};
 
-use crate::choices::words_of_bytes;
+use crate::choices::with_front;
+use crate::words::with_words;
 use answers::{Checked, TaskToRun, checked_of, task_to_run};
-use dispatcher::{DispatchState, Prepared, PreparedCore, dispatch_core, prepare, unprepared};
-use ranges::{MOST_TASKS, MOST_TEXT_WORDS};
-use refusals::Verdict;
-use text::{TextRead, words_of_text};
+use dispatcher::{DispatchState, PreparedCore, dispatch_core, prepare};
+use ranges::MOST_TASKS;
+use refusals::Refusal;
 
 // A prepared core, and where its dispatching stands.
 #[repr(C)]
@@ -18,88 +18,36 @@ pub struct PreparedNode {
     pub state: DispatchState,
 }
 
-// The front of the plan decides, as in the check.
-fn prepare_words(words: &[u32], plan: &[u8], core: u32) -> Prepared
+fn prepare_words(words: &[u32], plan: &[u8], core: u32) -> Result<PreparedCore, Refusal>
     ensures { Prepares words.now plan.now core result }
 {
-    let mut choices = [0; MOST_TASKS as usize + 1];
-    let n = words_of_bytes(plan, &mut choices);
-    prepare(words, &choices[..n], core)
+    with_front(plan, |choices| prepare(words, choices, core))
 }
 
-fn prepare_text(text: &[u8], plan: &[u8], core: u32) -> Prepared
+fn prepare_text(text: &[u8], plan: &[u8], core: u32) -> Result<PreparedCore, Refusal>
     ensures { TextPrepares text.now plan.now core result }
 {
-    let mut words = [0; MOST_TEXT_WORDS as usize];
-    match words_of_text(text, &mut words) {
-        TextRead::Refused(refusal) => unprepared(Verdict::Refused(refusal)),
-        TextRead::Words(n) => prepare_words(&words[..n], plan, core),
-    }
+    with_words(text, |words| prepare_words(words?, plan, core))
 }
 
-// A core that was prepared begins with a fresh start; where it was refused all stays as it was.
-fn node_after(verdict: Verdict, core: PreparedCore, before: PreparedNode) -> PreparedNode
-    ensures { result ≡ node_where verdict core before }
-{
-    match verdict {
-        Verdict::Accepted => PreparedNode {
-            core,
-            state: DispatchState {
-                tick: 0,
-                left: [0; MOST_TASKS as usize],
-                last: 0,
-            },
-        },
-        Verdict::Refused(_) => before,
-    }
-}
-
-// What preparing answers, in numbers, and the node after it.
-#[derive(Clone, Copy)]
-struct NodePrepared {
-    answer: Checked,
-    node: PreparedNode,
-}
-
-fn prepare_numbers(text: &[u8], plan: &[u8], core: u32, before: PreparedNode) -> NodePrepared
-    ensures { PreparesNode text.now plan.now core before result.answer result.node }
-{
-    let prepared = prepare_text(text, plan, core);
-    let verdict = prepared.verdict;
-    let columns = prepared.core;
-    NodePrepared {
-        answer: checked_of(verdict),
-        node: node_after(verdict, columns, before),
-    }
-}
-
-// Prepares a core of a plan for the instance that a text is; the node takes the place of the one lent.
+// Prepares a core of a plan for the instance that a text is: with a fresh start it takes the place of the node lent, which stays as
+// it was where the core is refused.
 pub fn towhepamu_prepare(text: &[u8], plan: &[u8], core: u32, node: &mut PreparedNode) -> Checked
     ensures { PreparesNode text.now plan.now core node.old result node.new }
 {
-    let prepared = prepare_numbers(text, plan, core, *node);
-    *node = prepared.node;
-    prepared.answer
-}
-
-// What a tick answers, in numbers, and the node after it.
-#[derive(Clone, Copy)]
-struct NodeTicked {
-    answer: TaskToRun,
-    node: PreparedNode,
-}
-
-fn tick_numbers(node: PreparedNode, ended: bool) -> NodeTicked
-    ensures { NodeTicks node ended result.answer result.node }
-{
-    let core = node.core;
-    let state = node.state;
-    let dispatched = dispatch_core(core, state, ended);
-    let verdict = dispatched.verdict;
-    let next = dispatched.state;
-    NodeTicked {
-        answer: task_to_run(verdict, dispatched.task),
-        node: PreparedNode { core, state: next },
+    match prepare_text(text, plan, core) {
+        Ok(prepared) => {
+            *node = PreparedNode {
+                core: prepared,
+                state: DispatchState {
+                    tick: 0,
+                    left: [0; MOST_TASKS as usize],
+                    last: 0,
+                },
+            };
+            checked_of(Ok(()))
+        }
+        Err(refusal) => checked_of(Err(refusal)),
     }
 }
 
@@ -107,7 +55,7 @@ fn tick_numbers(node: PreparedNode, ended: bool) -> NodeTicked
 pub fn towhepamu_tick(node: &mut PreparedNode, ended: bool) -> TaskToRun
     ensures { NodeTicks node.old ended result node.new }
 {
-    let ticked = tick_numbers(*node, ended);
-    *node = ticked.node;
-    ticked.answer
+    let dispatched = dispatch_core(node.core, node.state, ended);
+    node.state = dispatched.state;
+    task_to_run(dispatched.verdict, dispatched.task)
 }

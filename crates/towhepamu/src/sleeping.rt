@@ -4,14 +4,15 @@ ghost use Rattle.sleep.specs.Outcomes.{Gives, sleep_outcome};
 ghost use Rattle.answers.specs.Answers.{checked_of};
 ghost use Rattle.towhepamu.specs.CallOutcomes.{text_sleep_outcome};
 
-use crate::choices::words_of_bytes;
+use crate::choices::{CHOICES, words_of_bytes};
 use answers::{Checked, checked_of};
-use ranges::{MOST_TASKS, MOST_TEXT_WORDS};
+use ranges::MOST_TEXT_WORDS;
 use refusals::Verdict;
 use sleep::sleep;
-use text::{TextRead, words_of_text};
+use text::words_of_text;
 
-// The front of the plan decides, as in the check.
+// The front of the plan decides, as in the check; it is not lent by `with_front`, since what a closure leaves in lent buffers is
+// not known.
 fn sleep_words(
     words: &[u32],
     plan: &[u8],
@@ -24,9 +25,26 @@ fn sleep_words(
     ensures { Gives result energies.new sleeps.new
         (sleep_outcome words.now plan.now table.now energy time energies.old sleeps.old) }
 {
-    let mut choices = [0; MOST_TASKS as usize + 1];
+    let mut choices = [0; CHOICES];
     let n = words_of_bytes(plan, &mut choices);
     sleep(words, &choices[..n], table, energy, time, energies, sleeps)
+}
+
+fn sleep_text(
+    text: &[u8],
+    plan: &[u8],
+    table: &[u8],
+    energy: u32,
+    time: u32,
+    energies: &mut [u64],
+    sleeps: &mut [u32],
+) -> Verdict
+    ensures { Gives result energies.new sleeps.new
+        (text_sleep_outcome text.now plan.now table.now energy time energies.old sleeps.old) }
+{
+    let mut words = [0; MOST_TEXT_WORDS as usize];
+    let n = words_of_text(text, &mut words)?;
+    sleep_words(&words[..n], plan, table, energy, time, energies, sleeps)
 }
 
 // Writes the least idle energy of each core and the number of its sleeps to the fronts of the lent lists.
@@ -48,17 +66,13 @@ pub fn towhepamu_sleep(
         ≡ (text_sleep_outcome text.now plan.now table.now switching_energy switching_time
         energies.old sleeps.old).sleeps }
 {
-    let mut words = [0; MOST_TEXT_WORDS as usize];
-    match words_of_text(text, &mut words) {
-        TextRead::Refused(refusal) => checked_of(Verdict::Refused(refusal)),
-        TextRead::Words(n) => checked_of(sleep_words(
-            &words[..n],
-            plan,
-            table,
-            switching_energy,
-            switching_time,
-            energies,
-            sleeps,
-        )),
-    }
+    checked_of(sleep_text(
+        text,
+        plan,
+        table,
+        switching_energy,
+        switching_time,
+        energies,
+        sleeps,
+    ))
 }

@@ -4,8 +4,6 @@
 
 use generator::tally::Counts;
 use generator::{Generator, PLAN_ROOM, TABLE_ROOM, Table, fill_table};
-use prices::Priced;
-use refusals::Verdict;
 
 // An instance of so many tasks, with the ticks of its span, the slots of a table and the largest choice of a plan; and what its
 // answered plan costs, where there is one.
@@ -22,10 +20,7 @@ pub struct Trials<'a> {
 impl Trials<'_> {
     fn passes_check(&self, plan: &[u32], table: &Table) -> bool {
         match table.get(..self.slots) {
-            Some(rows) => matches!(
-                checks::check_table(self.words, plan, rows),
-                Verdict::Accepted
-            ),
+            Some(rows) => checks::check_table(self.words, plan, rows).is_ok(),
             None => false,
         }
     }
@@ -33,18 +28,18 @@ impl Trials<'_> {
     // Whether a table is not the plan's own.
     fn is_other(&self, plan: &[u32], table: &Table) -> bool {
         let mut own = [0; TABLE_ROOM];
-        tables::tabulate(self.words, plan, &mut own);
+        let _ = tables::tabulate(self.words, plan, &mut own);
         *table != own
     }
 
     // What a drawing's plan costs. Where no plan was answered, each is too cheap.
     fn count_price(&self, plan: &[u32], counts: &mut Counts) {
         match prices::price(self.words, plan) {
-            Priced::Cost(price) => {
+            Ok(price) => {
                 let is_cheaper = self.least.is_none_or(|least| price.cost < least);
                 counts.faults.cheaper_drawings.add_if(is_cheaper);
             }
-            Priced::Refused(_) => counts.faults.unfit_drawings.add(1),
+            Err(_) => counts.faults.unfit_drawings.add(1),
         }
     }
 

@@ -2,9 +2,9 @@
 ghost use Rattle.std.specs.Prelude.{◌≡◌, ◌≤◌, ◌<◌, length, MatchOption};
 ghost use Rattle.assignment.specs.Entries.{Lowered};
 ghost use Rattle.assignment.specs.Words.{no_cost};
-ghost use Rattle.values.specs.Worths.{worth_of};
+ghost use Rattle.values.specs.Worths.{lesser_worth, worth_of};
 
-// 2^62: a cost from here on stands for none.
+// 2^62: a cost from here on stands for none. The entries of tables are numbers, since an Option<u64> would take twice the room.
 pub const NO_COST: u64 = 0x4000_0000_0000_0000;
 
 // A cost and a key, as two numbers. The least comes first: the lower cost, of equal costs the smaller key.
@@ -26,6 +26,13 @@ impl Worth {
         ensures { MatchOption result (no_cost ≤ self.cost) (λ w. (w ≡ self) × (self.cost < no_cost)) }
     {
         (self.cost < NO_COST).then_some(self)
+    }
+
+    // The one that comes first, and this where both are equal.
+    pub fn lesser(self, other: Worth) -> Worth
+        ensures { result ≡ lesser_worth self other }
+    {
+        self.min(other)
     }
 
     // Lowers entry s of a table, a slice of costs and one of keys, to this, where it comes first.

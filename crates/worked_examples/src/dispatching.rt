@@ -2,7 +2,7 @@
 use crate::show;
 use dispatcher::{DispatchState, dispatch};
 use printing::print_list;
-use refusals::{Verdict, refusal_number};
+use refusals::Verdict;
 use std::io;
 
 const MOST_TASKS: usize = ranges::MOST_TASKS as usize;
@@ -10,8 +10,8 @@ const MOST_TASKS: usize = ranges::MOST_TASKS as usize;
 // Prints the task that a call answers, or the number of its refusal.
 fn print_answer(rt: &impl Print, verdict: Verdict, task: u32) -> io::Result<()> {
     match verdict {
-        Verdict::Accepted => print!(rt; " {task}"),
-        Verdict::Refused(why) => print!(rt; " refused {}", refusal_number(why)),
+        Ok(()) => print!(rt; " {task}"),
+        Err(why) => print!(rt; " refused {}", why.number()),
     }
 }
 

@@ -2,7 +2,6 @@
 ghost use Rattle.std.specs.Prelude.{◌≤◌};
 
 use ranges::Slot;
-use text::TextRead;
 
 // More than any line has.
 pub(crate) const MOST_NUMBERS: usize = 64;
@@ -25,8 +24,8 @@ impl<T> Numbers<T> {
 pub(crate) fn words_of(text: &[u8]) -> Numbers<u32> {
     let mut all = [0; MOST_NUMBERS];
     let len = match text::words_of_text(text, &mut all) {
-        TextRead::Words(n) => n.min(MOST_NUMBERS),
-        TextRead::Refused(_) => 0,
+        Ok(n) => n.min(MOST_NUMBERS),
+        Err(_) => 0,
     };
     Numbers { all, len }
 }

@@ -1,6 +1,6 @@
 // What a plan costs, its table, and the checks of a table.
 use crate::show;
-use prices::{Price, Priced};
+use prices::Price;
 use printing::print_list;
 use ranges::Slot;
 use std::io;
@@ -20,8 +20,8 @@ fn print_price(rt: &impl Print, price: Price) -> io::Result<()> {
 
 pub(crate) fn price(rt: &impl Print, words: &[u32], plan: &[u32]) -> io::Result<()> {
     match prices::price(words, plan) {
-        Priced::Cost(price) => print_price(rt, price),
-        Priced::Refused(why) => show::refusal(rt, why),
+        Ok(price) => print_price(rt, price),
+        Err(why) => show::refusal(rt, why),
     }
 }
 

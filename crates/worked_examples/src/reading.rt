@@ -3,9 +3,7 @@ use crate::show;
 use instance::Instance;
 use printing::print_list;
 use ranges::MOST_TEXT_WORDS;
-use refusals::Verdict;
 use std::io;
-use text::TextRead;
 
 fn print_words(rt: &impl Print, words: &[u32]) -> io::Result<()> {
     rt.print("words")?;
@@ -24,8 +22,8 @@ fn print_front(rt: &impl Print, words: &[u32], n: usize) -> io::Result<()> {
 pub(crate) fn text(rt: &impl Print, bytes: &[u8]) -> io::Result<()> {
     let mut words = [7u32; MOST_TEXT_WORDS as usize];
     match text::words_of_text(bytes, &mut words) {
-        TextRead::Words(n) => print_front(rt, &words, n),
-        TextRead::Refused(why) => show::refusal(rt, why),
+        Ok(n) => print_front(rt, &words, n),
+        Err(why) => show::refusal(rt, why),
     }
 }
 
@@ -33,8 +31,8 @@ pub(crate) fn text(rt: &impl Print, bytes: &[u8]) -> io::Result<()> {
 pub(crate) fn text_into_three(rt: &impl Print, bytes: &[u8]) -> io::Result<()> {
     let mut words = [7u32, 8, 9];
     match text::words_of_text(bytes, &mut words) {
-        TextRead::Words(n) => print!(rt; "{n} ")?,
-        TextRead::Refused(why) => show::refusal(rt, why)?,
+        Ok(n) => print!(rt; "{n} ")?,
+        Err(why) => show::refusal(rt, why)?,
     }
     print_words(rt, &words)
 }
@@ -63,9 +61,8 @@ fn print_instance(rt: &impl Print, inst: &Instance) -> io::Result<()> {
 
 // The instance that a list of words is: cores, idle power, start ticks, levels, tasks, span and the deadline of each task.
 pub(crate) fn words(rt: &impl Print, list: &[u32]) -> io::Result<()> {
-    let read = instance::read_instance(list);
-    match read.verdict {
-        Verdict::Accepted => print_instance(rt, &read.instance),
-        Verdict::Refused(why) => show::refusal(rt, why),
+    match instance::read_instance(list) {
+        Ok(inst) => print_instance(rt, &inst),
+        Err(why) => show::refusal(rt, why),
     }
 }

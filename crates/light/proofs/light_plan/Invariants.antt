@@ -3,4 +3,4 @@ use Rattle.light.specs.Light.{LightBelow}
 use Rattle.light.proofs.light_plan.Given as goal
 
 abbrev pub invariant-loop-i : goal.invariant-loop-i
-invariant-loop-i l = LightBelow l.levels l.capacity l.load l.cost l.refusal l.must l.i l.used l.total l.key
+invariant-loop-i l = LightBelow l.core.levels l.core.capacity l.load l.cost l.refusal l.must l.i l.used l.total l.key

@@ -19,5 +19,5 @@ invariant_of-offer c =
 
 pub returns : goal.returns
 returns c =
-    let best = c.in-Some.ensures in
+    let best = c.in_ok-best.ensures in
     plan_told _ _ _ _ _ _ best.best_answers _ _ best.real c.write_plan.ensures

@@ -1,23 +1,58 @@
 -- `entries::entry_next` meets its contract.
+use Rattle.std.specs.Prelude.{Err}
+use Rattle.std.proofs.Common.{◌≡◌, rules}
 use mathlib.Core.Path.{sym, ap, ◌∙◌}
+use Rattle.formats.specs.ReaderLaws.{first_refused, then_takes, tested_refused, tested_passes, tested_fails}
+use Rattle.calendar.specs.Calendars.{entry}
 use Rattle.calendar.specs.DateLaws.{day_number_at_most}
 use Rattle.calendar.specs.Dates.{day_number}
-use Rattle.calendar.specs.SectionLaws.{entry_gets}
 use Rattle.calendar.proofs.entries.entry_next.Goals as goal
 
 pub day_number-number-requires : goal.day_number-number-requires
-day_number-number-requires c = c.date_next-dated.ensures.within
+day_number-number-requires c = c.in_ok-date.ensures.within
 
-pub may_follow-follows-requires : goal.may_follow-follows-requires
-may_follow-follows-requires c = (c.date_next-dated.ensures.within, c.day_number-number.ensures)
+pub may_follow-requires : goal.may_follow-requires
+may_follow-requires c = (c.in_ok-date.ensures.within, c.day_number-number.ensures)
+
+pub returns-in_err-date : goal.returns-in_err-date
+unfolding entry
+returns-in_err-date c =
+    let e : c.from_residual.result ≡ Err c.in_err-date.field-0.0 = search rules in
+    rw e (record { takes = tested_refused {middle = c.args.words.now} _ _ (first_refused _ c.in_err-date.ensures.takes); day = tt })
+
+pub returns-in_err-entry : goal.returns-in_err-entry
+unfolding entry
+returns-in_err-entry c =
+    let e : c.from_residual-in_err-entry.result ≡ Err c.in_err-entry.field-0.0 = search rules in
+    rw e
+    (record {
+      takes = tested_refused _ _ (then_takes _ c.in_ok-date.ensures.takes c.in_err-entry.ensures.takes);
+      day = tt;
+    })
+
+pub returns-then-not-may_follow : goal.returns-then-not-may_follow
+unfolding entry
+returns-then-not-may_follow c =
+    let hours = c.in_ok-entry.ensures in
+    rw c.place-first.ensures
+    (record {
+      takes =
+          tested_fails _ _ (then_takes _ c.in_ok-date.ensures.takes hours.takes)
+          (rw (hours.same_date, ← c.may_follow.ensures) c.if-not-may_follow.true);
+      day = tt;
+    })
 
 pub returns : goal.returns
+unfolding entry
 returns c =
-    let dated = c.date_next-dated.ensures in
-    let hours = c.hours_next-hours.ensures in
+    let dated = c.in_ok-date.ensures in
+    let hours = c.in_ok-entry.ensures in
     let number = c.day_number-number.ensures in
     record {
-      gets = entry_gets _ dated hours c.may_follow-follows.ensures c.refuse_unless-tested.ensures;
-      numbered = number ∙ ap day_number (sym hours.same_date);
-      number_at_most = rw number (day_number_at_most _ dated.within);
+      takes = tested_passes _ _ (then_takes _ dated.takes hours.takes) (rw (hours.same_date, ← c.may_follow.ensures) c.if-not-may_follow.false);
+      day =
+          record {
+            numbered = number ∙ ap day_number (sym hours.same_date);
+            number_at_most = rw number (day_number_at_most _ dated.within);
+          };
     }

@@ -3,11 +3,10 @@ use borrow.Author.Tests.{le-leb, lt-leb}
 use Rattle.calendar.specs.Calendars.{may_follow}
 use Rattle.calendar.proofs.entries.may_follow.Goals as goal
 
-pub returns-then-month_length-date : goal.returns-then-month_length-date
+pub returns-then-date-month_length : goal.returns-then-date-month_length
 unfolding may_follow
-returns-then-month_length-date c = rw (lt-leb _ _ (rw c.month_length.ensures at c.if-month_length-date.true))
+returns-then-date-month_length c = rw (le-leb _ _ (rw c.month_length.ensures at c.if-date-month_length.true), c.requires.1)
 
-pub returns : goal.returns
+pub returns-else-date-month_length : goal.returns-else-date-month_length
 unfolding may_follow
-returns c =
-    rw (le-leb _ _ (rw c.month_length.ensures at c.if-month_length-date.false), c.requires.1)
+returns-else-date-month_length c = rw (c.month_length.ensures, lt-leb _ _ (rw c.month_length.ensures at c.if-date-month_length.false))

@@ -8,6 +8,3 @@ use Rattle.checks.proofs.jobs.jobs_pass.Given as goal
 
 abbrev pub invariant-loop-i : goal.invariant-loop-i
 invariant-loop-i l = (l.i ≤ l.inst.taskcount) × ((x : ℕ) → x < l.i → not (is_served (problem_in l.inst) l.plan l.table x) ≡ false)
-
-abbrev pub decreases-loop-i : goal.decreases-loop-i
-decreases-loop-i l = l.inst.taskcount - l.i

@@ -8,6 +8,3 @@ use Rattle.checks.proofs.jobs.jobs_served.Given as goal
 abbrev pub invariant-loop-j : goal.invariant-loop-j
 invariant-loop-j l =
     (l.j ≤ l.jobs) × ((x : ℕ) → x < l.j → job_served_at l.table l.from l.number l.period l.window l.ticks x ≡ true)
-
-abbrev pub decreases-loop-j : goal.decreases-loop-j
-decreases-loop-j l = l.jobs - l.j

@@ -9,6 +9,3 @@ use Rattle.checks.proofs.slots.slots_named.Given as goal
 abbrev pub invariant-loop-x : goal.invariant-loop-x
 invariant-loop-x l =
     AtSlot l.span l.k l.left l.x × (l.x ≤ length l.table) × ((y : ℕ) → y < l.x → is_stray l.plan l.levels (y / l.span) (get_or l.table y 0) ≡ false)
-
-abbrev pub decreases-loop-x : goal.decreases-loop-x
-decreases-loop-x l = length l.table - l.x

@@ -20,5 +20,5 @@ returns-then-table-size c = let s = c.requires in
 
 pub returns : goal.returns
 unfolding slots_pass
-returns c = rw c.smaller.ensures
+returns c = rw c.min.ensures
     (other_length_is_refused GivenTable _ _ c.table_size-size.ensures _ _ c.if-table-size.false)

@@ -1,5 +1,4 @@
 -- `columns_fit` has found the columns fit that it has passed.
-use Prim.Native.Nat.{◌-◌, ◌≤◌}
 use mathlib.Core.Bool.{true}
 use mathlib.Core.Path.{◌≡◌}
 use lib.ListN.{length}
@@ -7,8 +6,7 @@ use Rattle.laws.specs.Search.{every}
 use Rattle.dispatcher.specs.Columns.{column_fits, number_before}
 use Rattle.dispatcher.proofs.columns.columns_fit.Given as goal
 
-abbrev pub invariant-loop-j : goal.invariant-loop-j
-invariant-loop-j l = (l.j ≤ length l.numbers) × (length l.periods ≡ length l.numbers) × (l.before ≡ number_before l.numbers l.j) × (every (column_fits l.numbers l.periods) l.j ≡ true)
-
-abbrev pub decreases-loop-j : goal.decreases-loop-j
-decreases-loop-j l = length l.numbers - l.j
+abbrev pub invariant-loop-number : goal.invariant-loop-number
+invariant-loop-number l =
+    (length l.periods ≡ length l.numbers) × (l.before ≡ number_before l.numbers (length l.yielded))
+    × (every (column_fits l.numbers l.periods) (length l.yielded) ≡ true)

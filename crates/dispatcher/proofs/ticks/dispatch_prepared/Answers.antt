@@ -20,8 +20,8 @@ state_answer c = sym c.state_fits.ensures
 pub returns-then-not-columns_fit : goal.returns-then-not-columns_fit
 returns-then-not-columns_fit c = c.refused.ensures ∙ columns_are_refused _ _ _ _ _ _ _ (sym c.columns_fit.ensures ∙ c.if-not-columns_fit.true)
 
-pub state_fits-requires : goal.state_fits-requires
-state_fits-requires c = let columns = fitting_columns _ _ _ _ (columns_tested (goal.at.state_fits-requires c).Else-not-columns_fit) in record { rising_numbers = columns.numbers_rise; ticks_len = columns.one_job_each }
+pub invariant_of-columns : goal.invariant_of-columns
+invariant_of-columns c = record { well_formed = fitting_columns _ _ _ _ (columns_tested (goal.at.invariant_of-columns c).Else-not-columns_fit) }
 
 pub returns-then-not-state_fits : goal.returns-then-not-state_fits
 returns-then-not-state_fits c =
@@ -35,8 +35,7 @@ returns-then-is_unfounded c =
     (sym c.is_unfounded.ensures ∙ c.if-is_unfounded.true)
 
 pub advance-requires : goal.advance-requires
-advance-requires c =
-    record { core_columns = fitting_columns _ _ _ _ (columns_tested (goal.at.advance-requires c).Else-not-columns_fit); state_value = state_answer (goal.at.advance-requires c).After-state_fits ∙ c.if-not-state_fits.false }
+advance-requires c = state_answer (goal.at.advance-requires c).After-state_fits ∙ c.if-not-state_fits.false
 
 pub returns : goal.returns
 returns c =

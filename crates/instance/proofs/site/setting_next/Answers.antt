@@ -1,10 +1,13 @@
 -- `site::setting_next` meets its contract.
-use native.Mathlib.Omega.{arith}
-use Rattle.instance.specs.SiteLaws.{setting_gets, no_setting_gets}
+use borrow.Author.Tests.{le-leb, lt-leb}
+use Rattle.formats.specs.ReaderLaws.{takes_done}
+use Rattle.instance.specs.SiteFile.{setting_from}
 use Rattle.instance.proofs.site.setting_next.Goals as goal
 
 pub returns-then-from-count : goal.returns-then-from-count
-returns-then-from-count c = setting_gets _ _ _ (omega arith) c.word_next.ensures
+unfolding setting_from
+returns-then-from-count c = rw (le-leb _ _ c.if-from-count.true) c.word.ensures.takes
 
 pub returns : goal.returns
-returns c = no_setting_gets _ _ _ c.if-from-count.false
+unfolding setting_from
+returns c = rw (lt-leb _ _ c.if-from-count.false) (takes_done 0)

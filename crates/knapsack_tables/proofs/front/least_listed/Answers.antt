@@ -1,5 +1,4 @@
 use Rattle.std.proofs.Common.{◌≡◌, add-one, arith, length}
-use Rattle.values.specs.WorthLaws.{min_is_lesser}
 use Rattle.knapsack_tables.specs.ListReads.{least_of_none, point_read, least_if_dearer, least_if_cheap, least_of_all}
 use Rattle.knapsack_tables.proofs.front.least_listed.Goals.{then-cost-best, else-cost-best}
 use Rattle.knapsack_tables.proofs.front.least_listed.Goals as goal
@@ -22,6 +21,6 @@ loop-choice-preserved c =
     let under = c.loop-choice-test.true in
     rw add-one
     (elim c.if-cost-best.branch [
-      | then-cost-best w ↦ rw (w.best-is, w.min-best.ensures, min_is_lesser) (least_if_cheap (omega arith) under least w.if-cost-best.true)
+      | then-cost-best w ↦ rw (w.best-is, w.lesser-best.ensures) (least_if_cheap (omega arith) under least w.if-cost-best.true)
       | else-cost-best w ↦ rw w.best-is (least_if_dearer (omega arith) under least w.if-cost-best.false)
     ])

@@ -1,25 +1,28 @@
-use Rattle.listing_lines.specs.Placing.{all_left, room_left, ◌then◌}
 use Rattle.listing_lines.specs.HeldLines.{held_plan_lines}
+use Rattle.listing_lines.specs.LinesPut.{all_to_put, room_next, room_last, ◌then◌, last_put, put_at_end}
+use Rattle.std.proofs.Common.{rules}
 use Rattle.listing_lines.proofs.plans.put_plan.Goals as goal
 
-pub put_span-second-requires : goal.put_span-second-requires
-put_span-second-requires c =
-    room_left _ (all_left (rw (held_plan_lines _ c.requires.sound _ _ _ c.requires.price_value) at c.requires.room))
+pub span-requires : goal.span-requires
+span-requires c =
+    room_next _ (all_to_put (record { room = rw (held_plan_lines _ c.requires.sound _ _ _ c.requires.price_value) at c.requires.room }))
 
-pub put_cost-third-requires : goal.put_cost-third-requires
-put_cost-third-requires c =
-    room_left _ (all_left (rw (held_plan_lines _ c.requires.sound _ _ _ c.requires.price_value) at c.requires.room) then c.put_span-second.ensures)
+pub cost-requires : goal.cost-requires
+cost-requires c =
+    room_next _ (all_to_put (record { room = rw (held_plan_lines _ c.requires.sound _ _ _ c.requires.price_value) at c.requires.room }) then c.span.ensures)
 
-pub put_tasks-fourth-requires : goal.put_tasks-fourth-requires
-put_tasks-fourth-requires c =
-    record { sound = c.requires.sound; plan_len = c.requires.plan_len; room = room_left _ (all_left (rw (held_plan_lines _ c.requires.sound _ _ _ c.requires.price_value) at c.requires.room) then c.put_span-second.ensures then c.put_cost-third.ensures) }
+pub tasks-requires : goal.tasks-requires
+tasks-requires c =
+    let left = all_to_put (record { room = rw (held_plan_lines _ c.requires.sound _ _ _ c.requires.price_value) at c.requires.room }) then c.span.ensures then c.cost.ensures in
+    record { sound = c.requires.sound; plan_len = c.requires.plan_len; room = room_next _ left }
 
-pub put_cores-requires : goal.put_cores-requires
-put_cores-requires c =
-    let left = all_left (rw (held_plan_lines _ c.requires.sound _ _ _ c.requires.price_value) at c.requires.room) then c.put_span-second.ensures then c.put_cost-third.ensures then c.put_tasks-fourth.ensures in
-    record { sound = c.requires.sound; table_len = c.requires.table_len; room = left.room }
+pub cores-requires : goal.cores-requires
+cores-requires c =
+    let left = all_to_put (record { room = rw (held_plan_lines _ c.requires.sound _ _ _ c.requires.price_value) at c.requires.room }) then c.span.ensures then c.cost.ensures then c.tasks.ensures in
+    record { sound = c.requires.sound; table_len = c.requires.table_len; room = room_last left }
 
 pub returns : goal.returns
 returns c =
-    let left = all_left (rw (held_plan_lines _ c.requires.sound _ _ _ c.requires.price_value) at c.requires.room) then c.put_span-second.ensures then c.put_cost-third.ensures then c.put_tasks-fourth.ensures in
-    rw (held_plan_lines _ c.requires.sound _ _ _ c.requires.price_value) (left.whole c.put_cores.ensures)
+    let left = all_to_put (record { room = rw (held_plan_lines _ c.requires.sound _ _ _ c.requires.price_value) at c.requires.room }) then c.span.ensures then c.cost.ensures then c.tasks.ensures in
+    let puts = last_put left c.cores.ensures in
+    rw (held_plan_lines _ c.requires.sound _ _ _ c.requires.price_value) (put_at_end puts (search rules))

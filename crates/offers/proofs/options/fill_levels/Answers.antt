@@ -75,9 +75,6 @@ offset_bounds-cost-at c = omega (arith, place_below (goal.at.offset_bounds-cost-
 pub bounds-cost-at : goal.bounds-cost-at
 bounds-cost-at c = place_below (goal.at.bounds-cost-at c).In-loop-l
 
-pub overflow_add-l : goal.overflow_add-l
-overflow_add-l c = omega (arith, place_below (goal.at.overflow_add-l c).In-loop-l)
-
 pub loop-l-smaller : goal.loop-l-smaller
 loop-l-smaller c = omega arith
 

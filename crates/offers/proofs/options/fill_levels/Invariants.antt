@@ -7,6 +7,3 @@ use Rattle.offers.proofs.options.fill_levels.Given as goal
 abbrev pub invariant-loop-l : goal.invariant-loop-l
 invariant-loop-l l =
     (l.l ≤ l.inst.levelcount) × LevelsOffered (problem_in l.inst) (l.i * most_levels + l.l) l.load l.cost
-
-abbrev pub decreases-loop-l : goal.decreases-loop-l
-decreases-loop-l l = l.inst.levelcount - l.l

@@ -51,9 +51,6 @@ bounds-refusal-i c = task_within (goal.at.bounds-refusal-i c).In-loop-i
 pub bounds-must-i : goal.bounds-must-i
 bounds-must-i c = task_within (goal.at.bounds-must-i c).In-loop-i
 
-pub overflow_add-i : goal.overflow_add-i
-overflow_add-i c = omega (arith, task_within (goal.at.overflow_add-i c).In-loop-i)
-
 pub loop-i-smaller : goal.loop-i-smaller
 loop-i-smaller c = omega arith
 

@@ -6,6 +6,3 @@ use Rattle.offers.proofs.options.fill_options.Given as goal
 abbrev pub invariant-loop-i : goal.invariant-loop-i
 invariant-loop-i l =
     (l.i ≤ l.inst.taskcount) × OptionsOffered (problem_in l.inst) l.i l.load l.cost l.refusal l.must
-
-abbrev pub decreases-loop-i : goal.decreases-loop-i
-decreases-loop-i l = l.inst.taskcount - l.i

@@ -35,10 +35,6 @@ pub bounds-timings-i : goal.bounds-timings-i
 bounds-timings-i c =
     let start = c in let sound = start.requires.sound in omega (arith, c.loop-w-test.true, held_levelcount _ sound, sound.valid.level_count_bound.at_most, start.requires.i_bound, sound.valid.task_count_bound)
 
-pub overflow_add-w : goal.overflow_add-w
-overflow_add-w c =
-    let start = c in let sound = start.requires.sound in omega (arith, c.loop-w-test.true, held_levelcount _ sound, sound.valid.level_count_bound.at_most, start.requires.i_bound, sound.valid.task_count_bound)
-
 pub loop-w-smaller : goal.loop-w-smaller
 loop-w-smaller c =
     omega (arith, c.loop-w-test.true)

@@ -6,6 +6,3 @@ use Rattle.offers.proofs.timings.fill_timing.Given as goal
 
 abbrev pub invariant-loop-w : goal.invariant-loop-w
 invariant-loop-w l = (l.w ≤ l.words) × TimingsOffered (problem_in l.inst) (l.i * timing_width + l.w) l.timings
-
-abbrev pub decreases-loop-w : goal.decreases-loop-w
-decreases-loop-w l = l.words - l.w

@@ -18,10 +18,6 @@ pub bounds-inst-i : goal.bounds-inst-i
 bounds-inst-i c =
     let sound = c.requires.sound in omega (arith, held_taskcount _ sound, c.loop-i-test.true, sound.valid.task_count_bound)
 
-pub overflow_add-i : goal.overflow_add-i
-overflow_add-i c =
-    let sound = c.requires.sound in omega (arith, held_taskcount _ sound, c.loop-i-test.true, sound.valid.task_count_bound)
-
 pub loop-i-smaller : goal.loop-i-smaller
 loop-i-smaller c =
     omega (arith, c.loop-i-test.true)

@@ -6,6 +6,3 @@ use Rattle.offers.proofs.timings.fill_timings.Given as goal
 
 abbrev pub invariant-loop-i : goal.invariant-loop-i
 invariant-loop-i l = (l.i ≤ l.inst.taskcount) × TimingsOffered (problem_in l.inst) (l.i * timing_width) l.timings
-
-abbrev pub decreases-loop-i : goal.decreases-loop-i
-decreases-loop-i l = l.inst.taskcount - l.i

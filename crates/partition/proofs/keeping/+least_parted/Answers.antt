@@ -1,7 +1,7 @@
 use Rattle.std.proofs.Common.{◌/◌, ap, ap₂, sym, ◌∙◌, arith}
 use Rattle.assignment.specs.Values.{lesser}
 use Rattle.values.specs.Worths.{worth_of}
-use Rattle.values.specs.WorthLaws.{lesser_worth-value, min_is_lesser}
+use Rattle.values.specs.WorthLaws.{lesser_worth-value}
 use Rattle.partition.specs.Splits.{sum_at}
 use Rattle.partition.specs.SplitLaws.{half_is_power}
 use Rattle.partition.specs.PartedLaws.{parted_nothing, parted_either, half_of_parts, in_top_ready, in_rest_ready}
@@ -31,6 +31,6 @@ returns t c =
     λ k is_power.
     let (j, e, half) = half_is_power k is_power c.if-size-eq1.false in
     rw e
-    (ap worth_of (c.min.ensures ∙ min_is_lesser _ _) ∙ lesser_worth-value _ _
+    (ap worth_of (c.lesser.ensures) ∙ lesser_worth-value _ _
     ∙ ap₂ lesser (c.least_parted-in_top.ensures j half) (c.least_parted-in_rest.ensures j half)
     ∙ parted_either (sum_at p.tops.now p.topkeys.now p.rests.now p.restkeys.now) a.t a.r j (a.size / 2) half)

@@ -94,9 +94,6 @@ bounds-kept-n-then-names_core-4 c = omega (arith, has_place (goal.at.bounds-kept
 pub overflow_add-kept-then-names_core : goal.overflow_add-kept-then-names_core
 overflow_add-kept-then-names_core c = omega (arith, has_place (goal.at.overflow_add-kept-then-names_core c).In-loop-i)
 
-pub overflow_add-i : goal.overflow_add-i
-overflow_add-i c = omega (arith, task_is_few (goal.at.overflow_add-i c).In-loop-i)
-
 pub loop-i-smaller : goal.loop-i-smaller
 loop-i-smaller c = omega (arith, c.loop-i-test.true)
 

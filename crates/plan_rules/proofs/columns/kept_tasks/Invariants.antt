@@ -6,6 +6,3 @@ use Rattle.plan_rules.proofs.columns.kept_tasks.Given as goal
 
 abbrev pub invariant-loop-i : goal.invariant-loop-i
 invariant-loop-i l = (l.i ≤ l.inst.taskcount) × KeptColumns (problem_in l.inst) l.plan l.k l.i l.kept
-
-abbrev pub decreases-loop-i : goal.decreases-loop-i
-decreases-loop-i l = l.inst.taskcount - l.i

@@ -28,7 +28,7 @@ is_bad c =
 pub returns-then-plan-inst : goal.returns-then-plan-inst
 unfolding choices_pass
 returns-then-plan-inst c =
-    rw c.smaller.ensures (other_length_is_refused GivenPlan _ _ (held_taskcount _ c.requires) _ _ c.if-plan-inst.true)
+    rw c.min.ensures (other_length_is_refused GivenPlan _ _ (held_taskcount _ c.requires) _ _ c.if-plan-inst.true)
 
 pub overflow_cast-most : goal.overflow_cast-most
 overflow_cast-most c = omega (arith, level_count_at_most _ c.requires)
@@ -51,9 +51,6 @@ offset_bounds-plan-i c =
 
 pub bounds-plan-i : goal.bounds-plan-i
 bounds-plan-i c = omega (arith, c.if-plan-inst.false, c.loop-i-test.true)
-
-pub overflow_add-i : goal.overflow_add-i
-overflow_add-i c = omega (arith, c.loop-i-test.true)
 
 pub loop-i-smaller : goal.loop-i-smaller
 loop-i-smaller c = omega (arith, c.loop-i-test.true)

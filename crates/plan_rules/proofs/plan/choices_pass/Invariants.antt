@@ -8,6 +8,3 @@ use Rattle.plan_rules.proofs.plan.choices_pass.Given as goal
 
 abbrev pub invariant-loop-i : goal.invariant-loop-i
 invariant-loop-i l = (l.i ≤ l.inst.taskcount) × ((x : ℕ) → x < l.i → bad_choice (problem_in l.inst) l.plan x ≡ false)
-
-abbrev pub decreases-loop-i : goal.decreases-loop-i
-decreases-loop-i l = l.inst.taskcount - l.i

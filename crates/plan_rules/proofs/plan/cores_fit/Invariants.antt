@@ -8,6 +8,3 @@ use Rattle.plan_rules.proofs.plan.cores_fit.Given as goal
 
 abbrev pub invariant-loop-k : goal.invariant-loop-k
 invariant-loop-k l = (l.k ≤ l.cores) × ((j : ℕ) → j < l.k → not (fits (problem_in l.inst) l.plan j) ≡ false)
-
-abbrev pub decreases-loop-k : goal.decreases-loop-k
-decreases-loop-k l = l.cores - l.k

@@ -38,9 +38,6 @@ overflow_add-total c = let start = c in
       s.valid.cores.at_most,
     )
 
-pub overflow_add-k : goal.overflow_add-k
-overflow_add-k c = omega arith
-
 pub loop-k-smaller : goal.loop-k-smaller
 loop-k-smaller c = omega arith
 

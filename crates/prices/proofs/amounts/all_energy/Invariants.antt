@@ -7,6 +7,3 @@ use Rattle.prices.proofs.amounts.all_energy.Given as goal
 
 abbrev pub invariant-loop-k : goal.invariant-loop-k
 invariant-loop-k l = (l.k ≤ l.cores) × (l.total ≡ sum (core_energy (problem_in l.inst) l.plan) l.k)
-
-abbrev pub decreases-loop-k : goal.decreases-loop-k
-decreases-loop-k l = l.cores - l.k

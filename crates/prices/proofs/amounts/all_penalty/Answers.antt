@@ -34,9 +34,6 @@ pub bounds-inst-i : goal.bounds-inst-i
 bounds-inst-i c =
     omega (arith, task_below (goal.at.bounds-inst-i c).In-loop-i, c.requires.sound.valid.task_count_bound)
 
-pub overflow_add-i : goal.overflow_add-i
-overflow_add-i c = omega (arith, c.loop-i-test.true)
-
 pub loop-i-smaller : goal.loop-i-smaller
 loop-i-smaller c = omega (arith, c.loop-i-test.true)
 

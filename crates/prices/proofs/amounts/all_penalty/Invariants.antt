@@ -7,6 +7,3 @@ use Rattle.prices.proofs.amounts.all_penalty.Given as goal
 
 abbrev pub invariant-loop-i : goal.invariant-loop-i
 invariant-loop-i l = (l.i ≤ l.inst.taskcount) × (l.penalty ≡ sum (penalty_of (problem_in l.inst) l.plan) l.i)
-
-abbrev pub decreases-loop-i : goal.decreases-loop-i
-decreases-loop-i l = l.inst.taskcount - l.i

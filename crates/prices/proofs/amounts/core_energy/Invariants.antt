@@ -9,6 +9,3 @@ use Rattle.prices.proofs.amounts.core_energy.Given as goal
 abbrev pub invariant-loop-j : goal.invariant-loop-j
 invariant-loop-j l =
     (l.j ≤ l.kept.count) × (l.busy ≡ sum_of_kept l.kept (energy_on (problem_in l.inst) l.plan l.k) l.j) × (l.load ≡ sum_of_kept l.kept (load_on (problem_in l.inst) l.plan l.k) l.j)
-
-abbrev pub decreases-loop-j : goal.decreases-loop-j
-decreases-loop-j l = l.kept.count - l.j

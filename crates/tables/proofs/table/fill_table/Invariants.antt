@@ -7,6 +7,3 @@ use Rattle.tables.proofs.table.fill_table.Given as goal
 
 abbrev pub invariant-loop-k : goal.invariant-loop-k
 invariant-loop-k l = (l.k ≤ l.cores) × (l.table ≡ rows_onto (problem_in l.inst) l.plan l.k l.initial.table)
-
-abbrev pub decreases-loop-k : goal.decreases-loop-k
-decreases-loop-k l = l.cores - l.k

@@ -1,28 +1,7 @@
-use Rattle.std.proofs.Common.{arith, sym, ap, ◌∙◌, length-take-le}
-use Rattle.text.specs.NumberCountLaws.{FrontIsText, text_is_refused, words_at_front}
-use Rattle.answers.specs.Answers.{ruled_of}
+use Rattle.std.proofs.Common.{rules}
 use Rattle.towhepamu.specs.CallOutcomes.{text_plan_at_outcome}
 use Rattle.towhepamu.proofs.hours.towhepamu_calendar.Goals as goal
-use Rattle.towhepamu.proofs.hours.towhepamu_calendar.Goals.{In-Words}
 
-front_is_text : (c : goal.In-Words) → FrontIsText c.args.text.now c.in-Words.n c.words_of_text.new.words
-front_is_text c =
-    let read = c.words_of_text.ensures in
-    words_at_front _ _ _ _ (omega arith) (read.value, (read.words_after, read.promise)) c.in-Words.is
-
-pub slice_bounds-words-end : goal.slice_bounds-words-end
-slice_bounds-words-end c = (front_is_text (goal.at.slice_bounds-words-end c).In-Words).within
-
-pub slice_bounds-plan_at-end : goal.slice_bounds-plan_at-end
-slice_bounds-plan_at-end c = sym (length-take-le _ _ (front_is_text (goal.at.slice_bounds-plan_at-end c).In-Words).within)
-
-pub returns-in-Refused : goal.returns-in-Refused
+pub returns : goal.returns
 unfolding text_plan_at_outcome
-returns-in-Refused c =
-    let read = c.words_of_text.ensures in rw (text_is_refused _ _ _ _ (omega arith) (read.value, (read.words_after, read.promise)) c.in-Refused.is) c.ruled_of.ensures
-
-pub returns-in-Words : goal.returns-in-Words
-unfolding text_plan_at_outcome
-returns-in-Words c =
-    rw (front_is_text (goal.at.returns-in-Words c).In-Words).words_of_text
-    (c.ruled_of-in-Words.ensures ∙ ap ruled_of c.plan_at.ensures.value)
+returns c = rw c.with_words.ensures.1.read (search rules)
