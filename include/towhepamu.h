@@ -85,9 +85,9 @@ extern "C" {
 /* No site has a longer listing, in bytes: a listing's buffer must have this length. */
 #define TOWHEPAMU_MOST_LISTING_BYTES 51200
 
-/* The stack that a call must find free, in bytes. Measured: reading 13,048, planning 1,396,312,
-   checking 12,104, checking slots 12,104, listing 1,413,000, sleeping 12,152, dispatching 13,608,
-   preparing 13,896, a tick 3,048, asking a calendar 10,648 (tests/desk/test_stack.c, which fails
+/* The stack that a call must find free, in bytes. Measured: reading 12,792, planning 1,066,616,
+   checking 12,328, checking slots 12,008, listing 1,083,624, sleeping 12,376, dispatching 13,768,
+   preparing 13,160, a tick 3,048, asking a calendar 10,616 (tests/desk/test_stack.c, which fails
    where a call takes more than is promised). */
 #define TOWHEPAMU_STACK_BYTES (1536 * 1024)
 
