@@ -6,10 +6,11 @@
 mod choosing;
 mod pivots;
 
-ghost use Rattle.std.specs.Prelude.{◌≡◌, ◌+◌, ◌<◌, ◌≤◌};
+ghost use Rattle.std.specs.Prelude.{◌≡◌, ◌+◌, ◌<◌, ◌≤◌, ⊤};
 ghost use Rattle.simplex.specs.declared.TheConstants.{MOST_COLUMNS, MOST_ROWS};
 
 pub use pivots::take_off;
+use std::alloc::AllocError;
 
 pub const MOST_ROWS: usize = 21;
 
@@ -29,6 +30,19 @@ pub struct Dictionary<V> {
     ghost rows_have_room: { rows ≤ MOST_ROWS },
     ghost columns_have_room: { columns ≤ MOST_COLUMNS },
 }
+
+// All of a dictionary, with the room that its ghost fields speak of.
+impl<V: Copy> Clone for Dictionary<V> {
+    ghost is_clone = { λ dictionary copy. copy ≡ dictionary };
+
+    ghost is_infallible = { λ _. ⊤ };
+
+    fn clone(&self) -> Result<Dictionary<V>, AllocError> {
+        Ok(*self)
+    }
+}
+
+impl<V: Copy> Copy for Dictionary<V> {}
 
 // Some twenty pivots are enough; more come of rounding, or of variables that take turns.
 const MOST_PIVOTS: usize = 60;
