@@ -2,14 +2,15 @@
 use Rattle.std.specs.Prelude.{ℕ, ◌+◌, ◌≤◌, ◌<◌, true, false, cond, List, [], ◌∷◌, ◌++◌, ◌≡◌, refl, Ok, Err}
 use Rattle.std.proofs.Common.{sym, add-one}
 use Rattle.std.proofs.Math.Path.{ap}
+use Rattle.ranges.specs.Limits
 use Rattle.refusals.specs.declared.Refusal.{Refusal}
 use Rattle.refusals.specs.declared.Refusal.TheVariants.{NoSuchQuestion}
 use Rattle.formats.specs.Formats.{times}
 use Rattle.formats.specs.ReaderLaws.{first_refused, then_takes, takes_done, repeats_start, repeats_more, repeats_refused, repeats_end}
 use Rattle.formats.specs.Readers.{Left, start_of, Takes}
-use Rattle.formats.specs.Taking.{take_end, reading_of}
+use Rattle.formats.specs.Taking.{between, take_word, take_end, reading_of}
 use Rattle.calendar.specs.CalendarLaws.{free_after_more}
-use Rattle.calendar.specs.Calendars.{free_after, each_entry, calendar, calendar_of}
+use Rattle.calendar.specs.Calendars.{free_after, each_entry, entries, calendar, calendar_of}
 use Rattle.calendar.specs.Dates.{day_number}
 use Rattle.calendar.specs.Hours.{ruling, days_to_later, is_question, ruled_at, plan_at_of, plan_at_outcome}
 use Rattle.calendar.specs.HoursLaws.{never_open, ruled_with_more}
@@ -39,8 +40,18 @@ module _ {count asked minute : ℕ} {start now : Left} {free : ℕ} {ruled : Pla
       Takes start (times each_entry count []).take (Err r) end
   entries_refused below one = repeats_refused each_entry so_far.repeats below (rw so_far.free_is at one.takes)
 
-  pub entries_end : count ≤ i → Takes start (times each_entry count []).take (Ok so_far.before) now
-  entries_end all_taken = repeats_end each_entry so_far.repeats all_taken
+  pub entries_taken : count ≤ i → Takes start (times each_entry count []).take (Ok so_far.before) now
+  entries_taken all_taken = repeats_end each_entry so_far.repeats all_taken
+
+  pub entries_end : {from : Left} → Takes from (take_word (between 0 Limits.most_entries)) (Ok count) start → count ≤ i →
+      TakesEntries from asked minute (Ok ruled) now
+  unfolding entries
+  entries_end counted all_taken =
+      record {
+        taken = so_far.before;
+        takes = then_takes _ counted (entries_taken all_taken);
+        ruled_is = so_far.ruled_is;
+      }
 
 -- what the entries, the end and the question say of the whole list
 module _ (words : List ℕ) (d : Date) (minute : ℕ) where

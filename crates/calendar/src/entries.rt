@@ -56,7 +56,11 @@ fn entry_next(words: &mut WordReader, free: u32) -> Result<DatedEntry, Refusal>
     let first = words.place();
     let date = date_next(words)?;
     let number = day_number(date);
-    let entry = hours_next(words, date)?;
+    // Not by `?`: so the way out where an hour is refused has a place of its own, which an edit turns (must-fail/date_tested_before_hours).
+    let entry = match hours_next(words, date) {
+        Ok(entry) => entry,
+        Err(refusal) => return Err(refusal),
+    };
     if !may_follow(free, date, number) {
         return Err(Refusal::CalendarDate(first));
     }

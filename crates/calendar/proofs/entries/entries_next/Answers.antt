@@ -36,11 +36,4 @@ pub loop-preserved : goal.loop-preserved
 loop-preserved c = entries_more c.loop.invariant c.loop-test.true c.in_ok-next.ensures c.ruled_with-ruled.ensures
 
 pub returns : goal.returns
-unfolding entries
-returns c =
-    let loop = c.loop.invariant in
-    record {
-      taken = loop.before;
-      takes = then_takes _ c.in_ok-count.ensures.takes (entries_end loop c.loop-test.false);
-      ruled_is = loop.ruled_is;
-    }
+returns c = entries_end c.loop.invariant c.in_ok-count.ensures.takes c.loop-test.false

@@ -20,20 +20,16 @@ returns-in_err-date c =
     let e : c.from_residual.result ≡ Err c.in_err-date.field-0.0 = search rules in
     rw e (record { takes = tested_refused {middle = c.args.words.now} _ _ (first_refused _ c.in_err-date.ensures.takes); day = tt })
 
-pub returns-in_err-entry : goal.returns-in_err-entry
+pub returns-in-Err : goal.returns-in-Err
 unfolding entry
-returns-in_err-entry c =
-    let e : c.from_residual-in_err-entry.result ≡ Err c.in_err-entry.field-0.0 = search rules in
-    rw e
-    (record {
-      takes = tested_refused _ _ (then_takes _ c.in_ok-date.ensures.takes c.in_err-entry.ensures.takes);
-      day = tt;
-    })
+returns-in-Err c =
+    let hours = rw c.in-Err.is at c.hours_next.ensures in
+    record { takes = tested_refused _ _ (then_takes _ c.in_ok-date.ensures.takes hours.takes); day = tt }
 
 pub returns-then-not-may_follow : goal.returns-then-not-may_follow
 unfolding entry
 returns-then-not-may_follow c =
-    let hours = c.in_ok-entry.ensures in
+    let hours = rw c.in-Ok.is at c.hours_next.ensures in
     rw c.place-first.ensures
     (record {
       takes =
@@ -46,7 +42,7 @@ pub returns : goal.returns
 unfolding entry
 returns c =
     let dated = c.in_ok-date.ensures in
-    let hours = c.in_ok-entry.ensures in
+    let hours = rw c.in-Ok.is at c.hours_next.ensures in
     let number = c.day_number-number.ensures in
     record {
       takes = tested_passes _ _ (then_takes _ dated.takes hours.takes) (rw (hours.same_date, ← c.may_follow.ensures) c.if-not-may_follow.false);
