@@ -15,8 +15,11 @@ pub fn table_passes(inst: Instance, plan: &[u32], table: &[Slot]) -> Verdict
     requires { Sound inst }
     ensures { result ≡ check (problem_in inst) plan.now table.now }
 {
-    slot_check(inst, plan, table)?;
-    jobs_pass(inst, plan, table)
+    // Not by `?`: so the way out where a slot is refused has a place of its own, which an edit turns (must-fail/jobs_before_slots).
+    match slot_check(inst, plan, table) {
+        Ok(()) => jobs_pass(inst, plan, table),
+        Err(refusal) => Err(refusal),
+    }
 }
 
 // Whether a table is one of the plan's for the instance: every kept job has its ticks between release and due tick, and
