@@ -86,7 +86,7 @@ extern "C" {
 #define TOWHEPAMU_MOST_LISTING_BYTES 51200
 
 /* The stack that a call must find free, in bytes. Measured: reading 12,792, planning 1,066,616,
-   checking 12,328, checking slots 12,008, listing 1,083,624, sleeping 12,376, dispatching 13,768,
+   checking 12,344, checking slots 12,008, listing 1,083,624, sleeping 12,392, dispatching 13,768,
    preparing 13,160, a tick 3,048, asking a calendar 10,616 (tests/desk/test_stack.c, which fails
    where a call takes more than is promised). */
 #define TOWHEPAMU_STACK_BYTES (1536 * 1024)

@@ -39,7 +39,9 @@ impl TimedCore<'_> {
     // The weights that bound a part's cost best: of the given ticks or, where none are given, of those that are exceeded one after the
     // other.
     pub(crate) fn fitted(&self, part: &Part, given: Option<[u32; MOST_TICKS]>) -> Multipliers {
-        let mut shares = self.shares_of(part);
+        // Filled where it stands: it is large, and all of it would be copied where a function answered it.
+        let mut shares = Dictionary::new(Variable::Left { place: 0 });
+        self.add_items(part, &mut shares);
         let mut ticks = given.unwrap_or([0; MOST_TICKS]);
         for place in 0..MOST_TICKS {
             let Some(tick) = self.next_tick(part, given, place, &shares) else {

@@ -11,12 +11,12 @@ use simplex::{Dictionary, MOST_COLUMNS, MOST_ROWS};
 use std::num::nearest_u64_to_f64;
 use values::STRIDE;
 
-// What a variable of the linear relaxation is: how much of a level an item has, at which a job has these ticks; or what is left of the
-// ticks up to the one that is weighed at a place.
+// What a variable of the linear relaxation is: what is left of the ticks up to the one that is weighed at a place; or how much of a level
+// an item has, at which a job has these ticks. The first, at place 0, is all zeros, as the entries of a dictionary that holds it are.
 #[derive(Clone, Copy)]
 pub(crate) enum Variable {
-    Share { item: usize, ticks: u32 },
     Left { place: usize },
+    Share { item: usize, ticks: u32 },
 }
 
 impl TimedCore<'_> {
@@ -64,14 +64,12 @@ impl TimedCore<'_> {
         }
     }
 
-    // The items that are still to have a level, each at its own cheapest one.
-    pub(crate) fn shares_of(&self, part: &Part) -> Dictionary<Variable> {
-        let mut shares = Dictionary::new(Variable::Left { place: 0 });
+    // Adds the items that are still to have a level, each at its own cheapest one.
+    pub(crate) fn add_items(&self, part: &Part, shares: &mut Dictionary<Variable>) {
         for item in part.fixed..self.timed.items {
             if is_in_set(self.timed.items, part.open, item) {
-                self.add_item(item, &mut shares);
+                self.add_item(item, shares);
             }
         }
-        shares
     }
 }

@@ -2,6 +2,7 @@
 ghost use Rattle.std.specs.Prelude.{◌≡◌};
 ghost use Rattle.search.specs.Found.{found_value};
 ghost use Rattle.search.specs.Limits.{SearchReady};
+ghost use Rattle.partition.specs.HalvesTables.{HalvesReady, least_over_halves};
 ghost use Rattle.values.specs.Worths.{worth_of};
 
 use crate::Shape;
@@ -47,9 +48,24 @@ pub fn least_of_table(
             halves, corecosts, corekeys, refusal, must, &mut costs, &mut keys, near,
         );
     }
-    let tops = costs;
-    let topkeys = keys;
-    least_over_halves(
-        halves, &tops, &topkeys, refusal, must, &mut costs, &mut keys, near,
-    )
+    least_over_equal_halves(halves, refusal, must, &mut costs, &mut keys, near)
+}
+
+// The same for two halves of as many cores, which have one table. Its copy is made in a function of its own: above, room for it would be
+// filled with zeros in every call.
+fn least_over_equal_halves(
+    halves: Halves,
+    refusal: &[u64],
+    must: &[bool],
+    costs: &mut [u64; MOST_SETS],
+    keys: &mut [u64; MOST_SETS],
+    near: &mut [u64],
+) -> Worth
+    requires { HalvesReady halves.items halves.shift costs.old keys.old refusal.now must.now costs.old keys.old }
+    ensures { worth_of result ≡ least_over_halves halves.items halves.shift costs.old keys.old
+        refusal.now must.now costs.old keys.old }
+{
+    let tops = *costs;
+    let topkeys = *keys;
+    least_over_halves(halves, &tops, &topkeys, refusal, must, costs, keys, near)
 }

@@ -16,12 +16,12 @@ returns-then-above-eq0 c =
 pub least_over_halves-requires : goal.least_over_halves-requires
 least_over_halves-requires c = core_above_ready c.requires c.fill_best.ensures.best_filled
 
-pub least_over_halves-requires-2 : goal.least_over_halves-requires-2
-least_over_halves-requires-2 c = table_above_ready c.requires c.fill_best.ensures.best_filled
+pub least_over_equal_halves-requires : goal.least_over_equal_halves-requires
+least_over_equal_halves-requires c = table_above_ready c.requires c.fill_best.ensures.best_filled
 
 pub returns : goal.returns
 returns c =
-    c.least_over_halves-2.ensures ∙ table_above_chosen c.requires c.fill_best.ensures.best_filled c.if-above-eq0.false c.if-above-eq1.false
+    c.least_over_equal_halves.ensures ∙ table_above_chosen c.requires c.fill_best.ensures.best_filled c.if-above-eq0.false c.if-above-eq1.false
 
 pub returns-then-above-eq1 : goal.returns-then-above-eq1
 returns-then-above-eq1 c =
