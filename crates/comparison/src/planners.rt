@@ -90,21 +90,25 @@ fn numbers_of(answer: Answer) -> [u64; 5] {
     }
 }
 
-// Counts the numbers in which two answers differ.
-fn count_differences(a: Answer, b: Answer, faults: &mut Faults) {
-    let [refusal, place, energy, penalty, cost] = numbers_of(a);
-    let [
-        other_refusal,
-        other_place,
-        other_energy,
-        other_penalty,
-        other_cost,
-    ] = numbers_of(b);
-    faults.refusals.add_if(refusal != other_refusal);
-    faults.places.add_if(place != other_place);
-    faults.energies.add_if(energy != other_energy);
-    faults.penalties.add_if(penalty != other_penalty);
-    faults.costs.add_if(cost != other_cost);
+// The same of the planner that tries every plan. Of what it refuses an instance for by itself the numbers are written out, so that they
+// are compared with the paper's.
+fn numbers_of_trying(answer: Answer) -> [u64; 5] {
+    match answer {
+        Err(Refusal::NoPlan) => [5, 0, 0, 0, 0],
+        Err(Refusal::ShortBuffer(needed)) => [6, needed as u64, 0, 0, 0],
+        _ => numbers_of(answer),
+    }
+}
+
+// Counts the numbers in which two answers differ, the second that of the planner that tries every plan.
+fn count_differences(answer: Answer, own: Answer, faults: &mut Faults) {
+    let [refusal, place, energy, penalty, cost] = numbers_of(answer);
+    let [own_refusal, own_place, own_energy, own_penalty, own_cost] = numbers_of_trying(own);
+    faults.refusals.add_if(refusal != own_refusal);
+    faults.places.add_if(place != own_place);
+    faults.energies.add_if(energy != own_energy);
+    faults.penalties.add_if(penalty != own_penalty);
+    faults.costs.add_if(cost != own_cost);
 }
 
 // Has the planner that tries every plan do the same, and counts what differs.
