@@ -7,7 +7,7 @@ use refusals::{Refusal, Verdict};
 use std::marker::Model;
 
 // A list and the index of its next word. Contracts see that index, and the words from there on.
-#[derive(Drop)]
+#[derive(Clone, Drop)]
 pub struct WordReader<'a> {
     words: &'a [u32],
     at: usize,

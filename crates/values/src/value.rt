@@ -29,6 +29,7 @@ impl Worth {
     }
 
     // The one that comes first, and this where both are equal.
+    #[tactic(auto, unfolding(crate::specs::Worths::lesser_worth, crate::specs::Worths::is_first), using(crate::specs::WorthLaws::min_is_lesser))]
     pub fn lesser(self, other: Worth) -> Worth
         ensures { result ≡ lesser_worth self other }
     {
